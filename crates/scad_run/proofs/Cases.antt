@@ -1,6 +1,6 @@
 -- Both files of a case are read and judged as the script says.
-use Rattle.std.proofs.Common.{◌≡◌, ◌≢◌, List, [], ◌∷◌, ℕ, Option, Some, None, Result, Ok, Err, refl, sym, ap, ◌∙◌, subst, length, map}
-use Rattle.std.specs.Prelude.{IfSome, IfOk, option_map}
+use Rattle.std.proofs.Common.{◌≡◌, ◌≢◌, List, [], ◌∷◌, ℕ, Option, Some, None, Result, Ok, Err, refl, sym, ap, ◌∙◌, subst, length}
+use Rattle.std.specs.Prelude.{IfSome, option_map}
 use Rattle.scad_io.specs.Desk.{Files, View}
 use Rattle.scad_script.specs.declared.loading.Input.{Input}
 use Rattle.scad_script.specs.declared.loading.Input.TheVariants.{Whole, Long}
@@ -8,7 +8,7 @@ use Rattle.scad_script.specs.declared.refusal.Refusal.{Refusal}
 use Rattle.scad_script.specs.declared.stop.Stop.{Stop}
 use Rattle.scad_script.specs.Steps.{Step, Reads}
 use Rattle.scad_script.specs.Script.{Script, Refuses, first, ends, input_of}
-use Rattle.scad_script.specs.Played.{Left, Stops, EndsIn, Completes, HasRisen}
+use Rattle.scad_script.specs.Played.{Left, Stops, HasRisen}
 use Rattle.scad_script.proofs.Layers.{as_left}
 use Rattle.cli_text.specs.Cli.{Layer}
 use Rattle.cli_read.specs.declared.fault.CliFault.{CliFault}
@@ -21,8 +21,8 @@ use Rattle.plan_verify.specs.declared.verdict.VerifyFault.{VerifyFault}
 use Rattle.plan_verify.specs.Verdict.{IsVerdict}
 use Rattle.verdict_laws.specs.Opinion.{Opinion, Opinions, IsWidth, AreRight, Answers}
 use Rattle.verdict_laws.proofs.Opinions.{answers_opinion}
-use Rattle.scad_run.specs.Judging.{opinion_end, outlines_refused, judged_end, judgement, whole_then, file_then, case_script}
-use Rattle.scad_run.specs.Playing.{IsEnd, Follows, LoadsWhole, IsRefusedBy, Judges}
+use Rattle.scad_run.specs.Judging.{opinion_end, outlines_refused, judged_end, judgement, whole_then}
+use Rattle.scad_run.specs.Playing.{IsEnd, LoadsWhole, IsRefusedBy, Judges}
 use Rattle.scad_run.proofs.Telling.{ended}
 
 -- ---- one file

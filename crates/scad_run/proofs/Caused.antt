@@ -117,7 +117,7 @@ cause_before job inputs opinions (Refusal.Outside number line) right why = (
     judged = why.judged;
     layers = why.layers;
     said = why.said;
-    verdict = opinion_cause job inputs opinions (Ok (GoesOutside number line)) right why;
+    is = opinion_cause job inputs opinions (Ok (GoesOutside number line)) right why;
   },
 )
 cause_before job inputs opinions (Refusal.BadFile kind first second) right why =

@@ -141,9 +141,8 @@ among_behind name (b ∷ before) behind among = inr (among_behind name before be
 case_given : (command : Command) (name : Option (List ℕ)) (case : Case) (file : List ℕ) → case_of command ≡ Some case
     → IsAmong file (both_named (Some case)) → UsesGiven (given_names command name) (Reads file)
 case_given command name case file is among =
-    among_behind file (named name) (named (model_of command) ++ both_named (case_of command))
-    (among_behind file (named (model_of command)) (both_named (case_of command))
-    (subst (λ (c : Option Case). IsAmong file (both_named c)) (sym is) among))
+    among_behind file (named name ++ named (model_of command)) (both_named (case_of command))
+    (subst (λ (c : Option Case). IsAmong file (both_named c)) (sym is) among)
 
 settings_given : (command : Command) (name : Option (List ℕ)) (file : List ℕ) → name ≡ Some file
     → UsesGiven (given_names command name) (Reads file)

@@ -142,7 +142,7 @@ pub record HaveVerdict (job : Job) (inputs : Inputs) (verdict : Verdict) : Type 
   pub judged : AreJudged job inputs
   pub layers : List Layer
   pub said : reading judged.outlines ≡ Ok layers
-  pub verdict : IsVerdict layers judged.settings.line_width judged.program (Ok verdict)
+  pub is : IsVerdict layers judged.settings.line_width judged.program (Ok verdict)
 
 -- the outlines say layers, and the program has this refusal
 abbrev pub ProgramRefused : List ℕ → List ℕ → GFault → Type 0

@@ -1,6 +1,6 @@
 -- What a yes of `verify` says, over every desk: what is said of the files holds where the desk tells them.
 use Rattle.std.specs.Prelude.{◌≡◌, ◌≤◌, List, ℕ, Option, Some, Ok, IfSome, length}
-use Rattle.scad_io.specs.Desk.{Files, View}
+use Rattle.scad_io.specs.Desk.{Files}
 use Rattle.scad_words.specs.declared.job.Command.TheVariants.{Verify}
 use Rattle.scad_words.specs.declared.settings.Settings.{Settings}
 use Rattle.scad_words.specs.Job.{job_of}

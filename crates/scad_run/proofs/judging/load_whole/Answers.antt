@@ -1,5 +1,6 @@
 use Rattle.std.proofs.Common.{rules, sym, ap}
 use Rattle.scad_script.specs.declared.refusal.Refusal.TheVariants.{Over}
+use Rattle.scad_script.specs.declared.stop.Stop.{Stop}
 use Rattle.scad_script.specs.Script.{Refuses, ends}
 use Rattle.scad_script.proofs.Layers.{as_left}
 use Rattle.scad_run.proofs.Cases.{loads_text, loads_long, loads_nothing}
@@ -17,7 +18,8 @@ returns-in-Whole-clause-loads g c =
 
 pub returns-in-Long-clause-loads : goal.returns-in-Long-clause-loads
 returns-in-Long-clause-loads g c =
-    loads_long (g.D.Desk.files c.args.desk.now) c.args.name.now _ _ _ (g.D.Desk.view c.args.desk.now)
+    loads_long (g.D.Desk.files c.args.desk.now) c.args.name.now _ _ (Stop.Ends (Over c.file_long.result))
+    (g.D.Desk.view c.args.desk.now)
     (g.D.Desk.view c.load.new.desk) c.in-Long.is (search rules)
     (λ follows whole start left. as_left (ap (λ b. ends (Refuses (Over b))) (sym c.file_long.ensures)) left)
     c.in_ok-text.ensures.told c.in_ok-text.ensures.carries

@@ -3,8 +3,8 @@ use Rattle.scad_run.proofs.Working.{refuses_words, works_drawing, works_judging,
 use Rattle.scad_run.proofs.Heights.{width_in_range}
 use Rattle.scad_run.proofs.work.work.Goals as goal
 
-pub judge-in-Some-requires-clause-width : goal.judge-in-Some-requires-clause-width
-judge-in-Some-requires-clause-width g c = width_in_range c.in_ok-settings.settings c.in_ok-settings.ensures.in_range
+pub judge-requires-clause-width : goal.judge-requires-clause-width
+judge-requires-clause-width g c = width_in_range c.in_ok-settings.settings c.in_ok-settings.ensures.in_range
 
 pub returns-in_err-job-clause-works : goal.returns-in_err-job-clause-works
 returns-in_err-job-clause-works g c =
@@ -25,8 +25,8 @@ returns-in-Some-clause-works g c =
     (g.D.Desk.view c.settle.new.desk) (g.D.Desk.view c.judge.new.desk) c.in_ok-settings.ensures.settles
     c.settle.ensures.files (search rules) c.judge.ensures.judges
 
-pub returns-in-None-clause-works : goal.returns-in-None-clause-works
-returns-in-None-clause-works g c =
+pub returns-clause-works : goal.returns-clause-works
+returns-clause-works g c =
     works_drawing (map (string_bytes {Z = Global}) c.args.words.now) (g.D.Desk.files c.args.desk.now) c.in_ok-job.job
     c.in_ok-job.ensures.job _ c.draw.result (g.D.Desk.files c.settle.new.desk) (g.D.Desk.view c.args.desk.now)
     (g.D.Desk.view c.settle.new.desk) (g.D.Desk.view c.draw.new.desk) c.in_ok-settings.ensures.settles
