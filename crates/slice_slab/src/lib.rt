@@ -4,6 +4,7 @@
 //! one, with those that coincide in one bundle, and exactly the edges that meet the height.
 #![tactic(auto, using(scad_geom::proofs::Casts::casts))]
 
+mod among;
 mod bundle;
 mod collect;
 mod group;
@@ -16,6 +17,9 @@ mod rising_edges;
 mod slab_bundles;
 mod start;
 
+pub use among::bundles_among;
 pub use bundle::Bundle;
+pub use lower_ends::{begin, starts};
 pub use rising_edges::Active;
 pub use slab_bundles::slab;
+pub use start::Start;

@@ -17,7 +17,7 @@ use std::alloc::{AllocError, Global};
 use std::cmp::Ordering;
 
 /// The starts of all edges, from low to high.
-pub(crate) fn starts(alloc: Global, edges: &[LeafEdge]) -> Result<Vec<Start>, AllocError>
+pub fn starts(alloc: Global, edges: &[LeafEdge]) -> Result<Vec<Start>, AllocError>
     requires within { All (λ e. IsEdgeWithin coordinate_limit e.edge) edges.now }
     requires few { length edges.now < 2 ^ 32 }
     ensures all { IfOk result (λ v. IsPermutation (all_numbers edges.now) (numbers_of v.items)) }
@@ -70,7 +70,7 @@ fn compare(s: &Start, t: &Start) -> Ordering
 
 /// Adds the numbers of the edges from a place on that begin at or below a height, and returns the place of the first
 /// that doesn't.
-pub(crate) fn begin(
+pub fn begin(
     live: &mut Vec<u32>,
     starts: &[Start],
     from: usize,

@@ -58,7 +58,7 @@ pub(crate) fn slab_among(
     group(alloc, &passages)
 }
 
-fn sort(passages: &mut Vec<Passage>) -> Result<(), AllocError>
+pub(crate) fn sort(passages: &mut Vec<Passage>) -> Result<(), AllocError>
     ensures permutation { IsPermutation passages.old.items passages.new.items }
     ensures sorted { OnOk result (AreSorted passages.new.items) }
 {

@@ -1,0 +1,5 @@
+pub mod Keys
+pub mod Chains
+pub mod Strands
+pub mod Mending
+pub mod Front
