@@ -10,6 +10,6 @@ parts = pos 1048576
 abbrev pub IsBelowKey : Level → ℤ → Type 0
 IsBelowKey h key = (h.n *ℤ parts) <ℤ (key *ℤ h.d)
 
--- the key of what is looked at in any case
-abbrev pub IsStale : ℤ → Type 0
-IsStale key = key ≡ negsuc 9223372036854775807
+-- the key of what is looked at in any case, below all heights
+abbrev pub stale : ℤ
+stale = negsuc 4398046511103

@@ -1,5 +1,5 @@
 -- The bundles on the front and their wake-up keys, at a height.
-use Rattle.std.specs.Prelude.{List, [], ◌∷◌, map, ℕ, ◌<◌, ◌≡◌, true, length, slice_index_or, pos, neg_ℤ, ◌<ℤ◌}
+use Rattle.std.specs.Prelude.{List, [], ◌∷◌, map, ℕ, ◌<◌, ◌≡◌, true, length, slice_index_or, pos, ◌<ℤ◌, All}
 use Rattle.std.specs.List.{AllByRecursion, concat}
 use Rattle.scad_geom.specs.declared.point.Edge.{Edge}
 use Rattle.scad_geom.specs.declared.level.Level.{Level}
@@ -7,9 +7,9 @@ use Rattle.scad_geom.specs.declared.level.LeafEdge.{LeafEdge}
 use Rattle.scad_geom.specs.Line.{high}
 use Rattle.scad_geom.specs.Level.{level_of, IsLower, IsAtMost}
 use Rattle.slice_slab.specs.Bundles.{no_edge, edge_at, reaches, IsBundle}
-use Rattle.slice_slab.specs.KeptOrder.{IsLeftAt, IsNotRightAt}
+use Rattle.slice_slab.specs.KeptOrder.{IsLeftAt, IsNotRightAt, IsSamePlaceAt}
 use Rattle.slice_sweep.specs.declared.strand.Strand.{Strand}
-use Rattle.slice_sweep.specs.Keys.{IsBelowKey}
+use Rattle.slice_sweep.specs.Keys.{IsBelowKey, stale}
 use Rattle.slice_sweep.specs.Chains.{Chain}
 
 abbrev pub bundles_of : List Strand → List (List ℕ)
@@ -62,3 +62,31 @@ pub record AreWaiting (edges : List LeafEdge) (at : Level) (strands : List Stran
   pub held : AllByRecursion (IsHeld edges at) strands
   pub ordered : Chain (AreHeld edges at) strands
   pub apart : Chain (AreApart edges at) strands
+
+-- a strand without a key
+abbrev pub restaled : Strand → Strand
+restaled s = record { bundle = s.bundle; wake = stale }
+
+-- strands of which the last has no key
+abbrev pub weakened : List Strand → List Strand
+weakened [] = []
+weakened (s ∷ []) = restaled s ∷ []
+weakened (s ∷ (t ∷ ss)) = s ∷ weakened (t ∷ ss)
+
+-- bundles as strands without keys
+abbrev pub fresh : List (List ℕ) → List Strand
+fresh bs = map (λ b. record { bundle = b; wake = stale }) bs
+
+abbrev pub no_strand : Strand
+no_strand = record { bundle = []; wake = pos 0 }
+
+abbrev pub strand_at : List Strand → ℕ → Strand
+strand_at strands i = slice_index_or strands i no_strand
+
+-- the edges of strands are edges of the list
+abbrev pub AreThere : List LeafEdge → List Strand → Type 0
+AreThere edges strands = All (λ s. All (λ k. k < length edges) s.bundle) strands
+
+-- they lie at one place
+abbrev pub IsTogether : List LeafEdge → Level → Strand → Strand → Type 0
+IsTogether edges at s t = IsSamePlaceAt at (head edges s.bundle) (head edges t.bundle)

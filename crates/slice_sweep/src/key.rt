@@ -1,17 +1,17 @@
 //! Wake-up keys: whole parts of a micrometre, rounded down.
-ghost use Rattle.std.specs.Prelude.{◌≡◌, ◌⊎◌, ◌≤◌, ◌^◌, ℤ, pos, neg_ℤ, ◌+ℤ◌, ◌*ℤ◌, ◌<ℤ◌, ◌≤ℤ◌, unsigned_abs};
+ghost use Rattle.std.specs.Prelude.{◌≡◌, ◌⊎◌, ◌≤◌, ◌^◌, ℤ, pos, ◌+ℤ◌, ◌*ℤ◌, ◌<ℤ◌, ◌≤ℤ◌, unsigned_abs};
 ghost use Rattle.scad_geom.specs.Limits.{coordinate_limit};
 ghost use Rattle.scad_geom.specs.Within.{IsEdgeWithin};
 ghost use Rattle.scad_geom.specs.Level.{IsLevelWithin};
 ghost use Rattle.scad_geom.specs.Line.{lean, apart};
-ghost use Rattle.slice_sweep.specs.Keys.{parts, IsBelowKey, IsStale};
+ghost use Rattle.slice_sweep.specs.Keys.{parts, IsBelowKey, stale};
 
 use scad_geom::line::{offset, rise, run};
 use scad_geom::wide::{minus, times};
 use scad_geom::{Edge, Level};
 
 /// The key of what is looked at in any case.
-pub(crate) const STALE: i64 = i64::MIN;
+pub(crate) const STALE: i64 = -4_398_046_511_104;
 
 /// The greatest key that isn't above a height.
 pub(crate) fn key_of(at: &Level) -> i128
@@ -34,7 +34,7 @@ pub(crate) fn meeting_key(e: &Edge, f: &Edge, most: i64) -> i64
     requires f { IsEdgeWithin coordinate_limit f.now }
     ensures most { result ≤ℤ most }
     ensures meeting { pos 0 <ℤ lean e.now f.now
-        → IsStale result ⊎ ((result *ℤ lean e.now f.now) ≤ℤ (neg_ℤ (apart e.now f.now) *ℤ parts)) }
+        → (result ≡ stale) ⊎ ((result *ℤ lean e.now f.now) ≤ℤ (apart f.now e.now *ℤ parts)) }
 {
     let lean = lean(e, f);
     if lean > 0 {
@@ -46,11 +46,11 @@ pub(crate) fn meeting_key(e: &Edge, f: &Edge, most: i64) -> i64
 
 fn least(key: i128, most: i64) -> i64
     ensures most { result ≤ℤ most }
-    ensures key { IsStale result ⊎ (result ≤ℤ key) }
+    ensures key { (result ≡ stale) ⊎ (result ≤ℤ key) }
 {
     if key >= most as i128 {
         most
-    } else if key < i64::MIN as i128 {
+    } else if key < STALE as i128 {
         STALE
     } else {
         key as i64

@@ -1,4 +1,12 @@
 //! The calls that lift the height.
+ghost use Rattle.std.specs.Prelude.{◌≡◌, ◌<◌, ◌^◌, ℕ, List, length, slice_index_or, [], IfOk, OnOk, All};
+ghost use Rattle.scad_geom.specs.declared.level.Level.{Level};
+ghost use Rattle.scad_geom.specs.Limits.{coordinate_limit};
+ghost use Rattle.scad_geom.specs.Within.{IsEdgeWithin};
+ghost use Rattle.scad_geom.specs.Level.{IsLevelWithin};
+ghost use Rattle.scad_geom.specs.Heights.{AreNeighbours};
+ghost use Rattle.slice_slab.specs.Bundles.{AreBundles};
+ghost use Rattle.slice_sweep.specs.Front.{bundles_in, IsReadyFor};
 
 use crate::front::Front;
 use crate::key::key_of;
@@ -12,7 +20,11 @@ use std::alloc::{AllocError, Global};
 
 impl Front {
     /// The edges, before the first of them starts: it can be lifted to any height.
-    pub fn new(alloc: Global, edges: &[LeafEdge]) -> Result<Front, AllocError> {
+    pub fn new(alloc: Global, edges: &[LeafEdge]) -> Result<Front, AllocError>
+        requires within { All (λ e. IsEdgeWithin coordinate_limit e.edge) edges.now }
+        requires few { length edges.now < 2 ^ 32 }
+        ensures { IfOk result (λ f. (at : Level) → IsReadyFor edges.now at f) }
+    {
         Ok(Front {
             alloc,
             starts: starts(alloc, edges)?,
@@ -21,8 +33,22 @@ impl Front {
         })
     }
 
-    /// Lifts it to the lower of two neighbouring heights: its bundles are then those between them.
-    pub fn advance(&mut self, edges: &[LeafEdge], lower: &Level, upper: &Level) -> Result<(), AllocError> {
+    /// Lifts it from one height to the next, with the bundles between them.
+    pub fn advance(
+        &mut self,
+        edges: &[LeafEdge],
+        lower: &Level,
+        upper: &Level,
+    ) -> Result<(), AllocError>
+        requires within { All (λ e. IsEdgeWithin coordinate_limit e.edge) edges.now }
+        requires few { length edges.now < 2 ^ 32 }
+        requires lower { IsLevelWithin coordinate_limit lower.now }
+        requires upper { IsLevelWithin coordinate_limit upper.now }
+        requires neighbours { AreNeighbours edges.now lower.now upper.now }
+        requires ready { IsReadyFor edges.now lower.now self.old }
+        ensures bundles { OnOk result (AreBundles edges.now lower.now upper.now (bundles_in self.new)) }
+        ensures ready { OnOk result (IsReadyFor edges.now upper.now self.new) }
+    {
         let mut numbers = Vec::new(self.alloc);
         self.begun = begin(&mut numbers, &self.starts, self.begun, lower)?;
         start_all(self.alloc, edges, &mut self.strands, &numbers, lower)?;
@@ -39,12 +65,17 @@ impl Front {
     }
 
     /// How many bundles there are.
-    pub fn count(&self) -> usize {
+    pub fn count(&self) -> usize
+        ensures { result ≡ length (bundles_in self.now) }
+    {
         self.strands.len()
     }
 
     /// The numbers of the edges of a bundle.
-    pub fn bundle(&self, i: usize) -> &[u32] {
+    pub fn bundle(&self, i: usize) -> &[u32]
+        requires { i < length (bundles_in self.now) }
+        ensures { result.now ≡ slice_index_or (bundles_in self.now) i [] }
+    {
         self.strands[i].bundle.as_slice()
     }
 }

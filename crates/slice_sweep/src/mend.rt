@@ -1,14 +1,24 @@
 //! The strands at a height, mended one place after another.
+ghost use Rattle.std.specs.Prelude.{◌≡◌, ◌<◌, ◌≤◌, ◌+◌, ◌-◌, ◌<ℤ◌, ℕ, true, length, IfOk, OnOk};
+ghost use Rattle.slice_slab.specs.Bundles.{edge_at, reaches};
+ghost use Rattle.slice_sweep.specs.Strands.{AreWaiting};
+ghost use Rattle.slice_sweep.specs.Mending.{AreOrdered, AreMendedTo, KeepTimes, IsGroup};
 
 use crate::group::{goes_on, group_end, members};
-use crate::replace::{replace, weaken};
+use crate::replace::{replace, weaken, without_keys};
 use crate::step::Step;
 use crate::strand::Strand;
 use slice_slab::bundles_among;
 use std::alloc::AllocError;
 
 /// Puts the strands at the lower height into the order that they have above it.
-pub(crate) fn mend(step: &Step<'_>, strands: &mut Vec<Strand>) -> Result<(), AllocError> {
+pub(crate) fn mend(step: &Step<'_>, strands: &mut Vec<Strand>) -> Result<(), AllocError>
+    requires waiting { AreWaiting step.now.edges.now step.now.lower.now strands.old.items }
+    ensures ordered { OnOk result
+        (AreOrdered step.now.edges.now step.now.lower.now step.now.upper.now strands.new.items) }
+    ensures numbers { OnOk result (KeepTimes step.now.edges.now step.now.lower.now step.now.upper.now
+        strands.old.items strands.new.items) }
+{
     let mut place = 0;
     'places: while place < strands.len() {
         place = mend_at(step, strands, place)?;
@@ -17,25 +27,55 @@ pub(crate) fn mend(step: &Step<'_>, strands: &mut Vec<Strand>) -> Result<(), All
 }
 
 // Mends the strands that lie at one place with the first that isn't mended, and gives the place behind them.
-fn mend_at(step: &Step<'_>, strands: &mut Vec<Strand>, place: usize) -> Result<usize, AllocError> {
+fn mend_at(
+    step: &Step<'_>,
+    strands: &mut Vec<Strand>,
+    place: usize,
+) -> Result<usize, AllocError>
+    requires mended { AreMendedTo step.now.edges.now step.now.lower.now step.now.upper.now place strands.old.items }
+    requires there { place < length strands.old.items }
+    ensures mended { IfOk result (λ n. AreMendedTo step.now.edges.now step.now.lower.now step.now.upper.now n
+        strands.new.items) }
+    ensures numbers { OnOk result (KeepTimes step.now.edges.now step.now.lower.now step.now.upper.now
+        strands.old.items strands.new.items) }
+    ensures fewer { IfOk result (λ n. length strands.new.items - n < length strands.old.items - place) }
+{
     if is_asleep(step, &strands[place]) {
         return Ok(place + 1);
     }
     let end = group_end(step, strands, place);
     if end == place + 1 && goes_on(step, &strands[place]) {
-        return Ok(end);
+        return Ok(place + 1);
     }
     regroup(step, strands, place, end)
 }
 
-fn is_asleep(step: &Step<'_>, s: &Strand) -> bool {
+fn is_asleep(step: &Step<'_>, s: &Strand) -> bool
+    ensures { result ≡ true → step.now.key <ℤ s.now.wake }
+{
     step.key < s.wake as i128
 }
 
 // Puts in their place the bundles of those of their edges that go on.
-fn regroup(step: &Step<'_>, strands: &mut Vec<Strand>, from: usize, to: usize) -> Result<usize, AllocError> {
+fn regroup(
+    step: &Step<'_>,
+    strands: &mut Vec<Strand>,
+    from: usize,
+    to: usize,
+) -> Result<usize, AllocError>
+    requires mended { AreMendedTo step.now.edges.now step.now.lower.now step.now.upper.now from strands.old.items }
+    requires group { IsGroup step.now.edges.now step.now.lower.now from to strands.old.items }
+    ensures mended { IfOk result (λ n. AreMendedTo step.now.edges.now step.now.lower.now step.now.upper.now n
+        strands.new.items) }
+    ensures numbers { OnOk result (KeepTimes step.now.edges.now step.now.lower.now step.now.upper.now
+        strands.old.items strands.new.items) }
+    ensures fewer { IfOk result (λ n. length strands.new.items - n < length strands.old.items - from) }
+{
     let numbers = members(step, strands, from, to)?;
     let bundles = bundles_among(step.alloc, step.edges, &numbers, step.lower, step.upper)?;
+    let others = without_keys(step.alloc, bundles)?;
+    let end = from + others.len();
     weaken(strands, from);
-    replace(strands, from, to, bundles)
+    replace(strands, from, to, others)?;
+    Ok(end)
 }

@@ -1,39 +1,52 @@
 //! Strands put in the place of others.
+ghost use Rattle.std.specs.Prelude.{◌≡◌, ◌≤◌, ◌++◌, take, drop, length, IfOk, OnOk};
+ghost use Rattle.slice_sweep.specs.Strands.{fresh, weakened};
 
 use crate::key::STALE;
 use crate::strand::Strand;
 use slice_slab::Bundle;
-use std::alloc::AllocError;
+use std::alloc::{AllocError, Global};
 
 /// Takes the key of the strand before a place.
-pub(crate) fn weaken(strands: &mut [Strand], place: usize) {
+pub(crate) fn weaken(strands: &mut Vec<Strand>, place: usize)
+    requires { place ≤ length strands.old.items }
+    ensures { strands.new.items ≡ weakened (take place strands.old.items) ++ drop place strands.old.items }
+{
     if place > 0 {
         strands[place - 1].wake = STALE;
     }
 }
 
-/// Puts bundles in the place of the strands from one place to another.
+/// Bundles as strands without keys.
+pub(crate) fn without_keys(alloc: Global, bundles: Vec<Bundle>) -> Result<Vec<Strand>, AllocError>
+    ensures { IfOk result (λ v. v.items ≡ fresh bundles.items) }
+{
+    let mut out = Vec::new(alloc);
+    'bundles: for bundle in bundles {
+        out.push(Strand {
+            bundle,
+            wake: STALE,
+        })?;
+    }
+    Ok(out)
+}
+
+/// Puts strands in the place of those from one place to another.
 pub(crate) fn replace(
     strands: &mut Vec<Strand>,
     from: usize,
     to: usize,
-    bundles: Vec<Bundle>,
-) -> Result<usize, AllocError> {
-    remove(strands, from, to);
-    insert_all(strands, from, bundles)
-}
-
-fn remove(strands: &mut Vec<Strand>, from: usize, to: usize) {
-    'removed: for _ in from..to {
-        let _ = strands.remove(from);
-    }
-}
-
-fn insert_all(strands: &mut Vec<Strand>, from: usize, bundles: Vec<Bundle>) -> Result<usize, AllocError> {
-    let mut place = from;
-    'bundles: for bundle in bundles {
-        strands.insert(place, Strand { bundle, wake: STALE })?;
-        place += 1;
-    }
-    Ok(place)
+    others: Vec<Strand>,
+) -> Result<(), AllocError>
+    requires from { from ≤ to }
+    requires to { to ≤ length strands.old.items }
+    ensures { OnOk result
+        (strands.new.items ≡ take from strands.old.items ++ (others.items ++ drop to strands.old.items)) }
+{
+    let mut new = others;
+    let mut tail = strands.split_off(to)?;
+    strands.truncate(from);
+    strands.append(&mut new)?;
+    strands.append(&mut tail)?;
+    Ok(())
 }
