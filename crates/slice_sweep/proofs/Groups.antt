@@ -24,6 +24,8 @@ use Rattle.slice_sweep.specs.Chains.{Chain, Joins}
 use Rattle.slice_sweep.specs.Strands.{numbers_in, LiesLeft, IsTogether, IsReaching, IsHeld, AreHeld, AreApart, AreWaiting, EndAbove, AreThere, weakened, fresh, no_strand, strand_at}
 use Rattle.slice_sweep.specs.Mending.{AreMended, AreOrdered, AreMendedTo, KeepTimes, IsGroup}
 use Rattle.slice_sweep.proofs.Lists.{chain_from, joins_from, chain_at, joins_nil, weaker}
+use Rattle.slice_sweep.proofs.Starting.{put_between}
+use Rattle.slice_sweep.proofs.Weakening.{length_weakened, length_fresh}
 use Rattle.slice_sweep.proofs.Mending.{as_it_is, strict_heads, regrouped, regrouped_times}
 
 -- ---- edges that go on
@@ -237,6 +239,26 @@ module _ (es : List LeafEdge) (l u : Level) (w : IsLevelWithin coordinate_limit 
 
   pub put_group : AreMendedTo es l u (from + length bs) put × KeepTimes es l u L put
   put_group = by_group (take count R) refl
+
+  -- as the code puts it
+  pub regrouped_by : (W N new : List Strand) (end : ℕ) → W ≡ weakened (take from L) ++ drop from L → N ≡ fresh bs
+      → new ≡ take from W ++ (N ++ drop to W) → end ≡ from + length N
+      → AreMendedTo es l u end new × KeepTimes es l u L new × (length new - end < length L - from)
+  regrouped_by W N new end we ne e m =
+      let here : from ≤ length L = omega (arith, some, within) in
+      let new-is : put ≡ new = sym (e ∙ put_between L from to W N (omega (arith, some)) here we
+          ∙ ap (λ (xs : List Strand). weakened (take from L) ++ (xs ++ O)) ne) in
+      let size : length N ≡ length bs = ap length ne ∙ length_fresh bs in
+      let end-is : from + length bs ≡ end = omega (arith, m, size) in
+      let long : length new ≡ from + (length N + (length L - to)) = sym (ap length new-is)
+          ∙ length-append (weakened (take from L)) (fresh bs ++ O)
+          ∙ ap₂ (λ (a b : ℕ). a + b) (length_weakened (take from L) ∙ length-take-le from L here)
+          (length-append (fresh bs) O ∙ ap₂ (λ (a b : ℕ). a + b) (length_fresh bs ∙ sym size) (length-drop to L)) in (
+        subst (λ (i : ℕ). AreMendedTo es l u i new) end-is
+            (subst (AreMendedTo es l u (from + length bs)) new-is put_group.0),
+        subst (KeepTimes es l u L) new-is put_group.1,
+        omega (arith, long, m, some, within),
+      )
 
 -- ---- the first place and the last
 pub none_mended : (es : List LeafEdge) (l u : Level) (L : List Strand) → AreWaiting es l L → AreMendedTo es l u 0 L

@@ -1,9 +1,9 @@
 -- An edge that starts at a height.
-use Rattle.std.proofs.Common.{◌≡◌, ℕ, zero, suc, ◌+◌, ◌<◌, ◌≤◌, List, [], ◌∷◌, ◌++◌, length, get_or, take, drop, refl, sym, ap, ap₂, ◌∙◌, arith, subst}
+use Rattle.std.proofs.Common.{◌≡◌, ℕ, zero, suc, ◌+◌, ◌-◌, ◌<◌, ◌≤◌, List, [], ◌∷◌, ◌++◌, length, get_or, take, drop, refl, sym, ap, ap₂, ◌∙◌, arith, subst}
 use lib.Signed.{◌<ℤ◌, ◌≤ℤ◌}
 use Rattle.std.specs.List.{AllByRecursion, concat}
 use Rattle.std.proofs.lemmas.Int.{ints}
-use Rattle.std.proofs.lemmas.List.{length-drop, take-append-drop, get_or-take, get_or-drop, length-take-le, take_at, drop_at}
+use Rattle.std.proofs.lemmas.List.{length-drop, take-append-drop, get_or-take, get_or-drop, length-take-le, take_at, drop_at, drop-drop}
 use Rattle.scad_geom.specs.Limits.{coordinate_limit}
 use Rattle.scad_geom.specs.declared.point.Edge.{Edge}
 use Rattle.scad_geom.specs.declared.level.Level.{Level}
@@ -21,15 +21,19 @@ use Rattle.slice_sweep.proofs.Keys.{never_below}
 use Rattle.slice_sweep.proofs.Lists.{chain_front, chain_back, joins_from}
 use Rattle.slice_sweep.proofs.Weakening.{length_weakened, held_put, ordered_put, apart_put, times_strands, times_put}
 
--- the first strands, of which the last has lost its key, others behind them, and the rest
-pub put_behind : (L : List Strand) (i : ℕ) (M N : List Strand) → i ≤ length L
-    → M ≡ weakened (take i L) ++ drop i L
-    → take i M ++ (N ++ drop i M) ≡ weakened (take i L) ++ (N ++ drop i L)
-put_behind L i M N o e =
-    let n : length (weakened (take i L)) ≡ i = length_weakened (take i L) ∙ length-take-le i L o in
-    let t : take i M ≡ weakened (take i L) = ap (take i) e ∙ take_at (weakened (take i L)) (drop i L) i n in
-    let d : drop i M ≡ drop i L = ap (drop i) e ∙ drop_at (weakened (take i L)) (drop i L) i n in
-    ap₂ (λ (xs ys : List Strand). xs ++ (N ++ ys)) t d
+-- strands put between the first ones, of which the last has lost its key, and those from a place on
+pub put_between : (L : List Strand) (from to : ℕ) (W N : List Strand) → from ≤ to → from ≤ length L
+    → W ≡ weakened (take from L) ++ drop from L
+    → take from W ++ (N ++ drop to W) ≡ weakened (take from L) ++ (N ++ drop to L)
+put_between L from to W N o q e =
+    let n : length (weakened (take from L)) ≡ from = length_weakened (take from L) ∙ length-take-le from L q in
+    let t : take from W ≡ weakened (take from L) = ap (take from) e ∙ take_at (weakened (take from L)) (drop from L) from n in
+    let d : drop from W ≡ drop from L = ap (drop from) e ∙ drop_at (weakened (take from L)) (drop from L) from n in
+    let m : from + (to - from) ≡ to = omega (arith, o) in
+    let r : drop to W ≡ drop to L =
+        ap (λ (i : ℕ). drop i W) (sym m) ∙ sym (drop-drop (to - from) from W) ∙ ap (drop (to - from)) d
+        ∙ drop-drop (to - from) from L ∙ ap (λ (i : ℕ). drop i L) m in
+    ap₂ (λ (xs ys : List Strand). xs ++ (N ++ ys)) t r
 
 module _ (es : List LeafEdge) (l : Level) (w : IsLevelWithin coordinate_limit l) (L : List Strand) (i k : ℕ)
     (o : i ≤ length L) (r : IsReaching es l l k)

@@ -1,6 +1,7 @@
 //! The strands at a height, mended one place after another.
-ghost use Rattle.std.specs.Prelude.{◌≡◌, ◌<◌, ◌≤◌, ◌+◌, ◌-◌, ◌<ℤ◌, ℕ, true, length, IfOk, OnOk};
-ghost use Rattle.slice_slab.specs.Bundles.{edge_at, reaches};
+ghost use Rattle.std.specs.Prelude.{◌≡◌, ◌<◌, ◌+◌, ◌-◌, ◌<ℤ◌, ◌*ℤ◌, int_le, true, length, IfOk, OnOk, All};
+ghost use Rattle.scad_geom.specs.Line.{high};
+ghost use Rattle.slice_slab.specs.Bundles.{edge_at};
 ghost use Rattle.slice_sweep.specs.Strands.{AreWaiting};
 ghost use Rattle.slice_sweep.specs.Mending.{AreOrdered, AreMendedTo, KeepTimes, IsGroup};
 
@@ -43,11 +44,38 @@ fn mend_at(
     if is_asleep(step, &strands[place]) {
         return Ok(place + 1);
     }
+    mend_awake(step, strands, place)
+}
+
+fn mend_awake(
+    step: &Step<'_>,
+    strands: &mut Vec<Strand>,
+    place: usize,
+) -> Result<usize, AllocError>
+    requires mended { AreMendedTo step.now.edges.now step.now.lower.now step.now.upper.now place strands.old.items }
+    requires there { place < length strands.old.items }
+    ensures mended { IfOk result (λ n. AreMendedTo step.now.edges.now step.now.lower.now step.now.upper.now n
+        strands.new.items) }
+    ensures numbers { OnOk result (KeepTimes step.now.edges.now step.now.lower.now step.now.upper.now
+        strands.old.items strands.new.items) }
+    ensures fewer { IfOk result (λ n. length strands.new.items - n < length strands.old.items - place) }
+{
     let end = group_end(step, strands, place);
-    if end == place + 1 && goes_on(step, &strands[place]) {
+    if is_alone(step, &strands[place], place, end) {
         return Ok(place + 1);
     }
     regroup(step, strands, place, end)
+}
+
+// Whether a group is one strand in which nothing ends.
+fn is_alone(step: &Step<'_>, s: &Strand, place: usize, end: usize) -> bool
+    requires place { place < end }
+    requires there { All (λ k. k < length step.now.edges.now) s.now.bundle }
+    ensures end { result ≡ true → end ≡ place + 1 }
+    ensures on { result ≡ true → All (λ k. int_le step.now.upper.now.n
+        ((high (edge_at step.now.edges.now k)).y *ℤ step.now.upper.now.d) ≡ true) s.now.bundle }
+{
+    end - place == 1 && goes_on(step, s)
 }
 
 fn is_asleep(step: &Step<'_>, s: &Strand) -> bool
