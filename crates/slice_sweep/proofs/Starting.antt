@@ -112,3 +112,25 @@ module _ (es : List LeafEdge) (l : Level) (w : IsLevelWithin coordinate_limit l)
     where
       sums : (a b c d e f : ℕ) → a ≡ b + (c + d) → e ≡ b + d → c ≡ f → a ≡ e + f
       sums a b c d e f p q s = omega arith
+
+-- as the code puts it
+pub started_by : (es : List LeafEdge) (l : Level) (w : IsLevelWithin coordinate_limit l) (L X W new : List Strand)
+    (i k : ℕ) → X ≡ L → i ≤ length X → IsReaching es l l k
+    → ((j : ℕ) → j + 1 ≡ i → IsLeftAt l (head es (strand_at X j).bundle) (edge_at es k))
+    → (i < length X → IsNotRightAt l (edge_at es k) (head es (strand_at X i).bundle))
+    → AreWaiting es l L → W ≡ weakened (take i L) ++ drop i L
+    → new ≡ take i W ++ (fresh ((k ∷ []) ∷ []) ++ drop i W)
+    → AreWaiting es l new
+    × ((j : ℕ) → times j (numbers_in new) ≡ times j (numbers_in L) + times j (k ∷ []))
+started_by es l w L X W new i k e o r left right h we ne =
+    let o' : i ≤ length L = subst (λ (xs : List Strand). i ≤ length xs) e o in
+    let left' = subst (λ (xs : List Strand). (j : ℕ) → j + 1 ≡ i
+        → IsLeftAt l (head es (strand_at xs j).bundle) (edge_at es k)) e left in
+    let right' = subst (λ (xs : List Strand). i < length xs
+        → IsNotRightAt l (edge_at es k) (head es (strand_at xs i).bundle)) e right in
+    let self : i ≤ i = omega arith in
+    let is = sym (ne ∙ put_between L i i W (fresh ((k ∷ []) ∷ [])) self o' we) in (
+      subst (AreWaiting es l) is (started es l w L i k o' r left' right' h),
+      subst (λ (xs : List Strand). (j : ℕ) → times j (numbers_in xs) ≡ times j (numbers_in L) + times j (k ∷ [])) is
+          (started_times es l w L i k o' r left' right' h),
+    )

@@ -1,6 +1,7 @@
 //! The strands at a height, mended one place after another.
 ghost use Rattle.std.specs.Prelude.{◌≡◌, ◌<◌, ◌+◌, ◌-◌, ◌<ℤ◌, ◌*ℤ◌, int_le, true, length, IfOk, OnOk, All};
 ghost use Rattle.scad_geom.specs.Line.{high};
+ghost use Rattle.scad_geom.specs.Heights.{AreNeighbours};
 ghost use Rattle.slice_slab.specs.Bundles.{edge_at};
 ghost use Rattle.slice_sweep.specs.Strands.{AreWaiting};
 ghost use Rattle.slice_sweep.specs.Mending.{AreOrdered, AreMendedTo, KeepTimes, IsGroup};
@@ -14,6 +15,7 @@ use std::alloc::AllocError;
 
 /// Puts the strands at the lower height into the order that they have above it.
 pub(crate) fn mend(step: &Step<'_>, strands: &mut Vec<Strand>) -> Result<(), AllocError>
+    requires neighbours { AreNeighbours step.now.edges.now step.now.lower.now step.now.upper.now }
     requires waiting { AreWaiting step.now.edges.now step.now.lower.now strands.old.items }
     ensures ordered { OnOk result
         (AreOrdered step.now.edges.now step.now.lower.now step.now.upper.now strands.new.items) }
@@ -33,6 +35,7 @@ fn mend_at(
     strands: &mut Vec<Strand>,
     place: usize,
 ) -> Result<usize, AllocError>
+    requires neighbours { AreNeighbours step.now.edges.now step.now.lower.now step.now.upper.now }
     requires mended { AreMendedTo step.now.edges.now step.now.lower.now step.now.upper.now place strands.old.items }
     requires there { place < length strands.old.items }
     ensures mended { IfOk result (λ n. AreMendedTo step.now.edges.now step.now.lower.now step.now.upper.now n
@@ -52,6 +55,7 @@ fn mend_awake(
     strands: &mut Vec<Strand>,
     place: usize,
 ) -> Result<usize, AllocError>
+    requires neighbours { AreNeighbours step.now.edges.now step.now.lower.now step.now.upper.now }
     requires mended { AreMendedTo step.now.edges.now step.now.lower.now step.now.upper.now place strands.old.items }
     requires there { place < length strands.old.items }
     ensures mended { IfOk result (λ n. AreMendedTo step.now.edges.now step.now.lower.now step.now.upper.now n
@@ -91,6 +95,7 @@ fn regroup(
     from: usize,
     to: usize,
 ) -> Result<usize, AllocError>
+    requires neighbours { AreNeighbours step.now.edges.now step.now.lower.now step.now.upper.now }
     requires mended { AreMendedTo step.now.edges.now step.now.lower.now step.now.upper.now from strands.old.items }
     requires group { IsGroup step.now.edges.now step.now.lower.now from to strands.old.items }
     ensures mended { IfOk result (λ n. AreMendedTo step.now.edges.now step.now.lower.now step.now.upper.now n

@@ -75,7 +75,7 @@ fn begin_at(
     ensures numbers { OnOk result ((j : ℕ) → times j (numbers_in strands.new.items)
         ≡ times j (numbers_in strands.old.items) + times j (k ∷ [])) }
 {
-    let i = place(edges, strands, &edges[k as usize].edge, at);
+    let i = place(edges, strands, k, at);
     weaken(strands, i);
     insert(alloc, strands, k, i)
 }

@@ -3,7 +3,6 @@ ghost use Rattle.std.specs.Prelude.{◌<◌, ◌^◌, ℤ, ◌<ℤ◌, length, A
 ghost use Rattle.scad_geom.specs.Limits.{coordinate_limit};
 ghost use Rattle.scad_geom.specs.Within.{IsEdgeWithin};
 ghost use Rattle.scad_geom.specs.Level.{IsLevelWithin};
-ghost use Rattle.scad_geom.specs.Heights.{AreNeighbours};
 ghost use Rattle.slice_sweep.specs.Keys.{IsBelowKey};
 
 use scad_geom::{LeafEdge, Level};
@@ -21,6 +20,5 @@ pub(crate) struct Step<'a> {
     ghost few: { length edges.now < 2 ^ 32 },
     ghost lower_within: { IsLevelWithin coordinate_limit lower.now },
     ghost upper_within: { IsLevelWithin coordinate_limit upper.now },
-    ghost neighbours: { AreNeighbours edges.now lower.now upper.now },
     ghost key_is: { (wake : ℤ) → key <ℤ wake → IsBelowKey lower.now wake },
 }

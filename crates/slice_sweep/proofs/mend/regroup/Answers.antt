@@ -17,7 +17,7 @@ returns-clause-mended c =
     let same = subst (λ (ks : List ℕ). IsPermutation
         (filter (λ k. reaches (edge_at s.edges.now k) s.lower.now s.upper.now) ks) (concat c.in_ok-bundles.bundles.items))
         c.deref-2.ensures.value c.in_ok-bundles.ensures.members in
-    (regrouped_by s.edges.now s.lower.now s.upper.now s.lower_within s.neighbours c.args.from c.args.to L
+    (regrouped_by s.edges.now s.lower.now s.upper.now s.lower_within c.requires.neighbours c.args.from c.args.to L
     c.requires.mended c.requires.group c.in_ok-bundles.bundles.items c.in_ok-numbers.numbers.items split
     c.in_ok-bundles.ensures.ranked same c.weaken.new.strands.items c.in_ok-others.others.items
     c.replace.new.strands.items c.end c.weaken.ensures c.in_ok-others.ensures c.in_ok-replace.ensures

@@ -1,4 +1,5 @@
 use Rattle.std.proofs.Common.{◌≡◌, ℕ, ◌+◌, ◌-◌, ◌<◌, ◌≤◌, length}
+use Rattle.slice_slab.specs.Bundles.{edge_at}
 use Rattle.slice_slab.specs.KeptOrder.{IsLeftAt, IsNotRightAt}
 use Rattle.slice_sweep.specs.Strands.{head, strand_at}
 use Rattle.slice_sweep.proofs.place.place.Given as goal
@@ -7,8 +8,8 @@ abbrev pub invariant-places : goal.invariant-places
 invariant-places l = record {
   order : l.low ≤ l.high;
   within : l.high ≤ length l.strands;
-  left : (k : ℕ) → k + 1 ≡ l.low → IsLeftAt l.at (head l.edges (strand_at l.strands k).bundle) l.e;
-  right : l.high < length l.strands → IsNotRightAt l.at l.e (head l.edges (strand_at l.strands l.high).bundle);
+  left : (j : ℕ) → j + 1 ≡ l.low → IsLeftAt l.at (head l.edges (strand_at l.strands j).bundle) (edge_at l.edges l.k);
+  right : l.high < length l.strands → IsNotRightAt l.at (edge_at l.edges l.k) (head l.edges (strand_at l.strands l.high).bundle);
 }
 
 abbrev pub decreases-places : goal.decreases-places
