@@ -1,9 +1,10 @@
 //! The strands at a height, mended one place after another.
-ghost use Rattle.std.specs.Prelude.{◌≡◌, ◌<◌, ◌+◌, ◌-◌, ◌<ℤ◌, ◌*ℤ◌, int_le, true, length, IfOk, OnOk, All};
+ghost use Rattle.std.specs.Prelude.{◌≡◌, ◌<◌, ◌+◌, ◌-◌, ◌*ℤ◌, int_le, true, length, IfOk, OnOk, All};
 ghost use Rattle.scad_geom.specs.Line.{high};
 ghost use Rattle.scad_geom.specs.Heights.{AreNeighbours};
 ghost use Rattle.slice_slab.specs.Bundles.{edge_at};
-ghost use Rattle.slice_sweep.specs.Strands.{AreWaiting};
+ghost use Rattle.slice_sweep.specs.Keys.{IsBelowKey};
+ghost use Rattle.slice_sweep.specs.Strands.{AreWaiting, AreThere, strand_at};
 ghost use Rattle.slice_sweep.specs.Mending.{AreOrdered, AreMendedTo, KeepTimes, IsGroup};
 
 use crate::group::{goes_on, group_end, members};
@@ -44,7 +45,7 @@ fn mend_at(
         strands.old.items strands.new.items) }
     ensures fewer { IfOk result (λ n. length strands.new.items - n < length strands.old.items - place) }
 {
-    if is_asleep(step, &strands[place]) {
+    if is_asleep(step, strands, place) {
         return Ok(place + 1);
     }
     mend_awake(step, strands, place)
@@ -65,27 +66,36 @@ fn mend_awake(
     ensures fewer { IfOk result (λ n. length strands.new.items - n < length strands.old.items - place) }
 {
     let end = group_end(step, strands, place);
-    if is_alone(step, &strands[place], place, end) {
+    if is_alone(step, strands, place, end) {
         return Ok(place + 1);
     }
     regroup(step, strands, place, end)
 }
 
 // Whether a group is one strand in which nothing ends.
-fn is_alone(step: &Step<'_>, s: &Strand, place: usize, end: usize) -> bool
+fn is_alone(step: &Step<'_>, strands: &[Strand], place: usize, end: usize) -> bool
+    requires strands { AreThere step.now.edges.now strands.now }
+    requires there { place < length strands.now }
     requires place { place < end }
-    requires there { All (λ k. k < length step.now.edges.now) s.now.bundle }
     ensures end { result ≡ true → end ≡ place + 1 }
-    ensures on { result ≡ true → All (λ k. int_le step.now.upper.now.n
-        ((high (edge_at step.now.edges.now k)).y *ℤ step.now.upper.now.d) ≡ true) s.now.bundle }
+    ensures on { result ≡ true → All (λ k. int_le step.now.upper.now.n ((high (edge_at step.now.edges.now k)).y
+        *ℤ step.now.upper.now.d) ≡ true) (strand_at strands.now place).bundle }
 {
-    end - place == 1 && goes_on(step, s)
+    end - place == 1 && goes_on(step, &strands[place])
 }
 
-fn is_asleep(step: &Step<'_>, s: &Strand) -> bool
-    ensures { result ≡ true → step.now.key <ℤ s.now.wake }
+// Whether the lower height lies below the key of the strand at a place.
+fn is_asleep(step: &Step<'_>, strands: &[Strand], place: usize) -> bool
+    requires { place < length strands.now }
+    ensures { result ≡ true → IsBelowKey step.now.lower.now (strand_at strands.now place).wake }
 {
-    step.key < s.wake as i128
+    is_later(step, strands[place].wake)
+}
+
+fn is_later(step: &Step<'_>, wake: i64) -> bool
+    ensures { result ≡ true → IsBelowKey step.now.lower.now wake }
+{
+    step.key < wake as i128
 }
 
 // Puts in their place the bundles of those of their edges that go on.
