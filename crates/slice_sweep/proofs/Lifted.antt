@@ -20,10 +20,13 @@ use Rattle.scad_geom.proofs.Order.{aligned_all, before_between}
 use Rattle.slice_slab.specs.declared.start.Start.{Start}
 use Rattle.slice_slab.specs.Active.{times}
 use Rattle.slice_slab.specs.Bundles.{no_edge, edge_at, reaches, reaching, IsBundle, Precedes, AreRanked, AreBundles}
-use Rattle.slice_slab.specs.Starts.{AreRising, IsStartOf, numbers_of, begun_at, pending_at}
+use Rattle.slice_slab.specs.Starts.{AreStarts, AreRising, IsStartOf, numbers_of, all_numbers, begun_at, pending_at}
+use Rattle.slice_slab.specs.Touching.{touches}
+use Rattle.slice_slab.proofs.Standing.{none_live}
+use Rattle.std.proofs.lemmas.List.Elements.{recursion_from_All, All-drop}
 use Rattle.slice_slab.proofs.Live.{reaches_is}
 use Rattle.slice_slab.proofs.Bundling.{before_chain}
-use Rattle.slice_slab.proofs.Beginning.{parted, begun_too, pending_too, all_begun, all_pending, of_numbers}
+use Rattle.slice_slab.proofs.Beginning.{rising_drop, parted, begun_too, pending_too, all_begun, all_pending, of_numbers}
 use Rattle.slice_slab.proofs.Chosen.{reaching_is, once_where, none_where}
 use Rattle.slice_slab.proofs.Times.{same_number, times_here, times_other, times-append, times_permuted, standing}
 use Rattle.slice_sweep.specs.declared.strand.Strand.{Strand}
@@ -390,3 +393,45 @@ module _ (es : List LeafEdge) (l u : Level) (n : AreNeighbours es l u) where
       members = from_times (reaching 0 es l u) (numbers_in L3) times_same;
       ranked = ranked_all es l L3 ordered.held ordered.mended.ranked;
     }
+
+-- ---- before the first edge starts
+touches_of : (e : Edge) (h : Level) → reaches e h h ≡ true → touches e h ≡ true
+unfolding reaches touches
+touches_of e h r =
+    (and_parts (int_lt (pos 0) (rise e)) (int_le ((low e).y *ℤ h.d) h.n && int_le h.n ((high e).y *ℤ h.d)) r).1
+
+pub none_yet : (es : List LeafEdge) (h : Level) (starts : List Start)
+    → IsPermutation (all_numbers es) (numbers_of starts) → AreAll es h [] starts
+none_yet es h starts m =
+    let c = none_live es h starts m in
+    record { once = c.once; all = λ k o r. c.all k o (touches_of (edge_at es k) h r) }
+
+pub none_waiting : (es : List LeafEdge) (at : Level) → AreWaiting es at []
+none_waiting es at = record { held = tt; ordered = tt; apart = tt }
+
+-- ---- as the code lifts it: B are the numbers of the edges that begin, n those that have begun then
+pub made_by : (es : List LeafEdge) (l u : Level) (n : AreNeighbours es l u) (starts : List Start) (begun next : ℕ)
+    (B : List ℕ) (L0 L1 L2 L3 : List Strand) → AreStarts es starts → AreRising starts
+    → AreWaiting es l L0
+    → ((h : Level) → pos 0 <ℤ h.d → IsAtMost l h → AreAll es h (numbers_in L0) (drop begun starts))
+    → B ≡ numbers_of (begun_at l (drop begun starts)) → drop next starts ≡ pending_at l (drop begun starts)
+    → ((k : ℕ) → reaches (edge_at es k) l l ≡ true
+    → times k (numbers_in L1) ≡ times k (numbers_in L0) + times k B)
+    → KeepTimes es l u L1 L2 → bundles_of L3 ≡ bundles_of L2 → AreOrdered es l u L3
+    → AreBundles es l u (bundles_of L3) × AreWaiting es u L3
+    × ((h : Level) → pos 0 <ℤ h.d → IsAtMost u h → AreAll es h (numbers_in L3) (drop next starts))
+made_by es l u n starts begun next B L0 L1 L2 L3 s r w later b p t k e o =
+    let P : List Start = drop begun starts in
+    let sP : AllByRecursion (IsStartOf es) P = recursion_from_All (IsStartOf es) P (All-drop (IsStartOf es) begun starts s) in
+    let rP : AreRising P = rising_drop begun starts r in
+    let t' : (k : ℕ) → reaches (edge_at es k) l l ≡ true
+        → times k (numbers_in L1) ≡ times k (numbers_in L0) + times k (numbers_of (begun_at l P)) =
+        subst (λ (ks : List ℕ). (k : ℕ) → reaches (edge_at es k) l l ≡ true
+        → times k (numbers_in L1) ≡ times k (numbers_in L0) + times k ks) b t in (
+      bundles_are es l u n P L0 L1 L2 L3 sP rP w.held later t' k e o,
+      lifted es l u n L3 o,
+      λ h d q. subst (AreAll es h (numbers_in L3)) (sym p) (record {
+        once = once es l u n P L0 L1 L2 L3 sP rP w.held later t' k e o;
+        all = all_later es l u n P L0 L1 L2 L3 sP rP w.held later t' k e o h d q;
+      }),
+    )
