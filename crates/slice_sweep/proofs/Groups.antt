@@ -225,9 +225,9 @@ module _ (es : List LeafEdge) (l u : Level) (w : IsLevelWithin coordinate_limit 
       let tied = subst (Chain (IsTogether es l)) e together in
       let cut = subst (λ (xs : List Strand). Joins (λ s t. IsTogether es l s t → ⊥) xs O) e parted in
       let perm = subst (λ (ks : List ℕ). IsPermutation (filter (λ k. reaches (edge_at es k) l u) ks) (concat bs))
-          (numbers_are ∙ ap numbers_in e) same in
+      (numbers_are ∙ ap numbers_in e) same in
       let placed : weakened m.done ++ (fresh bs ++ O) ≡ put =
-          ap (λ (xs : List Strand). weakened xs ++ (fresh bs ++ O)) D_is in (
+      ap (λ (xs : List Strand). weakened xs ++ (fresh bs ++ O)) D_is in (
         subst (AreMendedTo es l u (from + length bs)) placed
             (regrouped es l u w n.lower_divisor n.upper_divisor n.in_order m.done O g G held ordered m.mended beside
             apart tied cut bs ranks perm from m.size),
@@ -247,13 +247,13 @@ module _ (es : List LeafEdge) (l u : Level) (w : IsLevelWithin coordinate_limit 
   regrouped_by W N new end we ne e m =
       let here : from ≤ length L = omega (arith, some, within) in
       let new-is : put ≡ new = sym (e ∙ put_between L from to W N (omega (arith, some)) here we
-          ∙ ap (λ (xs : List Strand). weakened (take from L) ++ (xs ++ O)) ne) in
+      ∙ ap (λ (xs : List Strand). weakened (take from L) ++ (xs ++ O)) ne) in
       let size : length N ≡ length bs = ap length ne ∙ length_fresh bs in
       let end-is : from + length bs ≡ end = omega (arith, m, size) in
       let long : length new ≡ from + (length N + (length L - to)) = sym (ap length new-is)
-          ∙ length-append (weakened (take from L)) (fresh bs ++ O)
-          ∙ ap₂ (λ (a b : ℕ). a + b) (length_weakened (take from L) ∙ length-take-le from L here)
-          (length-append (fresh bs) O ∙ ap₂ (λ (a b : ℕ). a + b) (length_fresh bs ∙ sym size) (length-drop to L)) in (
+      ∙ length-append (weakened (take from L)) (fresh bs ++ O)
+      ∙ ap₂ (λ (a b : ℕ). a + b) (length_weakened (take from L) ∙ length-take-le from L here)
+      (length-append (fresh bs) O ∙ ap₂ (λ (a b : ℕ). a + b) (length_fresh bs ∙ sym size) (length-drop to L)) in (
         subst (λ (i : ℕ). AreMendedTo es l u i new) end-is
             (subst (AreMendedTo es l u (from + length bs)) new-is put_group.0),
         subst (KeepTimes es l u L) new-is put_group.1,

@@ -93,7 +93,7 @@ pub left_until : (e f : Edge) (h : Level) (wake : ℤ) → pos 0 <ℤ h.d → po
 left_until e f h wake d a m b =
     let t : apart f e ≡ pos 0 -ℤ apart e f = turned_is (apart e f) (apart f e) (apart_turned e f) in
     let n : (wake *ℤ lean e f) ≤ℤ ((pos 0 -ℤ apart e f) *ℤ parts) =
-        subst (λ (z : ℤ). (wake *ℤ lean e f) ≤ℤ (z *ℤ parts)) t m in
+    subst (λ (z : ℤ). (wake *ℤ lean e f) ≤ℤ (z *ℤ parts)) t m in
     let x = times_less (h.n *ℤ parts) (wake *ℤ h.d) (lean e f) a b in
     let y = times_at_most (wake *ℤ lean e f) ((pos 0 -ℤ apart e f) *ℤ parts) h.d d n in
     let i = neg_gap (lean e f) (apart e f) wake h.n h.d parts in

@@ -162,7 +162,7 @@ module _ (es : List LeafEdge) (l u : Level) (n : AreNeighbours es l u) where
       let p = and_parts (int_lt (pos 0) (rise e)) (int_le ((low e).y *ℤ l.d) l.n && int_le u.n ((high e).y *ℤ u.d)) h in
       let q = and_parts (int_le ((low e).y *ℤ l.d) l.n) (int_le u.n ((high e).y *ℤ u.d)) p.1 in
       let to = at_most_chain (level_of (low e).y) l u one n.lower_divisor n.upper_divisor (from_test (low e).y q.0)
-          (lower_weak l u n.in_order) in
+      (lower_weak l u n.in_order) in
       three_true (int_lt (pos 0) (rise e)) (int_le ((low e).y *ℤ u.d) u.n) (int_le u.n ((high e).y *ℤ u.d)) p.0
       (to_test (low e).y to) q.1
 
@@ -171,9 +171,12 @@ module _ (es : List LeafEdge) (l u : Level) (n : AreNeighbours es l u) where
 
   bundle_upper : (b : List ℕ) → IsBundle es l b → IsBundle es u b
   bundle_upper [] h = h
-  bundle_upper (k ∷ ks) h = (h.0, weaker (λ j. AreAligned l (edge_at es k) (edge_at es j))
-      (λ j. AreAligned u (edge_at es k) (edge_at es j))
-      (λ j a. (aligned_all l n.lower_divisor (edge_at es k) (edge_at es j) a u.n u.d, a.1)) ks h.1)
+  bundle_upper (k ∷ ks) h = (
+    h.0,
+    weaker (λ j. AreAligned l (edge_at es k) (edge_at es j))
+        (λ j. AreAligned u (edge_at es k) (edge_at es j))
+        (λ j a. (aligned_all l n.lower_divisor (edge_at es k) (edge_at es j) a u.n u.d, a.1)) ks h.1,
+  )
 
   held_upper : (s : Strand) → IsHeldTo es l u s → IsHeld es u s
   held_upper s h = record {
@@ -350,7 +353,7 @@ module _ (es : List LeafEdge) (l u : Level) (n : AreNeighbours es l u) where
         by_test true b =
             let p = parts_of (edge_at es k) h h r in
             let both : reaches (edge_at es k) l u ≡ true =
-                whole_of (edge_at es k) l u p.0 b (above (edge_at es k) u h n.upper_divisor d o p.2) in
+            whole_of (edge_at es k) l u p.0 b (above (edge_at es k) u h n.upper_divisor d o p.2) in
             two k ∙ sum_is (times k (numbers_in L0 ++ numbers_of P)) (times k (numbers_in L0)) (started k) (waits k)
             (times k (numbers_in L3)) (total k) (new_is k both)
             ∙ at_lower.all k there (lower_only (edge_at es k) both)
@@ -425,9 +428,9 @@ made_by es l u n starts begun next B L0 L1 L2 L3 s r w later b p t k e o =
     let sP : AllByRecursion (IsStartOf es) P = recursion_from_All (IsStartOf es) P (All-drop (IsStartOf es) begun starts s) in
     let rP : AreRising P = rising_drop begun starts r in
     let t' : (k : ℕ) → reaches (edge_at es k) l l ≡ true
-        → times k (numbers_in L1) ≡ times k (numbers_in L0) + times k (numbers_of (begun_at l P)) =
-        subst (λ (ks : List ℕ). (k : ℕ) → reaches (edge_at es k) l l ≡ true
-        → times k (numbers_in L1) ≡ times k (numbers_in L0) + times k ks) b t in (
+    → times k (numbers_in L1) ≡ times k (numbers_in L0) + times k (numbers_of (begun_at l P)) =
+    subst (λ (ks : List ℕ). (k : ℕ) → reaches (edge_at es k) l l ≡ true
+    → times k (numbers_in L1) ≡ times k (numbers_in L0) + times k ks) b t in (
       bundles_are es l u n P L0 L1 L2 L3 sP rP w.held later t' k e o,
       lifted es l u n L3 o,
       λ h d q. subst (AreAll es h (numbers_in L3)) (sym p) (record {

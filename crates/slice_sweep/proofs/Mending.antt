@@ -94,9 +94,9 @@ as_it_is es l u p L m o r a = by_rest m.done m.rest m.is m.size m.mended m.besid
     by_rest done [] is size n j c = absurd (omega (arith, ap length is, length-append done [], size, o))
     by_rest done (s ∷ rest) is size n j c =
         let here : strand_at L p ≡ s = ap (λ (xs : List Strand). strand_at xs p) is
-            ∙ get_or_at done s rest no_strand p size in
+        ∙ get_or_at done s rest no_strand p size in
         let reach : AllByRecursion (IsReaching es l u) s.bundle =
-            subst (λ (t : Strand). AllByRecursion (IsReaching es l u) t.bundle) here r in
+        subst (λ (t : Strand). AllByRecursion (IsReaching es l u) t.bundle) here r in
         let beside : Joins (LiesLeft es l) (s ∷ []) rest = next rest is in
         record {
           done = done ++ (s ∷ []);
@@ -125,10 +125,10 @@ as_it_is es l u p L m o r a = by_rest m.done m.rest m.is m.size m.mended m.besid
         next (t ∷ rest) e =
             let more : p + 1 < length L = omega (arith, ap length e, length-append done (s ∷ (t ∷ rest)), size) in
             let here : strand_at L p ≡ s = ap (λ (xs : List Strand). strand_at xs p) e
-                ∙ get_or_at done s (t ∷ rest) no_strand p size in
+            ∙ get_or_at done s (t ∷ rest) no_strand p size in
             let there : strand_at L (p + 1) ≡ t = ap (λ (xs : List Strand). strand_at xs (p + 1)) e
-                ∙ ap (λ (n : ℕ). strand_at (done ++ (s ∷ (t ∷ rest))) (n + 1)) (sym size)
-                ∙ get_or-append-add done (s ∷ (t ∷ rest)) 1 no_strand in
+            ∙ ap (λ (n : ℕ). strand_at (done ++ (s ∷ (t ∷ rest))) (n + 1)) (sym size)
+            ∙ get_or-append-add done (s ∷ (t ∷ rest)) 1 no_strand in
             subst (λ (x : Strand). LiesLeft es l x t) here
             (subst (λ (x : Strand). LiesLeft es l (strand_at L p) x) there (a more))
 
@@ -315,11 +315,11 @@ module _ (es : List LeafEdge) (l u : Level) (w : IsLevelWithin coordinate_limit 
     O_behind : (o : Strand) (os : List Strand) → O ≡ o ∷ os → Rises o × IsLeftAt l x (head es o.bundle)
     O_behind o os e =
         let order : Joins (LiesNotRight es l) (g ∷ G) (o ∷ os) =
-            subst (Joins (LiesNotRight es l) (g ∷ G)) e (joins_map (λ (t : Strand). IsHeld es l t) (AreHeld es l)
-            (LiesNotRight es l) (λ s t a b h. h.order) (g ∷ G) O held_G held_O
-            (chain_joins (AreHeld es l) (g ∷ G) O (chain_back (AreHeld es l) D ((g ∷ G) ++ O) ordered))) in
+        subst (Joins (LiesNotRight es l) (g ∷ G)) e (joins_map (λ (t : Strand). IsHeld es l t) (AreHeld es l)
+        (LiesNotRight es l) (λ s t a b h. h.order) (g ∷ G) O held_G held_O
+        (chain_joins (AreHeld es l) (g ∷ G) O (chain_back (AreHeld es l) D ((g ∷ G) ++ O) ordered))) in
         let ends : Joins (λ s t. IsTogether es l s t → ⊥) (g ∷ G) (o ∷ os) =
-            subst (Joins (λ s t. IsTogether es l s t → ⊥) (g ∷ G)) e parted in
+        subst (Joins (λ s t. IsTogether es l s t → ⊥) (g ∷ G)) e parted in
         let last = both_out g G all_G order ends in
         let first : AllByRecursion (IsHeld es l) (o ∷ os) = subst (AllByRecursion (IsHeld es l)) e held_O in
         let ro : Rises o = head_rises es l l l o.bundle first.0.bundle first.0.reach in (
@@ -351,7 +351,7 @@ module _ (es : List LeafEdge) (l u : Level) (w : IsLevelWithin coordinate_limit 
         (rises_held D held_D) beside
     D_then (b ∷ M) m O' e =
         let h : AllByRecursion (IsHeadAt es l x) (fresh (b ∷ M)) =
-            subst (λ (cs : List (List ℕ)). AllByRecursion (IsHeadAt es l x) (fresh cs)) m heads_N in
+        subst (λ (cs : List (List ℕ)). AllByRecursion (IsHeadAt es l x) (fresh cs)) m heads_N in
         D_before (record { bundle = b; wake = stale }) (fresh M ++ O') h.0
 
     left_weak : (xs ys : List Strand) → AllByRecursion Rises xs → AllByRecursion Rises ys

@@ -31,8 +31,8 @@ put_between L from to W N o q e =
     let d : drop from W ≡ drop from L = ap (drop from) e ∙ drop_at (weakened (take from L)) (drop from L) from n in
     let m : from + (to - from) ≡ to = omega (arith, o) in
     let r : drop to W ≡ drop to L =
-        ap (λ (i : ℕ). drop i W) (sym m) ∙ sym (drop-drop (to - from) from W) ∙ ap (drop (to - from)) d
-        ∙ drop-drop (to - from) from L ∙ ap (λ (i : ℕ). drop i L) m in
+    ap (λ (i : ℕ). drop i W) (sym m) ∙ sym (drop-drop (to - from) from W) ∙ ap (drop (to - from)) d
+    ∙ drop-drop (to - from) from L ∙ ap (λ (i : ℕ). drop i L) m in
     ap₂ (λ (xs ys : List Strand). xs ++ (N ++ ys)) t r
 
 module _ (es : List LeafEdge) (l : Level) (w : IsLevelWithin coordinate_limit l) (L : List Strand) (i k : ℕ)
@@ -125,9 +125,9 @@ pub started_by : (es : List LeafEdge) (l : Level) (w : IsLevelWithin coordinate_
 started_by es l w L X W new i k e o r left right h we ne =
     let o' : i ≤ length L = subst (λ (xs : List Strand). i ≤ length xs) e o in
     let left' = subst (λ (xs : List Strand). (j : ℕ) → j + 1 ≡ i
-        → IsLeftAt l (head es (strand_at xs j).bundle) (edge_at es k)) e left in
+    → IsLeftAt l (head es (strand_at xs j).bundle) (edge_at es k)) e left in
     let right' = subst (λ (xs : List Strand). i < length xs
-        → IsNotRightAt l (edge_at es k) (head es (strand_at xs i).bundle)) e right in
+    → IsNotRightAt l (edge_at es k) (head es (strand_at xs i).bundle)) e right in
     let self : i ≤ i = omega arith in
     let is = sym (ne ∙ put_between L i i W (fresh ((k ∷ []) ∷ [])) self o' we) in (
       subst (AreWaiting es l) is (started es l w L i k o' r left' right' h),

@@ -75,7 +75,10 @@ fn lean(e: &Edge, f: &Edge) -> i128
     ensures value { result ≡ lean e.now f.now }
     ensures size { unsigned_abs result ≤ 2 ^ 45 }
 {
-    minus(times::<22, 22>(run(e), rise(f)), times::<22, 22>(run(f), rise(e)))
+    minus(
+        times::<22, 22>(run(e), rise(f)),
+        times::<22, 22>(run(f), rise(e)),
+    )
 }
 
 /// At height 0 the first edge's line lies to the right of the second's by this over the product of the rises.
@@ -86,5 +89,8 @@ fn apart(e: &Edge, f: &Edge) -> i128
     ensures value { result ≡ apart e.now f.now }
     ensures size { unsigned_abs result ≤ 2 ^ 67 }
 {
-    minus(times::<44, 22>(offset(e), rise(f)), times::<44, 22>(offset(f), rise(e)))
+    minus(
+        times::<44, 22>(offset(e), rise(f)),
+        times::<44, 22>(offset(f), rise(e)),
+    )
 }

@@ -31,11 +31,7 @@ pub(crate) fn mend(step: &Step<'_>, strands: &mut Vec<Strand>) -> Result<(), All
 }
 
 // Mends the strands that lie at one place with the first that isn't mended, and gives the place behind them.
-fn mend_at(
-    step: &Step<'_>,
-    strands: &mut Vec<Strand>,
-    place: usize,
-) -> Result<usize, AllocError>
+fn mend_at(step: &Step<'_>, strands: &mut Vec<Strand>, place: usize) -> Result<usize, AllocError>
     requires neighbours { AreNeighbours step.now.edges.now step.now.lower.now step.now.upper.now }
     requires mended { AreMendedTo step.now.edges.now step.now.lower.now step.now.upper.now place strands.old.items }
     requires there { place < length strands.old.items }
@@ -51,11 +47,7 @@ fn mend_at(
     mend_awake(step, strands, place)
 }
 
-fn mend_awake(
-    step: &Step<'_>,
-    strands: &mut Vec<Strand>,
-    place: usize,
-) -> Result<usize, AllocError>
+fn mend_awake(step: &Step<'_>, strands: &mut Vec<Strand>, place: usize) -> Result<usize, AllocError>
     requires neighbours { AreNeighbours step.now.edges.now step.now.lower.now step.now.upper.now }
     requires mended { AreMendedTo step.now.edges.now step.now.lower.now step.now.upper.now place strands.old.items }
     requires there { place < length strands.old.items }

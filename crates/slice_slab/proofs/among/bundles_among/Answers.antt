@@ -17,9 +17,9 @@ returns-clause-members c =
     let old : List Passage = c.in_ok-passages.passages.items in
     let new : List Passage = c.sort.new.passages.items in
     let moved : IsPermutation (numbers_of old) (numbers_of new) =
-        IsPermutation-map (λ (p : Passage). p.number) old new c.in_ok-sort.ensures.permutation in
+    IsPermutation-map (λ (p : Passage). p.number) old new c.in_ok-sort.ensures.permutation in
     let all = subst (λ (xs : List ℕ). IsPermutation xs (concat (bundles_of new))) c.in_ok-passages.ensures.numbers
-        (subst (IsPermutation (numbers_of old)) (sym (concat-bundles new)) moved) in
+    (subst (IsPermutation (numbers_of old)) (sym (concat-bundles new)) moved) in
     IfOk-weaker c.group.result _ _
     (λ v e. subst (λ (bs : List (List ℕ)). IsPermutation kept (concat bs))
     (sym (e ∙ ap bundles_of c.deref.ensures.value)) all)
@@ -32,7 +32,7 @@ returns-clause-ranked c =
     let new : List Passage = c.sort.new.passages.items in
     let P : Passage → Type 0 = IsPassageOf es l in
     let all : AllByRecursion P new = recursion_from_All P new (All-permutation P c.in_ok-passages.passages.items new
-        c.in_ok-sort.ensures.permutation c.in_ok-passages.ensures.passages) in
+    c.in_ok-sort.ensures.permutation c.in_ok-passages.ensures.passages) in
     IfOk-weaker c.group.result _ _
     (λ v e. subst (AreRanked es l) (sym (e ∙ ap bundles_of c.deref.ensures.value))
     (ranked_bundles es l new all c.in_ok-sort.ensures.sorted))

@@ -13,10 +13,10 @@ returns-clause-mended c =
     let s = c.args.step.now in
     let L : List Strand = c.args.strands.now.items in
     let split = subst (λ (xs : List Strand). c.in_ok-numbers.numbers.items ++ numbers_in (drop c.args.to xs)
-        ≡ numbers_in (drop c.args.from xs)) c.deref.ensures.value c.in_ok-numbers.ensures in
+    ≡ numbers_in (drop c.args.from xs)) c.deref.ensures.value c.in_ok-numbers.ensures in
     let same = subst (λ (ks : List ℕ). IsPermutation
-        (filter (λ k. reaches (edge_at s.edges.now k) s.lower.now s.upper.now) ks) (concat c.in_ok-bundles.bundles.items))
-        c.deref-2.ensures.value c.in_ok-bundles.ensures.members in
+    (filter (λ k. reaches (edge_at s.edges.now k) s.lower.now s.upper.now) ks) (concat c.in_ok-bundles.bundles.items))
+    c.deref-2.ensures.value c.in_ok-bundles.ensures.members in
     (regrouped_by s.edges.now s.lower.now s.upper.now s.lower_within c.requires.neighbours c.args.from c.args.to L
     c.requires.mended c.requires.group c.in_ok-bundles.bundles.items c.in_ok-numbers.numbers.items split
     c.in_ok-bundles.ensures.ranked same c.weaken.new.strands.items c.in_ok-others.others.items
