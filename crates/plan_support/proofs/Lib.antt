@@ -6,3 +6,9 @@ pub mod Multiples
 pub mod Wound
 pub mod Spanned
 mod Examples
+mod CoverExamples
+pub mod United
+pub mod Canonical
+pub mod Without
+pub mod Starts
+pub mod NearRow

@@ -1,6 +1,6 @@
 //! Rows of runs.
-ghost use Rattle.std.specs.Prelude.{◌≡◌, ◌<◌, ◌++◌, ◌∷◌, [], List, length, slice_index_or, OnOk, OnErr};
-ghost use Rattle.plan_support.specs.Rows.{Row, row_list, no_row, runs_at};
+ghost use Rattle.std.specs.Prelude.{◌≡◌, ◌<◌, ◌++◌, ◌∷◌, [], List, length, map, slice_index_or, OnOk, OnErr};
+ghost use Rattle.plan_support.specs.Rows.{Row, row_list, no_row, runs_at, GoUpwards};
 
 use crate::lists::Lists;
 use plan_infill::Run;
@@ -57,6 +57,24 @@ impl Rows {
         ensures { result.now ≡ (slice_index_or self.now i no_row).runs }
     {
         self.lists.get(i)
+    }
+
+    /// The heights of all rows.
+    pub(crate) fn heights(&self) -> &[i32]
+        ensures { result.now ≡ map (λ r. r.y) self.now }
+    {
+        self.heights.as_slice()
+    }
+
+    /// The runs at a height, none where there is no such row.
+    pub(crate) fn runs_at(&self, y: i32) -> &[Run]
+        requires { GoUpwards self.now }
+        ensures { result.now ≡ runs_at y self.now }
+    {
+        match self.heights.as_slice().binary_search(&y) {
+            Ok(i) => self.lists.get(i),
+            Err(_) => &[],
+        }
     }
 
     /// Adds a row behind the others.
