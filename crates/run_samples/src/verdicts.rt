@@ -177,12 +177,11 @@ const OUTLINES: [(&str, &str, &str); 3] = [
 #[test]
 fn outlines_are_judged_before_the_program(rt: HostRuntime) -> Result<(), Fail> {
     let alloc = rt.alloc();
-    let program = turned(alloc, PLATE_PROGRAM, "M84", "M99")?;
     for (old, new, report) in OUTLINES {
         let outlines = turned(alloc, PLATE_OUTLINES, old, new)?;
         let case = Case {
             outlines: outlines.as_str(),
-            program: program.as_str(),
+            program: "M99\n",
             ..PLATE
         };
         expect_answer(&rt, alloc, &PLAIN, &case, 9, report)?;
@@ -233,19 +232,19 @@ fn files_that_are_missing(rt: HostRuntime) -> Result<(), Fail> {
 #[test]
 fn each_call_of_a_verdict_failing_in_turn(rt: HostRuntime) -> Result<(), Fail> {
     let alloc = rt.alloc();
-    let mut reads = 0;
+    let mut last_read = 0;
     for call in 0..64 {
         let mut fails = Vec::new(alloc);
         fails.push(call)?;
         let answer = judged(&rt, alloc, &PLAIN, &PLATE, fails)?;
         if answer.code == 4 {
             expect(&rt, &answer, 4, "read fault\n", "read");
-            reads += 1;
+            last_read = call;
         } else {
             expect(&rt, &answer, 5, "", "write");
             break;
         }
     }
-    assert!(rt; reads >= 6);
+    assert!(rt; last_read >= 5);
     Ok(())
 }

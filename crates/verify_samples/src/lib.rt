@@ -1,9 +1,7 @@
-//! Pairs of edges, and verdicts over printing programs.
+//! Verdicts over printing programs.
 //! It promises nothing: it is a crate of tests, so that the crates that it tries are proved once.
 #![tactic(auto)]
 
-#[cfg(test)]
-mod edges;
 #[cfg(test)]
 mod judging;
 #[cfg(test)]
