@@ -128,10 +128,10 @@ module _ (s u : ℕ) where
       by_ends (inr a) (inr b) (inr c) (inr d) = by_lines a b c d (crosses e f) refl
 
 -- ---- some item of a list
-any_here : {X : Type 0} (P : X → Type 0) (x : X) (xs : List X) → P x → Any P (x ∷ xs)
+pub any_here : {X : Type 0} (P : X → Type 0) (x : X) (xs : List X) → P x → Any P (x ∷ xs)
 any_here P x xs p = (0, x, omega arith, refl, p)
 
-any_there : {X : Type 0} (P : X → Type 0) (x : X) (xs : List X) → Any P xs → Any P (x ∷ xs)
+pub any_there : {X : Type 0} (P : X → Type 0) (x : X) (xs : List X) → Any P xs → Any P (x ∷ xs)
 any_there P x xs (k, y, l, e, p) = (suc k, y, omega (arith, l), e, p)
 
 none_any : {X : Type 0} (P : X → Type 0) → Any P [] → ⊥

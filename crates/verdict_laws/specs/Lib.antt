@@ -1,2 +1,3 @@
 pub mod Opinion
 pub mod Laws
+pub mod Printed

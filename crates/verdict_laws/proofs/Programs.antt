@@ -1,0 +1,186 @@
+-- The machine does the same along a whole program by limited numbers as by numbers of any size.
+use Rattle.std.proofs.Common.{◌≡◌, ℕ, ◌+◌, ◌*◌, ◌^◌, ◌<◌, ◌≤◌, List, [], ◌∷◌, ◌++◌, length, map, refl, sym, ap, ◌∙◌, subst, arith, Option, Some, None, Result, Ok, Err}
+use Rattle.std.specs.Prelude.{codes}
+use Rattle.std.specs.List.{AllByRecursion}
+use Rattle.std.proofs.lemmas.List.{append-nil}
+use Rattle.std.proofs.lemmas.Nat.{mul-le}
+use Rattle.scad_base.specs.Results.{and_then}
+use Rattle.scad_geom.specs.declared.point.Pt.{Pt}
+use Rattle.scad_geom.specs.Limits.{coordinate_limit}
+use Rattle.scad_geom.specs.Within.{IsWithin}
+use Rattle.gcode_text.specs.declared.fault.GFault.{GFault}
+use Rattle.gcode_text.specs.declared.machine.Move.{Move}
+use Rattle.gcode_text.specs.declared.rates.Rates.{Rates}
+use Rattle.gcode_text.specs.Amount.{move_volume, moves_volume, path_volume, paths_volume, layers_volume, filament}
+use Rattle.gcode_text.specs.Gcode.{travel_line, print_line, height_line, number_line, heat_line, moves_text, path_text, paths_text, layers_text, setup, home, head, end, gcode}
+use Rattle.gcode_text.specs.Reading.{lines}
+use Rattle.gcode_text.specs.Machine.{State, After, start, any, limited, command_of, plain_commands, line_step, onto_moves, moves_of_lines, machine}
+use Rattle.gcode_text.specs.Moves.{IsShort, IsShortPoint, surface}
+use Rattle.gcode_text.proofs.Program.{filament_rises}
+use Rattle.plan_verify.specs.Verdict.{Told, onto, moves_told, program_moves}
+use Rattle.verdict_laws.proofs.InRange.{IsInRange, LinesAreInRange, LeadsInRange, leads_nowhere, leads_on, leads_travel, leads_print, leads_height, leads_number, leads_heat, leads_setup, leads_home, leads_end, nothing_in_range}
+
+-- ---- paths
+short : (p : Pt) → IsWithin coordinate_limit p → IsShortPoint p
+short p h = let x = h.x in let y = h.y in (omega (arith, x), omega (arith, y))
+
+-- The greatest volume takes an amount in range.
+module _ (rates : Rates) (area : 1 ≤ rates.filament_area) (print : IsShort rates.print_feed)
+    (travel : IsShort rates.travel_feed) (most : ℕ) (enough : filament rates most ≤ 2000000000000000000) where
+  amount_most : (v : ℕ) → v ≤ most → filament rates v ≤ 2000000000000000000
+  amount_most v h = let rises = filament_rises rates v most area h in omega (arith, rises, enough)
+
+  moves_lead : (v : ℕ) (from : Pt) (ps : List Pt) → AllByRecursion (IsWithin coordinate_limit) ps
+      → v + moves_volume rates from ps ≤ most → LeadsInRange (moves_text rates v from ps)
+  unfolding moves_text moves_volume
+  moves_lead v from [] within few = leads_nowhere
+  moves_lead v from (to ∷ ps) within few =
+      let w : ℕ = v + move_volume rates from to in
+      leads_on (print_line rates to (filament rates w)) (moves_text rates w to ps)
+      (leads_print rates to (filament rates w) (short to within.0) print within.0
+      (amount_most w (omega (arith, few))))
+      (moves_lead w to ps within.1 (omega (arith, few)))
+
+  path_leads : (v : ℕ) (path : List Pt) → AllByRecursion (IsWithin coordinate_limit) path
+      → v + path_volume rates path ≤ most → LeadsInRange (path_text rates v path)
+  unfolding path_text path_volume
+  path_leads v [] within few = leads_nowhere
+  path_leads v (p ∷ ps) within few =
+      leads_on (travel_line rates p) (moves_text rates v p ps)
+      (leads_travel rates p (short p within.0) travel within.0) (moves_lead v p ps within.1 few)
+
+  paths_lead : (v : ℕ) (paths : List (List Pt))
+      → AllByRecursion (λ path. AllByRecursion (IsWithin coordinate_limit) path) paths
+      → v + paths_volume rates paths ≤ most → LeadsInRange (paths_text rates v paths)
+  unfolding paths_text paths_volume
+  paths_lead v [] within few = leads_nowhere
+  paths_lead v (path ∷ paths) within few =
+      leads_on (path_text rates v path) (paths_text rates (v + path_volume rates path) paths)
+      (path_leads v path within.0 (omega (arith, few)))
+      (paths_lead (v + path_volume rates path) paths within.1 (omega (arith, few)))
+
+  -- ---- layers
+  layers_lead : (v layer : ℕ) (layers : List (List (List Pt)))
+      → AllByRecursion (λ paths. AllByRecursion (λ path. AllByRecursion (IsWithin coordinate_limit) path) paths) layers
+      → layer + length layers < 10 ^ 64 → (layer + length layers) * rates.layer_height ≤ 1100000
+      → v + layers_volume rates layers ≤ most → LeadsInRange (layers_text rates v layer layers)
+  unfolding layers_text layers_volume
+  layers_lead v layer [] within count high few = leads_nowhere
+  layers_lead v layer (paths ∷ layers) within count high few =
+      let below = mul-le (layer + 1) rates.layer_height (layer + (1 + length layers)) rates.layer_height (omega arith)
+      (omega arith) in
+      let whole : layer + length (paths ∷ layers) ≡ layer + (1 + length layers) = omega arith in
+      let next : layer + length (paths ∷ layers) ≡ (layer + 1) + length layers = omega arith in
+      let all = subst (λ (n : ℕ). n * rates.layer_height ≤ 1100000) whole high in
+      let number = number_line layer in
+      let height = height_line rates (surface rates layer) in
+      leads_on (number ++ height ++ paths_text rates v paths)
+      (layers_text rates (v + paths_volume rates paths) (layer + 1) layers)
+      (leads_on (number ++ height) (paths_text rates v paths)
+      (leads_on number height (leads_number layer (omega (arith, count)))
+      (leads_height rates (surface rates layer) travel (omega (arith, below, all))))
+      (paths_lead v paths within.0 (omega (arith, few))))
+      (layers_lead (v + paths_volume rates paths) (layer + 1) layers within.1 (omega (arith, count))
+      (subst (λ (n : ℕ). n * rates.layer_height ≤ 1100000) next high) (omega (arith, few)))
+
+-- ---- a program
+heads_lead : (hot_end bed : ℕ) → IsShort hot_end → IsShort bed → LeadsInRange (head hot_end bed)
+unfolding command_of plain_commands
+heads_lead hot_end bed hot cold =
+    let first = heat_line (codes "M140") bed in
+    let second = heat_line (codes "M104") hot_end in
+    let third = heat_line (codes "M190") bed in
+    let fourth = heat_line (codes "M109") hot_end in
+    leads_on (setup ++ first ++ second ++ third ++ fourth) home
+    (leads_on (setup ++ first ++ second ++ third) fourth
+    (leads_on (setup ++ first ++ second) third
+    (leads_on (setup ++ first) second
+    (leads_on setup first leads_setup (leads_heat (codes "M140") bed refl refl refl cold))
+    (leads_heat (codes "M104") hot_end refl refl refl hot))
+    (leads_heat (codes "M190") bed refl refl refl cold))
+    (leads_heat (codes "M109") hot_end refl refl refl hot))
+    leads_home
+
+-- what is known of a program whose numbers are in range
+pub record HasRange (rates : Rates) (hot_end bed : ℕ) (layers : List (List (List Pt))) : Type 0 where
+  pub area : 1 ≤ rates.filament_area
+  pub print : IsShort rates.print_feed
+  pub travel : IsShort rates.travel_feed
+  pub hot : IsShort hot_end
+  pub cold : IsShort bed
+  pub within : AllByRecursion
+      (λ paths. AllByRecursion (λ path. AllByRecursion (IsWithin coordinate_limit) path) paths) layers
+  pub count : length layers < 10 ^ 64
+  pub high : length layers * rates.layer_height ≤ 1100000
+  pub amount : filament rates (layers_volume rates layers) ≤ 2000000000000000000
+
+program_in_range : (rates : Rates) (hot_end bed : ℕ) (layers : List (List (List Pt)))
+    → HasRange rates hot_end bed layers → LinesAreInRange (gcode rates hot_end bed layers)
+program_in_range rates hot_end bed layers h =
+    let none : length layers ≡ 0 + length layers = omega arith in
+    let total : 0 + layers_volume rates layers ≤ layers_volume rates layers = omega arith in
+    subst LinesAreInRange (append-nil (gcode rates hot_end bed layers))
+    (leads_on (head hot_end bed ++ layers_text rates 0 0 layers) end
+    (leads_on (head hot_end bed) (layers_text rates 0 0 layers) (heads_lead hot_end bed h.hot h.cold)
+    (layers_lead rates h.area h.print h.travel (layers_volume rates layers) h.amount 0 0 layers h.within
+    (subst (λ (n : ℕ). n < 10 ^ 64) none h.count)
+    (subst (λ (n : ℕ). n * rates.layer_height ≤ 1100000) none h.high) total))
+    leads_end [] nothing_in_range)
+
+-- ---- the moves that are told with their lines
+value_or : {A : Type 0} → A → Result A GFault → A
+value_or other (Ok a) = a
+value_or other (Err fault) = other
+
+value_is : {A : Type 0} (a b : A) → ◌≡◌ {A = Result A GFault} (Ok a) (Ok b) → a ≡ b
+unfolding value_or
+value_is {A} a b e = ap (λ (r : Result A GFault). value_or a r) e
+
+moves_in : List Told → List Move
+moves_in told = map (λ t. t.move) told
+
+moves_onto : (line : ℕ) (move : Option Move) (told : List Told)
+    → moves_in (onto line move told) ≡ onto_moves move (moves_in told)
+unfolding moves_in
+moves_onto line None told = refl
+moves_onto line (Some move) told = refl
+
+abbrev AreTold : State → List (List ℕ) → List Move → Type 0
+AreTold s ls moves = (told : List Told) × (moves_told s ls ≡ Ok told) × (moves_in told ≡ moves)
+
+told_of : (s : State) (ls : List (List ℕ)) (moves : List Move) → AllByRecursion IsInRange ls
+    → moves_of_lines any s ls ≡ Ok moves → AreTold s ls moves
+unfolding moves_of_lines moves_told moves_in
+told_of s [] moves same e = ([], refl, value_is [] moves e)
+told_of s (text ∷ rest) moves same e =
+    by_line (line_step any s text) refl (λ t ms more. told_of t rest ms same.1 more) e
+  where
+    by_line : (r : Result After GFault) → line_step any s text ≡ r
+        → ((t : State) (ms : List Move) → moves_of_lines any t rest ≡ Ok ms → AreTold t rest ms)
+        → and_then r (λ after. and_then (moves_of_lines any after.state rest)
+        (λ ms. Ok (onto_moves after.move ms))) ≡ Ok moves → AreTold s (text ∷ rest) moves
+    by_line (Err fault) is more e = let never : ⊥ = cc in absurd never
+    by_line (Ok after) is more e = by_rest (moves_of_lines any after.state rest) refl e
+      where
+        told_on : Result (List Told) GFault → Result (List Told) GFault
+        told_on r = and_then r (λ ts. Ok (onto after.state.lines after.move ts))
+
+        by_rest : (r : Result (List Move) GFault) → moves_of_lines any after.state rest ≡ r
+            → and_then r (λ ms. Ok (onto_moves after.move ms)) ≡ Ok moves → AreTold s (text ∷ rest) moves
+        by_rest (Err fault) are e = let never : ⊥ = cc in absurd never
+        by_rest (Ok ms) are e =
+            let told = more after.state ms are in (
+              onto after.state.lines after.move told.0,
+              ap (λ (r : Result After GFault). and_then r (λ after. and_then (moves_told after.state rest)
+                  (λ ts. Ok (onto after.state.lines after.move ts)))) (same.0 s ∙ is) ∙ ap told_on told.1,
+              moves_onto after.state.lines after.move told.0 ∙ ap (onto_moves after.move) told.2
+                  ∙ value_is (onto_moves after.move ms) moves e,
+            )
+
+-- the moves of a program whose numbers are in range
+pub program_told : (rates : Rates) (hot_end bed : ℕ) (layers : List (List (List Pt))) (moves : List Move)
+    → HasRange rates hot_end bed layers → machine (gcode rates hot_end bed layers) ≡ Ok moves
+    → (told : List Told) × (program_moves (gcode rates hot_end bed layers) ≡ Ok told) × (map (λ t. t.move) told ≡ moves)
+unfolding moves_in
+program_told rates hot_end bed layers moves h made =
+    told_of start (lines (gcode rates hot_end bed layers)) moves (program_in_range rates hot_end bed layers h) made

@@ -1,0 +1,6 @@
+use Rattle.verdict_laws.proofs.Printed as lemma
+use Rattle.verdict_laws.proofs.laws.prints_stay_inside.Goals as goal
+
+pub returns : goal.returns
+returns c =
+    lemma.prints_stay_inside c.plans_keep_clear.ensures c.plans_are_printable.ensures c.texts_say_one_list.ensures
