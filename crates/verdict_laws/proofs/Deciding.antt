@@ -1,6 +1,5 @@
 -- Whether a move stays inside the outlines of a layer is decided, so there is an opinion on each program.
-use Rattle.std.proofs.Common.{◌≡◌, ◌≢◌, ◌⊎◌, inl, inr, ℕ, zero, suc, ◌+◌, ◌-◌, ◌*◌, ◌/◌, ◌<◌, ◌≤◌, Bool, true, false, List, [], ◌∷◌, ◌++◌, length, flat_map, nat_le, Result, Ok, Err, refl, sym, ap, ◌∙◌, subst, rules, arith, ℤ, pos, ◌+ℤ◌, ◌-ℤ◌, ◌*ℤ◌}
-use lib.Signed.{◌≤ℤ◌}
+use Rattle.std.proofs.Common.{◌≡◌, ◌⊎◌, inl, inr, ℕ, zero, suc, ◌-◌, ◌*◌, ◌/◌, ◌≤◌, Bool, true, false, List, [], ◌∷◌, length, flat_map, nat_le, Result, Ok, Err, refl, sym, ap, ◌∙◌, subst, rules, arith, ℤ, pos, ◌-ℤ◌, ◌*ℤ◌}
 use Rattle.std.specs.Prelude.{All}
 use Rattle.std.specs.List.{Any}
 use Rattle.std.proofs.lemmas.Int.{ints}
@@ -12,11 +11,10 @@ use Rattle.scad_geom.specs.declared.half.Half.TheVariants.{Whole}
 use Rattle.scad_geom.specs.Half.{meant}
 use Rattle.scad_geom.specs.Line.{low, high}
 use Rattle.scad_geom.specs.Loop.{sides}
-use Rattle.scad_geom.specs.Point.{Point, whole, halves}
+use Rattle.scad_geom.specs.Point.{whole}
 use Rattle.scad_geom.specs.Segment.{segments}
 use Rattle.scad_geom.specs.Sign.{is_zero}
 use Rattle.scad_geom.specs.Winding.{wind}
-use Rattle.scad_geom.specs.Balance.{IsBalanced}
 use Rattle.scad_geom.proofs.Signs.{zero_true}
 use Rattle.plan_sides.proofs.Closed.{sides_balanced}
 use Rattle.scad_ring.specs.Octagon.{reach, octagon}

@@ -1,6 +1,6 @@
 -- How high the layers of a tree of solids reach.
 use Rattle.std.proofs.Common.{◌≡◌, ℕ, zero, suc, ◌+◌, ◌*◌, ◌<◌, ◌≤◌, true, nat_le, nat_lt, List, [], ◌∷◌, sym, ◌∙◌, subst, arith, Option, Some, None}
-use Rattle.std.specs.Prelude.{ℤ, pos, unsigned_abs, ◌≤ℤ◌, ◌&&◌, IfSome, All}
+use Rattle.std.specs.Prelude.{ℤ, pos, unsigned_abs, ◌≤ℤ◌, ◌&&◌, IfSome}
 use Rattle.std.specs.List.{AllByRecursion, list_all}
 use Rattle.std.proofs.lemmas.Bool.{and_parts}
 use Rattle.std.proofs.lemmas.Bool.Decides.{nat_tests}

@@ -1,5 +1,5 @@
 -- Lines at which the machine does the same by limited numbers as by numbers of any size, since theirs are in range.
-use Rattle.std.proofs.Common.{◌≡◌, ℕ, ◌*◌, ◌^◌, ◌<◌, ◌≤◌, Bool, true, not, nat_le, nat_lt, List, [], ◌∷◌, ◌++◌, length, get_or, refl, sym, ap, ◌∙◌, subst, arith, append_assoc, Some}
+use Rattle.std.proofs.Common.{◌≡◌, ℕ, ◌*◌, ◌^◌, ◌<◌, ◌≤◌, true, not, nat_le, nat_lt, List, [], ◌∷◌, ◌++◌, length, get_or, refl, sym, ap, ◌∙◌, subst, arith, append_assoc, Some}
 use Rattle.std.specs.Prelude.{ℤ, pos, unsigned_abs, ◌==◌, codes}
 use Rattle.std.specs.Fmt.{decimal}
 use Rattle.std.specs.List.{list_all, AllByRecursion}
@@ -13,7 +13,7 @@ use Rattle.scad_geom.specs.Within.{IsWithin}
 use Rattle.gcode_text.specs.declared.rates.Rates.{Rates}
 use Rattle.gcode_text.specs.Gcode.{travel_line, print_line, height_line, number_line, heat_line, setup, home, end}
 use Rattle.gcode_text.specs.Numeral.{fixed, millimetres}
-use Rattle.gcode_text.specs.Reading.{lines, line_words, without_return, without_comment, words, number, size_of, whole_size, are_digits}
+use Rattle.gcode_text.specs.Reading.{lines, without_return, without_comment, words, number, size_of, whole_size, are_digits}
 use Rattle.gcode_text.specs.Machine.{State, any, limited, command_of, plain_commands, takes, was_given, with_number, with_word, with_words, words_line, counting, line_step}
 use Rattle.gcode_text.specs.Moves.{IsShort, IsShortPoint}
 use Rattle.gcode_text.proofs.Lines.{AreWords, spaced, line_back, no_feed_in, travel_words, travel_line_is, travel_are_words, print_words, print_line_is, print_are_words, height_words, height_line_is, height_are_words, heat_words, heat_line_is, heat_are_words, in_word, decimal_no_feed, comment_back}

@@ -1,6 +1,5 @@
 -- Right opinions are one, and what the judgement of a program answers is the opinion on it.
-use Rattle.std.proofs.Common.{◌≡◌, ◌≢◌, ℕ, suc, ◌+◌, List, [], ◌∷◌, ◌++◌, length, Result, Ok, Err, refl, sym, ap, ap₂, ◌∙◌, subst, arith}
-use Rattle.std.specs.Prelude.{All}
+use Rattle.std.proofs.Common.{◌≡◌, ℕ, suc, ◌+◌, List, [], ◌∷◌, ◌++◌, length, Result, Ok, Err, refl, sym, ap, ap₂, ◌∙◌, subst}
 use Rattle.std.proofs.lemmas.List.Elements.{recursion_from_All}
 use Rattle.gcode_text.specs.declared.fault.GFault.{GFault}
 use Rattle.gcode_text.specs.declared.machine.Move.{Move}
@@ -8,9 +7,8 @@ use Rattle.cli_text.specs.Cli.{Layer}
 use Rattle.plan_verify.specs.declared.verdict.Verdict.{Verdict}
 use Rattle.plan_verify.specs.declared.verdict.Verdict.TheVariants.{Inside, Outside}
 use Rattle.plan_verify.specs.declared.verdict.VerifyFault.{VerifyFault}
-use Rattle.plan_verify.specs.declared.verdict.VerifyFault.TheVariants.{Memory}
 use Rattle.plan_verify.specs.Stays.{Stays}
-use Rattle.plan_verify.specs.Verdict.{Told, program_moves, extruding, AllDo, IsFirstOut, IsJudgedBy, IsVerdict}
+use Rattle.plan_verify.specs.Verdict.{Told, extruding, AllDo, IsFirstOut, IsJudgedBy, IsVerdict}
 use Rattle.verdict_laws.specs.Opinion.{Opinion, IsOpinion, Opinions, IsWidth, AreRight, Answers}
 use Rattle.std.specs.List.{AllByRecursion}
 

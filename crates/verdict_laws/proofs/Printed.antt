@@ -1,6 +1,6 @@
 -- By its own outlines the moves of a print that extrude stay inside.
-use Rattle.std.proofs.Common.{◌≡◌, ◌⊎◌, inl, inr, ℕ, zero, suc, ◌+◌, ◌*◌, ◌/◌, ◌^◌, ◌<◌, ◌≤◌, Bool, true, false, cond, List, [], ◌∷◌, length, map, flat_map, refl, sym, ap, ◌∙◌, subst, arith, Option, Some, None, Result, Ok, Err}
-use Rattle.std.specs.Prelude.{pos, All, IsSomeAnd, slice_get}
+use Rattle.std.proofs.Common.{◌≡◌, ◌⊎◌, inl, inr, ℕ, zero, suc, ◌+◌, ◌*◌, ◌/◌, ◌≤◌, Bool, true, false, cond, List, [], ◌∷◌, length, map, flat_map, refl, sym, ap, ◌∙◌, subst, arith, Result, Ok, Err}
+use Rattle.std.specs.Prelude.{pos, IsSomeAnd, slice_get}
 use Rattle.std.specs.List.{Any, AllByRecursion}
 use Rattle.std.proofs.lemmas.List.{length-map, length-append}
 use Rattle.std.proofs.lemmas.List.Elements.{All-from_recursion, All-weaker, recursion_from_All}
@@ -11,15 +11,12 @@ use Rattle.scad_geom.specs.Loop.{sides}
 use Rattle.scad_geom.specs.Within.{IsWithin, IsEdgeWithin}
 use Rattle.scad_words.specs.declared.settings.Settings.{Settings}
 use Rattle.scad_words.specs.Settings.{AreInRange}
-use Rattle.scad_tree.specs.Solid.{Solid}
-use Rattle.scad_tree.specs.Solids.{AreSolids}
 use Rattle.plan_walls.specs.Kept as plan
 use Rattle.plan_layer.specs.Kept.{PlansKeepClear}
-use Rattle.plan_layer.specs.Moves.{moves_from, moves, all_moves}
+use Rattle.plan_layer.specs.Moves.{all_moves}
 use Rattle.slice_work.specs.Part.{Layout}
 use Rattle.slice_work.specs.Rates.{rates_of}
 use Rattle.cli_text.specs.Cli.{Layer}
-use Rattle.cli_read.specs.Form.{Reads}
 use Rattle.cli_read.specs.Laws.{TextsSayOneList}
 use Rattle.gcode_text.specs.declared.machine.Move.{Move}
 use Rattle.gcode_text.specs.declared.rates.Rates.{Rates}
@@ -33,7 +30,7 @@ use Rattle.plan_verify.specs.Stays.{KeepsClear, IsInLayer, Stays}
 use Rattle.plan_verify.specs.Verdict as told
 use Rattle.plan_verify.specs.Verdict.{Told, AllDo, program_moves, IsVerdict}
 use Rattle.print_laws.specs.Planned.{IsPlanned, ArePlanned}
-use Rattle.print_laws.specs.Print.{all_outlines, all_paths, written_from, written, program_of, moves_of, extruding, PathSide, sides_from, moves_along, StaysInside, StayInside, PrintLayers, IsPrintOf}
+use Rattle.print_laws.specs.Print.{all_outlines, all_paths, written_from, written, program_of, extruding, PathSide, sides_from, moves_along, StaysInside}
 use Rattle.print_laws.specs.Laws.{PlansArePrintable}
 use Rattle.print_laws.proofs.Numbered.{AreFrom, from_first}
 use Rattle.print_laws.proofs.Points.{plan_within}
@@ -202,17 +199,17 @@ prints_stay_inside clear printable one s tree cli gcode print layers solids rang
     told_moves : (ts : List Told) × (program_moves gcode ≡ Ok ts) × (moves_in ts ≡ print.program.moves)
     told_moves =
         let its = program_told (rates_of s) s.hot_end s.bed (all_paths laid) print.program.moves known
-            (ap machine (sym text) ∙ print.program.made) in
+        (ap machine (sym text) ∙ print.program.made) in
         (its.0, ap program_moves text ∙ its.1, its.2)
 
     inside : AllByRecursion (λ m. m.extruding ≡ true → Stays (written s.layer_height laid) s.line_width m)
         (moves_in told_moves.0)
     inside =
         let each = recursion_from_All (λ (m : Move). m.extruding ≡ true → Stays (written s.layer_height laid) s.line_width m)
-            print.program.moves
-            (All-weaker (λ (m : Move). m.extruding ≡ true → StaysInside s (all_outlines laid) m)
-            (λ (m : Move). m.extruding ≡ true → Stays (written s.layer_height laid) s.line_width m)
-            (λ m p extrudes. stays s laid m (p extrudes)) print.program.moves print.program.inside) in
+        print.program.moves
+        (All-weaker (λ (m : Move). m.extruding ≡ true → StaysInside s (all_outlines laid) m)
+        (λ (m : Move). m.extruding ≡ true → Stays (written s.layer_height laid) s.line_width m)
+        (λ m p extrudes. stays s laid m (p extrudes)) print.program.moves print.program.inside) in
         subst (AllByRecursion (λ m. m.extruding ≡ true → Stays (written s.layer_height laid) s.line_width m))
         (sym told_moves.2) each
 

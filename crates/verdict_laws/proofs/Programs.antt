@@ -1,5 +1,5 @@
 -- The machine does the same along a whole program by limited numbers as by numbers of any size.
-use Rattle.std.proofs.Common.{◌≡◌, ℕ, ◌+◌, ◌*◌, ◌^◌, ◌<◌, ◌≤◌, List, [], ◌∷◌, ◌++◌, length, map, refl, sym, ap, ◌∙◌, subst, arith, Option, Some, None, Result, Ok, Err}
+use Rattle.std.proofs.Common.{◌≡◌, ℕ, ◌+◌, ◌*◌, ◌^◌, ◌<◌, ◌≤◌, List, [], ◌∷◌, ◌++◌, length, map, refl, ap, ◌∙◌, subst, arith, Option, Some, None, Result, Ok, Err}
 use Rattle.std.specs.Prelude.{codes}
 use Rattle.std.specs.List.{AllByRecursion}
 use Rattle.std.proofs.lemmas.List.{append-nil}
@@ -14,7 +14,7 @@ use Rattle.gcode_text.specs.declared.rates.Rates.{Rates}
 use Rattle.gcode_text.specs.Amount.{move_volume, moves_volume, path_volume, paths_volume, layers_volume, filament}
 use Rattle.gcode_text.specs.Gcode.{travel_line, print_line, height_line, number_line, heat_line, moves_text, path_text, paths_text, layers_text, setup, home, head, end, gcode}
 use Rattle.gcode_text.specs.Reading.{lines}
-use Rattle.gcode_text.specs.Machine.{State, After, start, any, limited, command_of, plain_commands, line_step, onto_moves, moves_of_lines, machine}
+use Rattle.gcode_text.specs.Machine.{State, After, start, any, command_of, plain_commands, line_step, onto_moves, moves_of_lines, machine}
 use Rattle.gcode_text.specs.Moves.{IsShort, IsShortPoint, surface}
 use Rattle.gcode_text.proofs.Program.{filament_rises}
 use Rattle.plan_verify.specs.Verdict.{Told, onto, moves_told, program_moves}

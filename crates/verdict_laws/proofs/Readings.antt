@@ -4,12 +4,11 @@ use Rattle.std.specs.Prelude.{◌≡◌, ℕ, ◌+◌, List, [], ◌∷◌, leng
 use Rattle.std.specs.Str.Lines.{lines}
 use Rattle.scad_base.specs.Results.{and_then}
 use Rattle.scad_geom.specs.declared.point.Pt.{Pt}
-use Rattle.scad_geom.specs.declared.point.Edge.{Edge}
-use Rattle.cli_text.specs.Cli.{Layer, polyline_start, hatches_start, layer_start}
+use Rattle.cli_text.specs.Cli.{polyline_start, hatches_start, layer_start}
 use Rattle.cli_read.specs.declared.fault.CliFault.{CliFault}
 use Rattle.cli_read.specs.declared.fault.CliFault.TheVariants.{Memory, BadLine, CountDiffers, OpenLoop}
 use Rattle.cli_read.specs.Form.{count_start, end_line}
-use Rattle.cli_read.specs.Reading.{or_bad, count_of, coordinate_of, words, behind, point_at, points_at, ends_meet, closed_at, direction_at, outline_at, paired_at, some_at, hatched, hatches_at, is_above, height_at, drawn_by, drawn_at, said_by, said_at, last_height, ended_at, geometry_at, fixed_at, count_in, count_at, head_at, layers_at, counted, reading}
+use Rattle.cli_read.specs.Reading.{or_bad, count_of, coordinate_of, words, behind, point_at, points_at, ends_meet, closed_at, direction_at, outline_at, paired_at, some_at, hatches_at, is_above, height_at, drawn_by, drawn_at, said_by, said_at, last_height, ended_at, geometry_at, fixed_at, count_in, count_at, head_at, layers_at, reading}
 
 -- a value, or a fault of a line
 abbrev IsKnown : {A : Type 0} → Result A CliFault → Type 0

@@ -14,7 +14,7 @@ use Rattle.plan_verify.specs.declared.verdict.VerifyFault.{VerifyFault}
 use Rattle.plan_verify.specs.declared.verdict.VerifyFault.TheVariants.{Memory}
 use Rattle.plan_verify.specs.Verdict.{IsVerdict}
 use Rattle.print_laws.specs.Print.{all_paths, IsPrintOf}
-use Rattle.verdict_laws.specs.Opinion.{Opinion, IsOpinion}
+use Rattle.verdict_laws.specs.Opinion.{IsOpinion}
 
 -- the most bytes that a program may have that is judged
 abbrev pub program_limit : ℕ
