@@ -3,6 +3,10 @@ pub mod Deciding
 pub mod Opinions
 pub mod InRange
 pub mod Programs
+pub mod Told
 pub mod Amounts
 pub mod Heights
+pub mod Ranges
+pub mod Inside
+pub mod Extruding
 pub mod Printed

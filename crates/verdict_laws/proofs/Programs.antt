@@ -1,24 +1,19 @@
 -- The machine does the same along a whole program by limited numbers as by numbers of any size.
-use Rattle.std.proofs.Common.{◌≡◌, ℕ, ◌+◌, ◌*◌, ◌^◌, ◌<◌, ◌≤◌, List, [], ◌∷◌, ◌++◌, length, map, refl, ap, ◌∙◌, subst, arith, Option, Some, None, Result, Ok, Err}
+use Rattle.std.proofs.Common.{◌≡◌, ℕ, ◌+◌, ◌*◌, ◌^◌, ◌<◌, ◌≤◌, List, [], ◌∷◌, ◌++◌, length, refl, subst, arith}
 use Rattle.std.specs.Prelude.{codes}
 use Rattle.std.specs.List.{AllByRecursion}
 use Rattle.std.proofs.lemmas.List.{append-nil}
 use Rattle.std.proofs.lemmas.Nat.{mul-le}
-use Rattle.scad_base.specs.Results.{and_then}
 use Rattle.scad_geom.specs.declared.point.Pt.{Pt}
 use Rattle.scad_geom.specs.Limits.{coordinate_limit}
 use Rattle.scad_geom.specs.Within.{IsWithin}
-use Rattle.gcode_text.specs.declared.fault.GFault.{GFault}
-use Rattle.gcode_text.specs.declared.machine.Move.{Move}
 use Rattle.gcode_text.specs.declared.rates.Rates.{Rates}
 use Rattle.gcode_text.specs.Amount.{move_volume, moves_volume, path_volume, paths_volume, layers_volume, filament}
 use Rattle.gcode_text.specs.Gcode.{travel_line, print_line, height_line, number_line, heat_line, moves_text, path_text, paths_text, layers_text, setup, home, head, end, gcode}
-use Rattle.gcode_text.specs.Reading.{lines}
-use Rattle.gcode_text.specs.Machine.{State, After, start, any, command_of, plain_commands, line_step, onto_moves, moves_of_lines, machine}
+use Rattle.gcode_text.specs.Machine.{command_of, plain_commands}
 use Rattle.gcode_text.specs.Moves.{IsShort, IsShortPoint, surface}
 use Rattle.gcode_text.proofs.Program.{filament_rises}
-use Rattle.plan_verify.specs.Verdict.{Told, onto, moves_told, program_moves}
-use Rattle.verdict_laws.proofs.InRange.{IsInRange, LinesAreInRange, LeadsInRange, leads_nowhere, leads_on, leads_travel, leads_print, leads_height, leads_number, leads_heat, leads_setup, leads_home, leads_end, nothing_in_range}
+use Rattle.verdict_laws.proofs.InRange.{LinesAreInRange, LeadsInRange, leads_nowhere, leads_on, leads_travel, leads_print, leads_height, leads_number, leads_heat, leads_setup, leads_home, leads_end, nothing_in_range}
 
 -- ---- paths
 short : (p : Pt) → IsWithin coordinate_limit p → IsShortPoint p
@@ -114,7 +109,7 @@ pub record HasRange (rates : Rates) (hot_end bed : ℕ) (layers : List (List (Li
   pub high : length layers * rates.layer_height ≤ 1100000
   pub amount : filament rates (layers_volume rates layers) ≤ 2000000000000000000
 
-program_in_range : (rates : Rates) (hot_end bed : ℕ) (layers : List (List (List Pt)))
+pub program_in_range : (rates : Rates) (hot_end bed : ℕ) (layers : List (List (List Pt)))
     → HasRange rates hot_end bed layers → LinesAreInRange (gcode rates hot_end bed layers)
 program_in_range rates hot_end bed layers h =
     let none : length layers ≡ 0 + length layers = omega arith in
@@ -126,61 +121,3 @@ program_in_range rates hot_end bed layers h =
     (subst (λ (n : ℕ). n < 10 ^ 64) none h.count)
     (subst (λ (n : ℕ). n * rates.layer_height ≤ 1100000) none h.high) total))
     leads_end [] nothing_in_range)
-
--- ---- the moves that are told with their lines
-value_or : {A : Type 0} → A → Result A GFault → A
-value_or other (Ok a) = a
-value_or other (Err fault) = other
-
-value_is : {A : Type 0} (a b : A) → ◌≡◌ {A = Result A GFault} (Ok a) (Ok b) → a ≡ b
-unfolding value_or
-value_is {A} a b e = ap (λ (r : Result A GFault). value_or a r) e
-
-moves_in : List Told → List Move
-moves_in told = map (λ t. t.move) told
-
-moves_onto : (line : ℕ) (move : Option Move) (told : List Told)
-    → moves_in (onto line move told) ≡ onto_moves move (moves_in told)
-unfolding moves_in
-moves_onto line None told = refl
-moves_onto line (Some move) told = refl
-
-abbrev AreTold : State → List (List ℕ) → List Move → Type 0
-AreTold s ls moves = (told : List Told) × (moves_told s ls ≡ Ok told) × (moves_in told ≡ moves)
-
-told_of : (s : State) (ls : List (List ℕ)) (moves : List Move) → AllByRecursion IsInRange ls
-    → moves_of_lines any s ls ≡ Ok moves → AreTold s ls moves
-unfolding moves_of_lines moves_told moves_in
-told_of s [] moves same e = ([], refl, value_is [] moves e)
-told_of s (text ∷ rest) moves same e =
-    by_line (line_step any s text) refl (λ t ms more. told_of t rest ms same.1 more) e
-  where
-    by_line : (r : Result After GFault) → line_step any s text ≡ r
-        → ((t : State) (ms : List Move) → moves_of_lines any t rest ≡ Ok ms → AreTold t rest ms)
-        → and_then r (λ after. and_then (moves_of_lines any after.state rest)
-        (λ ms. Ok (onto_moves after.move ms))) ≡ Ok moves → AreTold s (text ∷ rest) moves
-    by_line (Err fault) is more e = let never : ⊥ = cc in absurd never
-    by_line (Ok after) is more e = by_rest (moves_of_lines any after.state rest) refl e
-      where
-        told_on : Result (List Told) GFault → Result (List Told) GFault
-        told_on r = and_then r (λ ts. Ok (onto after.state.lines after.move ts))
-
-        by_rest : (r : Result (List Move) GFault) → moves_of_lines any after.state rest ≡ r
-            → and_then r (λ ms. Ok (onto_moves after.move ms)) ≡ Ok moves → AreTold s (text ∷ rest) moves
-        by_rest (Err fault) are e = let never : ⊥ = cc in absurd never
-        by_rest (Ok ms) are e =
-            let told = more after.state ms are in (
-              onto after.state.lines after.move told.0,
-              ap (λ (r : Result After GFault). and_then r (λ after. and_then (moves_told after.state rest)
-                  (λ ts. Ok (onto after.state.lines after.move ts)))) (same.0 s ∙ is) ∙ ap told_on told.1,
-              moves_onto after.state.lines after.move told.0 ∙ ap (onto_moves after.move) told.2
-                  ∙ value_is (onto_moves after.move ms) moves e,
-            )
-
--- the moves of a program whose numbers are in range
-pub program_told : (rates : Rates) (hot_end bed : ℕ) (layers : List (List (List Pt))) (moves : List Move)
-    → HasRange rates hot_end bed layers → machine (gcode rates hot_end bed layers) ≡ Ok moves
-    → (told : List Told) × (program_moves (gcode rates hot_end bed layers) ≡ Ok told) × (map (λ t. t.move) told ≡ moves)
-unfolding moves_in
-program_told rates hot_end bed layers moves h made =
-    told_of start (lines (gcode rates hot_end bed layers)) moves (program_in_range rates hot_end bed layers h) made

@@ -25,8 +25,8 @@ abbrev pub plan_moves : List Layout → ℕ
 plan_moves layers = length (flat_map all_moves (all_paths layers))
 
 -- ---- the laws, of each print of a tree of solids by settings in range whose program is within the limit
--- By the layers that its outlines' file says, the opinion on its program is that all moves that extrude stay inside, and
--- that they are as many as the plans have.
+-- By the layers that its outlines' file says, the opinion on its program is that all moves that extrude stay inside,
+-- and that they are as many as the plans have.
 abbrev pub PrintsStayInside : Type 0
 PrintsStayInside =
     (s : Settings) (tree : Solid) (cli gcode : List ℕ) (print : IsPrintOf s tree cli gcode) (layers : List Layer)
