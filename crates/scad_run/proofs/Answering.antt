@@ -1,12 +1,13 @@
 -- How a script ends that was answered by a status.
-use Rattle.std.proofs.Common.{◌≡◌, ◌≢◌, List, ℕ, refl, sym}
+use Rattle.std.proofs.Common.{◌≡◌, ◌≢◌, ◌⊎◌, inl, inr, List, ℕ, refl, sym}
 use Rattle.scad_fault.specs.declared.status.Status.{Status}
-use Rattle.scad_fault.specs.declared.status.Status.TheVariants.{Done}
+use Rattle.scad_fault.specs.declared.status.Status.TheVariants.{Done, Source, Usage, Settings, Read, Write, Over, Memory, Outside, BadFile}
 use Rattle.scad_io.specs.Desk.{View}
 use Rattle.scad_script.specs.declared.refusal.Refusal.{Refusal}
 use Rattle.scad_script.specs.Steps.{Step}
-use Rattle.scad_script.specs.Script.{Ending, Finishes, Refuses, Lacks, refused}
-use Rattle.scad_script.specs.Promises.{IsAnswered}
+use Rattle.scad_script.specs.Names.{Given}
+use Rattle.scad_script.specs.Script.{Script, Ending, Finishes, Refuses, Lacks, refused}
+use Rattle.scad_script.specs.Promises.{IsAnswered, Promised}
 
 -- with Done it finishes
 pub done_finishes : (steps : List Step) (ending : Ending) (old new : View)
@@ -28,3 +29,18 @@ pub other_refuses : (steps : List Step) (ending : Ending) (status : Status) (old
 other_refuses steps (Finishes line) status old new answered other = absurd (other (sym answered.0))
 other_refuses steps (Refuses refusal) status old new answered other = (refusal, refl, answered.0)
 other_refuses steps Lacks status old new answered other = absurd answered
+
+-- a script is answered, but for a fault or want of memory
+pub answered_by : (given : Given) (whole : Script) (status : Status) (old new : View)
+    → Promised given whole status old new → (status ≡ Read → ⊥) → (status ≡ Write → ⊥)
+    → IsAnswered whole status old new ⊎ (status ≡ Memory)
+answered_by given whole Done old new promised read write = inl promised
+answered_by given whole (Source fault) old new promised read write = inl promised
+answered_by given whole Usage old new promised read write = inl promised
+answered_by given whole (Settings fault) old new promised read write = inl promised
+answered_by given whole Read old new promised read write = absurd (read refl)
+answered_by given whole Write old new promised read write = absurd (write refl)
+answered_by given whole (Over budget) old new promised read write = inl promised
+answered_by given whole Memory old new promised read write = inr refl
+answered_by given whole (Outside number at) old new promised read write = inl promised
+answered_by given whole (BadFile kind first second) old new promised read write = inl promised

@@ -2,7 +2,7 @@
 use Rattle.std.proofs.Common.{◌≡◌, ◌⊎◌, ◌<◌, ◌≤◌, List, ℕ, Option, Some, None, Ok, Err, inl, inr, refl, sym, ap, ◌∙◌, subst, arith}
 use Rattle.scad_fault.specs.declared.budget.Budget.{Budget}
 use Rattle.scad_fault.specs.declared.status.Status.{Status}
-use Rattle.scad_fault.specs.declared.status.Status.TheVariants.{Done, Source, Usage, Settings, Read, Write, Over, Memory, Outside, BadFile}
+use Rattle.scad_fault.specs.declared.status.Status.TheVariants.{Done, Read, Write, Memory}
 use Rattle.scad_io.specs.Desk.{Files, View}
 use Rattle.scad_words.specs.declared.job.Command.{Command}
 use Rattle.scad_words.specs.declared.job.Command.TheVariants.{Check, Tree, Slice, Plan, Sample, Verify}
@@ -32,6 +32,7 @@ use Rattle.scad_run.specs.Answer.{ArePartsOfTree, AreDrawn, AreFoundBy, AreFound
 use Rattle.scad_run.specs.Promises.{CanBeDrawn, Accepts, IsAccepted, IsComplete}
 use Rattle.scad_slice.specs.Layer.{IsWithinLimits}
 use Rattle.scad_run.specs.Causes.{HasManyLayers}
+use Rattle.scad_run.proofs.Answering.{answered_by}
 use Rattle.scad_run.proofs.Working.{model_read_as, settings_read_as, parts_meant}
 use Rattle.scad_run.proofs.Following.{settings_end}
 use Rattle.scad_run.proofs.Sources.{sources_mean_solids, as_part}
@@ -102,24 +103,14 @@ done_of whole line status old new is answered =
 done_by : (given : Given) (whole : Script) (status : Status) (old new : View)
     → (line : List ℕ) × (whole.ending ≡ Finishes line) → Promised given whole status old new
     → (status ≡ Read → ⊥) → (status ≡ Write → ⊥) → (status ≡ Done) ⊎ (status ≡ Memory)
-done_by given whole Done old new finishes promised read write = inl refl
-done_by given whole (Source fault) old new (line, is) promised read write =
-    inl (done_of whole line (Source fault) old new is promised)
-done_by given whole Usage old new (line, is) promised read write = inl (done_of whole line Usage old new is promised)
-done_by given whole (Settings fault) old new (line, is) promised read write =
-    inl (done_of whole line (Settings fault) old new is promised)
-done_by given whole Read old new finishes promised read write = absurd (read refl)
-done_by given whole Write old new finishes promised read write = absurd (write refl)
-done_by given whole (Over budget) old new (line, is) promised read write = inl (done_of whole line (Over budget) old new
-    is promised)
-done_by given whole Memory old new finishes promised read write = inr refl
-done_by given whole (Outside number at) old new (line, is) promised read write =
-    inl (done_of whole line (Outside number at) old new is promised)
-done_by given whole (BadFile kind first second) old new (line, is) promised read write =
-    inl (done_of whole line (BadFile kind first second) old new is promised)
+done_by given whole status old new (line, is) promised read write =
+    elim (answered_by given whole status old new promised read write) [
+      | inl answered ↦ inl (done_of whole line status old new is answered)
+      | inr want ↦ inr want
+    ]
 
 -- no fault rose where the count stands
-no_rise : (before now : ℕ) → now ≡ before → before < now → ⊥
+pub no_rise : (before now : ℕ) → now ≡ before → before < now → ⊥
 no_rise before now same rises = omega (arith, same, rises)
 
 -- a command that has a source judges no files

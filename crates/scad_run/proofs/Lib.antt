@@ -25,3 +25,4 @@ mod Refused
 mod Cutting
 mod Cases
 mod Verified
+mod Confirmed

@@ -1,9 +1,11 @@
--- Laws of what sources mean, of opinions, and that the answer is there and is one.
+-- Laws of what sources mean, of opinions, that the answer is there and is one, and that prints are confirmed.
 use Rattle.std.specs.Prelude.{◌≡◌, ◌≢◌, List, ℕ, Option, Some, None}
 use Rattle.scad_words.specs.declared.job.Job.{Job}
 use Rattle.scad_words.specs.declared.settings.Settings.{Settings}
 use Rattle.scad_words.specs.Job.{job_of}
 use Rattle.scad_words.specs.Settings.{AreInRange}
+use Rattle.scad_fault.specs.declared.status.Status.{Status}
+use Rattle.scad_io.specs.Desk.{Files, View}
 use Rattle.scad_script.specs.declared.loading.Input.{Input}
 use Rattle.scad_script.specs.Script.{answer_of}
 use Rattle.scad_expr.specs.declared.fault.EvalFault.TheVariants.{Memory}
@@ -15,6 +17,7 @@ use Rattle.scad_run.specs.Meaning.{source_means, Means}
 use Rattle.scad_run.specs.Answer.{Findings, script_of, AreFoundBy, AreFound}
 use Rattle.scad_run.specs.Inputs.{Inputs, settings_found}
 use Rattle.scad_run.specs.Causes.{IsMissing}
+use Rattle.scad_run.specs.Confirmed.{Confirms, ConfirmsPrints}
 
 -- the tree that a source means is of solids
 abbrev pub SourcesMeanSolids : Type 0
@@ -49,3 +52,9 @@ abbrev pub AnswersLackFiles : Type 0
 AnswersLackFiles =
     (words : List (List ℕ)) (inputs : Inputs) (found : Findings) → answer_of (script_of words found inputs) ≡ None
     → (job : Job) × (job_of words ≡ Some job) × IsMissing job inputs
+
+-- a run that confirms all verdicts confirms prints: what `plan` writes is answered `inside` by the same settings
+abbrev pub PrintsAreConfirmed : Type 0
+PrintsAreConfirmed =
+    (words : List (List ℕ)) (files : Files) (status : Status) (old new : View) (before now : ℕ)
+    → Confirms words files status old new before now → ConfirmsPrints words files status old new before now

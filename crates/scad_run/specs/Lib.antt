@@ -11,6 +11,7 @@ pub mod Promises
 pub mod Causes
 pub mod Printing
 pub mod Verified
+pub mod Confirmed
 pub mod Cut
 pub mod ByGrammar
 pub mod Headline

@@ -1,6 +1,8 @@
-//! Laws of what sources mean and of the answer, each carried by the contract of a function that does nothing.
+//! Laws of what sources mean, of the answer and of prints, each carried by the contract of a function that does nothing.
 ghost use Rattle.scad_run.specs.Laws.{SourcesMeanSolids, SourcesWantNoMemory, SourcesMeanOne};
-ghost use Rattle.scad_run.specs.Laws.{SettingsAreInRange, AnswersAreThere, AnswersAreOne, AnswersLackFiles};
+ghost use Rattle.scad_run.specs.Laws.{SettingsAreInRange, AnswersAreThere, AnswersAreOne, AnswersLackFiles, PrintsAreConfirmed};
+
+use verdict_laws::laws::prints_stay_inside;
 
 /// The tree that a source means is of solids; no source means that memory is wanting.
 pub fn sources_mean_solids()
@@ -28,3 +30,11 @@ pub fn answers_are_one()
 pub fn answers_lack_files()
     ensures { AnswersLackFiles }
 {}
+
+/// A print of a source's tree, which `plan` writes, is answered `inside` by the same settings, unless memory is wanting or
+/// something fails: each run that confirms all verdicts, as its clause `confirms` says, confirms prints.
+pub fn prints_are_confirmed()
+    ensures { PrintsAreConfirmed }
+{
+    prints_stay_inside();
+}

@@ -10,6 +10,7 @@ ghost use Rattle.scad_run.specs.Headline.{Headline};
 ghost use Rattle.scad_run.specs.Meaning.{Means};
 ghost use Rattle.scad_run.specs.Printing.{PlanAddsPrint};
 ghost use Rattle.scad_run.specs.Verified.{VerifiesMoves};
+ghost use Rattle.scad_run.specs.Confirmed.{Confirms};
 ghost use Rattle.scad_run.specs.Cut.{CutsShort};
 ghost use Rattle.scad_run.specs.ByGrammar.{SourcesGoByGrammar};
 ghost use Rattle.scad_run.specs.Promises.{Answers, OutlinesHoldTree, Refuses, LeavesOutputs, JudgesWords, IsComplete};
@@ -64,6 +65,11 @@ pub fn run<R: Threads + Sync, D: Desk, G: Gate>(
 
     // Where `verify` answers Done each extruding move of the program stays inside the outlines by the clearance.
     ensures verified { result ≡ Status.Done → VerifiesMoves (map string_bytes words.now) (D.files desk.old) }
+
+    // Where each move of the program that extrudes stays inside, `verify` says so, unless memory is wanting or something
+    // fails. So it says of what `plan` wrote by the same settings: the law `prints_are_confirmed`.
+    ensures confirms { Confirms (map string_bytes words.now) (D.files desk.old) result (D.view desk.old) (D.view desk.new)
+        (D.faults desk.old) (D.faults desk.new) }
 
     // When each other status comes, and how the files then stand.
     ensures words { JudgesWords (map string_bytes words.now) result }

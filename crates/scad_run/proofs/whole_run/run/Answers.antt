@@ -21,6 +21,7 @@ use Rattle.scad_run.proofs.Judged.{judges, read_fault, write_fault, memory_line}
 use Rattle.scad_run.proofs.Printed.{holds_tree}
 use Rattle.scad_run.proofs.Printing.{adds_print, headline}
 use Rattle.scad_run.proofs.Verified.{verifies_moves}
+use Rattle.scad_run.proofs.Confirmed.{confirms}
 use Rattle.scad_run.proofs.Cutting.{cuts_short}
 use Rattle.scad_run.proofs.ByGrammar.{sources_go_by_grammar}
 use Rattle.scad_run.proofs.Refused.{leaves, refuses_so}
@@ -135,6 +136,12 @@ pub returns-clause-verified : goal.returns-clause-verified
 returns-clause-verified g c =
     verifies_moves (words g c) (files g c) (inputs g c) (found g c) c.report.result (before g c) (after g c)
     (played g c).read (are_found g c) (promised g c)
+
+pub returns-clause-confirms : goal.returns-clause-confirms
+returns-clause-confirms g c =
+    confirms (words g c) (files g c) (found g c) (inputs g c) c.report.result (before g c) (after g c)
+    (g.D.Desk.faults c.args.desk.now)
+    (g.D.Desk.faults c.report.new.desk) (played g c).read (are_found g c) (promised g c) (search rules) (search rules)
 
 pub returns-clause-headline : goal.returns-clause-headline
 returns-clause-headline g c =
