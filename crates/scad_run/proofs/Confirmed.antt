@@ -1,6 +1,6 @@
 -- When `verify` says yes.
 use Rattle.std.proofs.Common.{◌≡◌, ◌⊎◌, ◌<◌, ◌≤◌, ◌+◌, ◌++◌, List, [], ◌∷◌, ℕ, suc, Bool, true, false, nat_lt, Option, Some, None, Result, Ok, Err, inl, inr, refl, sym, ap, ◌∙◌, subst, length, arith}
-use Rattle.std.specs.Prelude.{IsSomeAnd, option_map, unwrap_or, if◌then◌else◌}
+use Rattle.std.specs.Prelude.{option_map, unwrap_or, if◌then◌else◌}
 use Rattle.std.specs.Option.{option_and_then}
 use Rattle.std.proofs.lemmas.Bool.Decides.{nat_tests}
 use Rattle.scad_fault.specs.declared.settings.SetFault.{SetFault}
@@ -11,32 +11,27 @@ use Rattle.scad_io.specs.declared.desk.Out.TheVariants.{Report}
 use Rattle.scad_words.specs.declared.job.Command.TheVariants.{Verify}
 use Rattle.scad_words.specs.declared.job.Job.{Job}
 use Rattle.scad_words.specs.declared.settings.Settings.{Settings as SettingsOfRun}
-use Rattle.scad_words.specs.Job.{job_of}
 use Rattle.scad_words.specs.Settings.{settings_of}
 use Rattle.scad_script.specs.declared.loading.Input.{Input}
 use Rattle.scad_script.specs.declared.loading.Input.TheVariants.{Whole, Long}
-use Rattle.scad_script.specs.Steps.{Step, text_of}
-use Rattle.scad_script.specs.Script.{Script, Ending, Finishes, ends, input_of}
-use Rattle.scad_script.specs.Names.{Given}
+use Rattle.scad_script.specs.Steps.{text_of}
+use Rattle.scad_script.specs.Script.{Script, Ending, Finishes, input_of}
 use Rattle.scad_script.specs.Promises.{Adds, IsAnswered, Promised}
 use Rattle.cli_text.specs.Cli.{Layer}
-use Rattle.cli_read.specs.declared.fault.CliFault.{CliFault}
 use Rattle.cli_read.specs.Form.{Reads}
-use Rattle.cli_read.specs.Reading.{reading}
 use Rattle.cli_read.proofs.Texts.{reading_back}
 use Rattle.plan_verify.specs.declared.verdict.Verdict.TheVariants.{Inside}
 use Rattle.plan_verify.specs.Verdict.{IsVerdict}
 use Rattle.slice_work.specs.Part.{Layout}
-use Rattle.print_laws.specs.Print.{written_from, written, IsPrintOf}
-use Rattle.verdict_laws.specs.Opinion.{Opinion}
+use Rattle.print_laws.specs.Print.{written_from, written}
 use Rattle.verdict_laws.specs.Printed.{plan_moves, PrintsStayInside}
 use Rattle.verdict_laws.proofs.Opinions.{answers_opinion}
 use Rattle.scad_run.specs.Words.{Case, given_by}
-use Rattle.scad_run.specs.Judging.{inside_line, opinion_end, judged_end, judgement, whole_then, file_then, case_script}
+use Rattle.scad_run.specs.Judging.{inside_line, opinion_end, judged_end, judgement, case_script}
 use Rattle.scad_run.specs.Answer.{Findings, judged_script, settings_script, after_settings, job_script, script_of, AreFound}
 use Rattle.scad_run.specs.Inputs.{Inputs, accepted, settings_found, file_limit, outlines_read, program_read, IsRead}
 use Rattle.scad_run.specs.Laws.{PrintsAreConfirmed}
-use Rattle.scad_run.specs.Confirmed.{AreGiven, SaysInside, Confirms, ConfirmsPrints}
+use Rattle.scad_run.specs.Confirmed.{AreGiven, SaysInside, Confirms}
 use Rattle.scad_run.proofs.Answering.{answered_by}
 use Rattle.scad_run.proofs.Completed.{no_rise}
 use Rattle.scad_run.proofs.Heights.{found_in_range, width_in_range}

@@ -40,8 +40,8 @@ abbrev pub SaysInside : ℕ → ℕ → Status → View → View → Type 0
 SaysInside layers moves status old new =
     ((status ≡ Done) × Adds (inside_line layers moves) old.report new.report) ⊎ (status ≡ Memory)
 
--- So it is where the outlines say layers, by which each of so many moves of the program that extrude stays inside, and
--- the count of faults doesn't rise.
+-- So it is where the outlines say layers, by which each of so many moves of the program that extrude stays inside,
+-- and the count of faults doesn't rise.
 abbrev pub Confirms : List (List ℕ) → Files → Status → View → View → ℕ → ℕ → Type 0
 Confirms words files status old new before now =
     IfSome files (λ contents. (settings : Settings) (outlines program : List ℕ) (layers : List Layer) (moves : ℕ)
