@@ -6,3 +6,7 @@ mod Mending
 mod Groups
 mod Waking
 mod Lifted
+mod Starts
+mod RayOrder
+mod RayBundles
+mod RaySteps
