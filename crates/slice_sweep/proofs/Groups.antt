@@ -2,17 +2,19 @@
 use Rattle.std.proofs.Common.{◌≡◌, ℕ, zero, suc, ◌+◌, ◌-◌, ◌<◌, ◌≤◌, ◌⊎◌, inl, inr, Bool, true, false, cond, List, [], ◌∷◌, ◌++◌, length, get_or, take, drop, filter, refl, sym, ap, ap₂, ◌∙◌, arith, subst, append_assoc, IsPermutation, All}
 use lib.IntN.{pos, ◌*ℤ◌}
 use lib.Signed.{◌<ℤ◌, ◌≤ℤ◌}
-use Rattle.std.specs.Prelude.{int_lt, int_le, ◌&&◌}
+use Rattle.std.specs.Prelude.{int_lt, int_le, nat_lt, ◌&&◌}
+use Rattle.std.specs.Ordering.{int_eq}
+use Rattle.std.specs.Cmp.{signed_Decides}
 use Rattle.std.specs.List.{AllByRecursion, concat}
 use Rattle.std.proofs.lemmas.Bool.{and_parts}
 use Rattle.std.proofs.lemmas.Int.{ints}
-use Rattle.std.proofs.lemmas.List.{append-nil, length-append, length-drop, take-append-drop, get_or-take, get_or-drop, length-take-le, take_at, drop_at, drop-drop, append_cancel_right}
+use Rattle.std.proofs.lemmas.List.{append-nil, length-append, length-drop, take-append-drop, get_or-take, get_or-drop, get_or_read, length-take-le, take_at, drop_at, drop-drop, append_cancel_right}
 use Rattle.std.proofs.lemmas.List.Elements.{All-from_recursion, recursion_from_All}
 use Rattle.scad_geom.specs.Limits.{coordinate_limit}
 use Rattle.scad_geom.specs.declared.point.Edge.{Edge}
 use Rattle.scad_geom.specs.declared.level.Level.{Level}
 use Rattle.scad_geom.specs.declared.level.LeafEdge.{LeafEdge}
-use Rattle.scad_geom.specs.Line.{low, high, rise}
+use Rattle.scad_geom.specs.Line.{low, high, rise, x_at}
 use Rattle.scad_geom.specs.Level.{level_of, IsLower, IsAtMost, IsLevelWithin}
 use Rattle.scad_geom.specs.Heights.{heights, AreNeighbours}
 use Rattle.scad_geom.proofs.Order.{all_ends}
@@ -21,7 +23,7 @@ use Rattle.slice_slab.specs.Bundles.{no_edge, edge_at, reaches, AreRanked}
 use Rattle.slice_sweep.specs.declared.strand.Strand.{Strand}
 use Rattle.slice_sweep.specs.Keys.{IsBelowKey}
 use Rattle.slice_sweep.specs.Chains.{Chain, Joins}
-use Rattle.slice_sweep.specs.Strands.{numbers_in, LiesLeft, IsTogether, IsReaching, IsHeld, AreHeld, AreApart, AreWaiting, EndAbove, AreThere, weakened, fresh, no_strand, strand_at}
+use Rattle.slice_sweep.specs.Strands.{head, numbers_in, LiesLeft, IsTogether, IsReaching, IsHeld, AreHeld, AreApart, AreWaiting, EndAbove, AreThere, weakened, fresh, no_strand, strand_at}
 use Rattle.slice_sweep.specs.Mending.{AreMended, AreOrdered, AreMendedTo, KeepTimes, IsGroup}
 use Rattle.slice_sweep.proofs.Lists.{chain_from, joins_from, chain_at, joins_nil, weaker}
 use Rattle.slice_sweep.proofs.Starting.{put_between}
@@ -287,3 +289,37 @@ all_mended es l u p L m o = by_rest m.rest m.is
     by_rest (s ∷ rest) e =
         let size = m.size in
         absurd (omega (arith, ap length e, length-append m.done (s ∷ rest), size, o))
+
+-- ---- one more strand at a place
+pub together_more : (es : List LeafEdge) (l : Level) (L : List Strand) (from to : ℕ) (s t : Strand)
+    → ((i : ℕ) → from ≤ i → i + 1 < to → IsTogether es l (strand_at L i) (strand_at L (i + 1))) → from < to
+    → to < length L → s ≡ get_or L (to - 1) s → t ≡ get_or L to t
+    → int_eq (x_at (head es s.bundle) l.n l.d *ℤ rise (head es t.bundle))
+    (x_at (head es t.bundle) l.n l.d *ℤ rise (head es s.bundle)) ≡ true
+    → (i : ℕ) → from ≤ i → i + 1 < to + 1 → IsTogether es l (strand_at L i) (strand_at L (i + 1))
+together_more es l L from to s t h some there es-is et-is e i o q = by_test (nat_lt (i + 1) to) refl
+  where
+    less : nat_lt (i + 1) to ≡ true → i + 1 < to
+    less v = grind arith
+
+    last : nat_lt (i + 1) to ≡ false → i + 1 ≡ to
+    last v = let u = not_less (i + 1) to v in omega arith
+      where
+        not_less : (m n : ℕ) → nat_lt m n ≡ false → n ≤ m
+        not_less m n v = grind arith
+
+    both : IsTogether es l s t
+    both = (signed_Decides (x_at (head es s.bundle) l.n l.d *ℤ rise (head es t.bundle))
+        (x_at (head es t.bundle) l.n l.d *ℤ rise (head es s.bundle))).0 e
+
+    by_test : (b : Bool) → nat_lt (i + 1) to ≡ b → IsTogether es l (strand_at L i) (strand_at L (i + 1))
+    by_test true v = h i o (less v)
+    by_test false v =
+        let m = last v in
+        let n : to - 1 ≡ i = omega arith in
+        let a : s ≡ strand_at L i = get_or_read L (to - 1) s (omega arith) es-is no_strand
+        ∙ ap (λ (j : ℕ). strand_at L j) n in
+        let b : t ≡ strand_at L (i + 1) = get_or_read L to t there et-is no_strand
+        ∙ ap (λ (j : ℕ). strand_at L j) (sym m) in
+        subst (λ (x : Strand). IsTogether es l x (strand_at L (i + 1))) a
+        (subst (λ (x : Strand). IsTogether es l s x) b both)

@@ -27,7 +27,7 @@ floor_is (pos a) (pos d) q h e = rw e (omega (arith, ints), omega (arith, ints))
 floor_is (negsuc a) (pos d) q h e = rw e (omega (arith, ints), omega (arith, ints))
 floor_is n (negsuc d) q h e = absurd (omega (arith, ints))
 
-times_at_most : (a b c : ℤ) → pos 0 <ℤ c → a ≤ℤ b → (a *ℤ c) ≤ℤ (b *ℤ c)
+pub times_at_most : (a b c : ℤ) → pos 0 <ℤ c → a ≤ℤ b → (a *ℤ c) ≤ℤ (b *ℤ c)
 times_at_most a b c h k =
     let m = at_least_mul (b -ℤ a) c (omega (arith, ints)) (omega (arith, ints)) in
     let p = sub_mul b a c in
@@ -60,6 +60,13 @@ never_below l h w d o b =
     lowest_at_most : (n d : ℤ) → pos 0 <ℤ d → unsigned_abs n ≤ coordinate_limit * unsigned_abs d
         → (negsuc 1099999 *ℤ d) ≤ℤ (n *ℤ pos 1)
     lowest_at_most n d p s = omega (arith, ints)
+
+-- nor below a lower one
+pub never_below_less : (l h : Level) (wake : ℤ) → IsLevelWithin coordinate_limit l → pos 0 <ℤ h.d → IsAtMost l h
+    → wake ≤ℤ stale → IsBelowKey h wake → ⊥
+never_below_less l h wake w d o k b =
+    let m = times_at_most wake stale h.d d k in
+    never_below l h w d o (omega (arith, ints, m, b))
 
 swap_last : (a b c : ℤ) → (a *ℤ b) *ℤ c ≡ (a *ℤ c) *ℤ b
 swap_last a b c = ring (a ∷ b ∷ c ∷ []) ((v0 ⊗ v1) ⊗ v2) ((v0 ⊗ v2) ⊗ v1) refl
@@ -128,3 +135,13 @@ left_always e f l h dl dh a o k =
           let r = negative_product (lean e f) (h.n *ℤ l.d -ℤ l.n *ℤ h.d) g (lean_below e f c.1) in
           omega (arith, ints, i, q, r)
     ]))
+
+-- as the code finds the key of a meeting
+pub meeting_by : (key q l lean n a apart : ℤ) → (key ≤ℤ stale) ⊎ (key ≤ℤ q) → (q *ℤ l) ≤ℤ n → n ≡ a *ℤ parts → l ≡ lean
+    → a ≡ apart → pos 0 <ℤ lean → (key ≤ℤ stale) ⊎ ((key *ℤ lean) ≤ℤ (apart *ℤ parts))
+meeting_by key q l lean n a apart (inl k) o e f g p = inl k
+meeting_by key q l lean n a apart (inr k) o e f g p =
+    let m = times_at_most key q lean p k in
+    let o' : (q *ℤ lean) ≤ℤ n = subst (λ (z : ℤ). (q *ℤ z) ≤ℤ n) f o in
+    let e' : n ≡ apart *ℤ parts = subst (λ (z : ℤ). n ≡ z *ℤ parts) g e in
+    inr (omega (arith, ints, m, o', e'))

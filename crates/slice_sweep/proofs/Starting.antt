@@ -3,7 +3,7 @@ use Rattle.std.proofs.Common.{◌≡◌, ℕ, zero, suc, ◌+◌, ◌-◌, ◌<�
 use lib.Signed.{◌<ℤ◌, ◌≤ℤ◌}
 use Rattle.std.specs.List.{AllByRecursion, concat}
 use Rattle.std.proofs.lemmas.Int.{ints}
-use Rattle.std.proofs.lemmas.List.{length-drop, take-append-drop, get_or-take, get_or-drop, length-take-le, take_at, drop_at, drop-drop}
+use Rattle.std.proofs.lemmas.List.{length-drop, take-append-drop, get_or-take, get_or-drop, length-take-le, take_at, take_more, drop_at, drop-drop}
 use Rattle.scad_geom.specs.Limits.{coordinate_limit}
 use Rattle.scad_geom.specs.declared.point.Edge.{Edge}
 use Rattle.scad_geom.specs.declared.level.Level.{Level}
@@ -11,6 +11,7 @@ use Rattle.scad_geom.specs.declared.level.LeafEdge.{LeafEdge}
 use Rattle.scad_geom.specs.Level.{IsLevelWithin}
 use Rattle.scad_geom.proofs.Order.{front, back}
 use Rattle.slice_slab.specs.Active.{times}
+use Rattle.slice_slab.proofs.Times.{times-append}
 use Rattle.slice_slab.specs.Bundles.{edge_at}
 use Rattle.slice_slab.specs.KeptOrder.{IsLeftAt, IsNotRightAt}
 use Rattle.slice_sweep.specs.declared.strand.Strand.{Strand}
@@ -134,3 +135,16 @@ started_by es l w L X W new i k e o r left right h we ne =
       subst (λ (xs : List Strand). (j : ℕ) → times j (numbers_in xs) ≡ times j (numbers_in L) + times j (k ∷ [])) is
           (started_times es l w L i k o' r left' right' h),
     )
+
+-- one more of the numbers of edges that start
+pub started_more : (k : ℕ) (L old new : List Strand) (ks : List ℕ) (i : ℕ) → i < length ks
+    → times k (numbers_in old) ≡ times k (numbers_in L) + times k (take i ks)
+    → times k (numbers_in new) ≡ times k (numbers_in old) + times k (get_or ks i 0 ∷ [])
+    → times k (numbers_in new) ≡ times k (numbers_in L) + times k (take (i + 1) ks)
+started_more k L old new ks i o p q =
+    sums (times k (numbers_in new)) (times k (numbers_in old)) (times k (get_or ks i 0 ∷ [])) (times k (numbers_in L))
+    (times k (take i ks)) (times k (take (i + 1) ks)) q p
+    (ap (times k) (take_more ks i 0 o) ∙ times-append k (take i ks) (get_or ks i 0 ∷ []))
+  where
+    sums : (a b c d e f : ℕ) → a ≡ b + c → b ≡ d + e → f ≡ e + c → a ≡ d + f
+    sums a b c d e f r s t = omega arith

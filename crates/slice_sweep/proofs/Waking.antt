@@ -18,7 +18,7 @@ use Rattle.slice_sweep.specs.Keys.{parts, IsBelowKey, stale}
 use Rattle.slice_sweep.specs.Chains.{Chain}
 use Rattle.slice_sweep.specs.Strands.{bundles_of, EndAbove, LiesLeft, IsReaching, IsHeld, AreHeld, no_strand, strand_at}
 use Rattle.slice_sweep.specs.Mending.{ComesBefore, AreMended, AreOrdered}
-use Rattle.slice_sweep.proofs.Keys.{below_whole, never_below, left_until, left_always}
+use Rattle.slice_sweep.proofs.Keys.{below_whole, never_below_less, left_until, left_always}
 use Rattle.slice_sweep.proofs.Lists.{chain_at, weaker}
 
 -- edges of which none ends below a whole height end above each height below its key
@@ -31,13 +31,13 @@ ends_by es b least wake o a h d q =
 
 -- an edge lies to the left of another that it comes before, up to the key of their meeting
 pub left_by : (e f : Edge) (wake : ℤ)
-    → (pos 0 <ℤ lean e f → (wake ≡ stale) ⊎ ((wake *ℤ lean e f) ≤ℤ (apart f e *ℤ parts)))
+    → (pos 0 <ℤ lean e f → (wake ≤ℤ stale) ⊎ ((wake *ℤ lean e f) ≤ℤ (apart f e *ℤ parts)))
     → (at h : Level) → IsLevelWithin coordinate_limit at → IsBefore at e f → pos 0 <ℤ h.d → IsLower at h
     → IsBelowKey h wake → IsLeftAt h e f
 left_by e f wake m at h w o d a b =
     by_lt_z (pos 0) (lean e f)
     (λ k. elim (m k) [
-      | inl s ↦ absurd (never_below at h w d (lower_weak at h a) (subst (IsBelowKey h) s b))
+      | inl s ↦ absurd (never_below_less at h wake w d (lower_weak at h a) s b)
       | inr s ↦ left_until e f h wake d k s b
     ])
     (λ k. left_always e f at h w.positive d k o a)

@@ -1,9 +1,10 @@
 -- Strands without keys.
-use Rattle.std.proofs.Common.{◌≡◌, ℕ, zero, suc, ◌+◌, ◌<◌, ◌≤◌, List, [], ◌∷◌, ◌++◌, length, get_or, set, take, drop, refl, sym, ap, ◌∙◌, arith, subst, zero-add}
+use Rattle.std.proofs.Common.{◌≡◌, ℕ, zero, suc, ◌+◌, ◌-◌, ◌<◌, ◌≤◌, List, [], ◌∷◌, ◌++◌, length, get_or, set, take, drop, refl, sym, ap, ◌∙◌, arith, subst, zero-add}
 use lib.IntN.{pos}
 use lib.Signed.{◌<ℤ◌}
 use Rattle.std.specs.List.{AllByRecursion, concat}
 use Rattle.std.proofs.lemmas.Int.{ints}
+use Rattle.std.proofs.lemmas.List.{length-append, length-take-le}
 use Rattle.scad_base.proofs.Lists.{AllByRecursion-append}
 use Rattle.scad_geom.specs.Limits.{coordinate_limit}
 use Rattle.scad_geom.specs.declared.level.Level.{Level}
@@ -44,6 +45,22 @@ weakened_at [] n d o = absurd (omega arith)
 weakened_at (s ∷ ss) zero d o = refl
 weakened_at (s ∷ []) (suc n) d o = absurd (omega arith)
 weakened_at (s ∷ (t ∷ ss)) (suc n) d o = ap (λ (xs : List Strand). s ∷ xs) (weakened_at (t ∷ ss) n d (omega arith))
+
+-- as the code writes it
+pub weakened_by : (ss : List Strand) (p : ℕ) (x : Strand) → 0 < p → p ≤ length ss → x ≡ get_or ss (p - 1) x
+    → set ss (p - 1) (restaled x) ≡ weakened (take p ss) ++ drop p ss
+weakened_by ss zero x o q e = absurd (omega arith)
+weakened_by ss (suc n) x o q e =
+    let m : suc n - 1 ≡ n = omega arith in
+    let r : x ≡ get_or ss n x = subst (λ (i : ℕ). x ≡ get_or ss i x) m e in
+    subst (λ (i : ℕ). set ss i (restaled x) ≡ weakened (take (suc n) ss) ++ drop (suc n) ss) (sym m)
+    (ap (λ (s : Strand). set ss n (restaled s)) r ∙ weakened_at ss n x (omega arith))
+
+pub weakened_within : (ss W : List Strand) (p : ℕ) → p ≤ length ss → W ≡ weakened (take p ss) ++ drop p ss
+    → p ≤ length W
+weakened_within ss W p o e =
+    omega (arith, ap length e, length-append (weakened (take p ss)) (drop p ss), length_weakened (take p ss),
+    length-take-le p ss o)
 
 module _ (P : Strand → Type 0) (f : (s : Strand) → P s → P (restaled s)) where
   pub all_weakened : (ss : List Strand) → AllByRecursion P ss → AllByRecursion P (weakened ss)

@@ -34,7 +34,7 @@ pub(crate) fn meeting_key(e: &Edge, f: &Edge, most: i64) -> i64
     requires f { IsEdgeWithin coordinate_limit f.now }
     ensures most { result ≤ℤ most }
     ensures meeting { pos 0 <ℤ lean e.now f.now
-        → (result ≡ stale) ⊎ ((result *ℤ lean e.now f.now) ≤ℤ (apart f.now e.now *ℤ parts)) }
+        → (result ≤ℤ stale) ⊎ ((result *ℤ lean e.now f.now) ≤ℤ (apart f.now e.now *ℤ parts)) }
 {
     let lean = lean(e, f);
     if lean > 0 {
@@ -46,9 +46,9 @@ pub(crate) fn meeting_key(e: &Edge, f: &Edge, most: i64) -> i64
 
 fn least(key: i128, most: i64) -> i64
     ensures most { result ≤ℤ most }
-    ensures key { (result ≡ stale) ⊎ (result ≤ℤ key) }
+    ensures key { (result ≤ℤ stale) ⊎ (result ≤ℤ key) }
 {
-    if key >= most as i128 {
+    if most < STALE || key >= most as i128 {
         most
     } else if key < STALE as i128 {
         STALE

@@ -1,5 +1,5 @@
 //! From when on a strand is looked at.
-ghost use Rattle.std.specs.Prelude.{◌≡◌, ◌<◌, ◌+◌, ◌<ℤ◌, ◌≤ℤ◌, ℕ, pos, length, All};
+ghost use Rattle.std.specs.Prelude.{◌≡◌, ◌<◌, ◌+◌, ◌<ℤ◌, ◌≤ℤ◌, ℕ, ℤ, pos, length, All};
 ghost use Rattle.scad_geom.specs.declared.level.Level.{Level};
 ghost use Rattle.scad_geom.specs.Limits.{coordinate_limit};
 ghost use Rattle.scad_geom.specs.Line.{high, rise};
@@ -56,13 +56,34 @@ fn wake_of(edges: &[LeafEdge], strands: &[Strand], i: usize) -> i64
         → IsLower at h → IsBelowKey h result
         → LiesLeft edges.now h (strand_at strands.now i) (strand_at strands.now (i + 1)) }
 {
-    let end = whole_key(least_end(edges, strands[i].bundle.as_slice()));
+    let end = end_key(edges, &strands[i]);
     if i + 1 == strands.len() {
         return end;
     }
-    let e = head(edges, &strands[i].bundle);
-    let f = head(edges, &strands[i + 1].bundle);
-    meeting_key(&e, &f, end)
+    side_key(edges, &strands[i], &strands[i + 1], end)
+}
+
+// A key up to which, and up to each lower one, none of a strand's edges ends.
+fn end_key(edges: &[LeafEdge], s: &Strand) -> i64
+    requires there { All (λ k. k < length edges.now) s.now.bundle }
+    ensures { (h : Level) (wake : ℤ) → pos 0 <ℤ h.d → wake ≤ℤ result → IsBelowKey h wake
+        → EndAbove edges.now h s.now.bundle }
+{
+    whole_key(least_end(edges, s.bundle.as_slice()))
+}
+
+// A key up to which a strand lies to the left of another that it comes before, no greater than another key.
+fn side_key(edges: &[LeafEdge], s: &Strand, t: &Strand, most: i64) -> i64
+    requires within { All (λ e. IsEdgeWithin coordinate_limit e.edge) edges.now }
+    requires first { All (λ k. k < length edges.now) s.now.bundle }
+    requires second { All (λ k. k < length edges.now) t.now.bundle }
+    ensures most { result ≤ℤ most }
+    ensures left { (at h : Level) → IsLevelWithin coordinate_limit at → ComesBefore edges.now at s.now t.now
+        → pos 0 <ℤ h.d → IsLower at h → IsBelowKey h result → LiesLeft edges.now h s.now t.now }
+{
+    let e = head(edges, &s.bundle);
+    let f = head(edges, &t.bundle);
+    meeting_key(&e, &f, most)
 }
 
 // The height at which the first of these edges ends.
@@ -72,9 +93,17 @@ fn least_end(edges: &[LeafEdge], numbers: &[u32]) -> i32
 {
     let mut least = i32::MAX;
     'numbers: for k in numbers {
-        least = lower(least, high(&edges[*k as usize].edge).y);
+        least = lower(least, end_of(edges, *k));
     }
     least
+}
+
+// The height at which an edge ends.
+fn end_of(edges: &[LeafEdge], k: u32) -> i32
+    requires { k < length edges.now }
+    ensures { result ≡ (high (edge_at edges.now k)).y }
+{
+    high(&edges[k as usize].edge).y
 }
 
 fn lower(a: i32, b: i32) -> i32
@@ -87,7 +116,8 @@ fn lower(a: i32, b: i32) -> i32
 /// The first edge of a bundle.
 pub(crate) fn head(edges: &[LeafEdge], bundle: &Bundle) -> Edge
     requires there { All (λ k. k < length edges.now) bundle.now }
-    ensures { result ≡ head edges.now bundle.now }
+    ensures value { result ≡ head edges.now bundle.now }
+    ensures within { All (λ e. IsEdgeWithin coordinate_limit e.edge) edges.now → IsEdgeWithin coordinate_limit result }
 {
     match bundle.as_slice() {
         [] => Edge {
