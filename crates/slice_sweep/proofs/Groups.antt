@@ -17,9 +17,10 @@ use Rattle.scad_geom.specs.declared.level.LeafEdge.{LeafEdge}
 use Rattle.scad_geom.specs.Line.{low, high, rise, x_at}
 use Rattle.scad_geom.specs.Level.{level_of, IsLower, IsAtMost, IsLevelWithin}
 use Rattle.scad_geom.specs.Heights.{heights, AreNeighbours}
-use Rattle.scad_geom.proofs.Order.{all_ends}
+use Rattle.scad_geom.proofs.Order.{front, back, all_ends}
 use Rattle.slice_slab.specs.Active.{times}
 use Rattle.slice_slab.specs.Bundles.{no_edge, edge_at, reaches, AreRanked}
+use Rattle.slice_slab.specs.KeptOrder.{IsSamePlaceAt, AllStand}
 use Rattle.slice_sweep.specs.declared.strand.Strand.{Strand}
 use Rattle.slice_sweep.specs.Keys.{IsBelowKey}
 use Rattle.slice_sweep.specs.Chains.{Chain, Joins}
@@ -28,7 +29,7 @@ use Rattle.slice_sweep.specs.Mending.{AreMended, AreOrdered, AreMendedTo, KeepTi
 use Rattle.slice_sweep.proofs.Lists.{chain_from, joins_from, chain_at, joins_nil, weaker}
 use Rattle.slice_sweep.proofs.Starting.{put_between}
 use Rattle.slice_sweep.proofs.Weakening.{length_weakened, length_fresh}
-use Rattle.slice_sweep.proofs.Mending.{as_it_is, strict_heads, regrouped, regrouped_times}
+use Rattle.slice_sweep.proofs.Mending.{as_it_is, strict_heads, members_there, stand_together, regrouped, regrouped_times}
 
 -- ---- edges that go on
 reaches_up : (e : Edge) (l u : Level) → reaches e l l ≡ true → int_le u.n ((high e).y *ℤ u.d) ≡ true
@@ -133,6 +134,20 @@ module _ (es : List LeafEdge) (l u : Level) (n : AreNeighbours es l u) (p : ℕ)
       let h = subst (λ (i : ℕ). AreHeld es l (strand_at L p) (strand_at L i)) i (ordered_here q') in
       strict_heads es l (strand_at L p) (strand_at L (p + 1)) h.order (a q))
 
+-- as the code finds it
+pub alone_by : (es : List LeafEdge) (l u : Level) (n : AreNeighbours es l u) (p : ℕ) (L X Y : List Strand) (end : ℕ)
+    (m : AreMendedTo es l u p L) (o : p < length L) → X ≡ L → Y ≡ L → end ≡ p + 1
+    → All (λ k. int_le u.n ((high (edge_at es k)).y *ℤ u.d) ≡ true) (strand_at Y p).bundle
+    → ((i : ℕ) → i + 1 ≡ end → end < length X → IsTogether es l (strand_at X i) (strand_at X (i + 1)) → ⊥)
+    → AreMendedTo es l u (p + 1) L
+alone_by es l u n p L X Y end m o x y e on apart =
+    let P : ℕ → Type 0 = λ k. int_le u.n ((high (edge_at es k)).y *ℤ u.d) ≡ true in
+    let on' : All P (strand_at L p).bundle = subst (λ (ys : List Strand). All P (strand_at ys p).bundle) y on in
+    let apart' = subst (λ (xs : List Strand). (i : ℕ) → i + 1 ≡ end → end < length xs
+    → IsTogether es l (strand_at xs i) (strand_at xs (i + 1)) → ⊥) x apart in
+    alone es l u n p L m o (recursion_from_All P (strand_at L p).bundle on')
+    (λ q. apart' p (sym e) (subst (λ (i : ℕ). i < length L) (sym e) q))
+
 -- ---- a group
 numbers_append : (xs ys : List Strand) → numbers_in (xs ++ ys) ≡ numbers_in xs ++ numbers_in ys
 numbers_append [] ys = refl
@@ -141,10 +156,8 @@ numbers_append (x ∷ xs) ys =
     ∙ sym (append_assoc x.bundle (numbers_in xs) (numbers_in ys))
 
 module _ (es : List LeafEdge) (l u : Level) (w : IsLevelWithin coordinate_limit l) (n : AreNeighbours es l u)
-    (from to : ℕ) (L : List Strand) (m : AreMendedTo es l u from L) (q : IsGroup es l from to L)
-    (bs : List (List ℕ)) (numbers : List ℕ)
-    (split : numbers ++ numbers_in (drop to L) ≡ numbers_in (drop from L)) (ranks : AreRanked es l bs)
-    (same : IsPermutation (filter (λ k. reaches (edge_at es k) l u) numbers) (concat bs)) where
+    (from to : ℕ) (L : List Strand) (m : AreMendedTo es l u from L) (q : IsGroup es l from to L) (numbers : List ℕ)
+    (split : numbers ++ numbers_in (drop to L) ≡ numbers_in (drop from L)) where
   some : from < to
   some = q.some
 
@@ -159,9 +172,6 @@ module _ (es : List LeafEdge) (l u : Level) (w : IsLevelWithin coordinate_limit 
 
   abbrev O : List Strand
   O = drop to L
-
-  abbrev put : List Strand
-  put = weakened (take from L) ++ (fresh bs ++ O)
 
   long : count ≤ length R
   long = omega (arith, length-drop from L, some, within)
@@ -215,52 +225,76 @@ module _ (es : List LeafEdge) (l u : Level) (w : IsLevelWithin coordinate_limit 
   L_is : L ≡ m.done ++ (take count R ++ O)
   L_is = m.is ∙ ap (λ (ys : List Strand). m.done ++ ys) rest_as
 
-  by_group : (X : List Strand) → take count R ≡ X → AreMendedTo es l u (from + length bs) put × KeepTimes es l u L put
-  by_group [] e = absurd (omega (arith, ap length e, size, some))
-  by_group (g ∷ G) e =
-      let L_as : L ≡ m.done ++ ((g ∷ G) ++ O) = L_is ∙ ap (λ (xs : List Strand). m.done ++ (xs ++ O)) e in
-      let rest : m.rest ≡ (g ∷ G) ++ O = rest_as ∙ ap (λ (xs : List Strand). xs ++ O) e in
-      let held = subst (AllByRecursion (IsHeld es l)) L_as m.held in
-      let ordered = subst (Chain (AreHeld es l)) L_as m.ordered in
-      let beside = subst (Joins (LiesLeft es l) m.done) rest m.beside in
-      let apart = subst (Chain (AreApart es l)) rest m.apart in
-      let tied = subst (Chain (IsTogether es l)) e together in
-      let cut = subst (λ (xs : List Strand). Joins (λ s t. IsTogether es l s t → ⊥) xs O) e parted in
-      let perm = subst (λ (ks : List ℕ). IsPermutation (filter (λ k. reaches (edge_at es k) l u) ks) (concat bs))
-      (numbers_are ∙ ap numbers_in e) same in
-      let placed : weakened m.done ++ (fresh bs ++ O) ≡ put =
-      ap (λ (xs : List Strand). weakened xs ++ (fresh bs ++ O)) D_is in (
-        subst (AreMendedTo es l u (from + length bs)) placed
-            (regrouped es l u w n.lower_divisor n.upper_divisor n.in_order m.done O g G held ordered m.mended beside
-            apart tied cut bs ranks perm from m.size),
-        subst (λ (xs : List Strand). KeepTimes es l u xs put) (sym L_as)
-            (subst (KeepTimes es l u (m.done ++ ((g ∷ G) ++ O))) placed
-            (regrouped_times es l u w n.lower_divisor n.upper_divisor n.in_order m.done O g G held ordered m.mended
-            beside apart tied cut bs ranks perm)),
+  -- the edges of the group lie at one place
+  tied : (X : List Strand) → take count R ≡ X
+      → All (λ k. k < length es) (numbers_in X) × AllStand (IsSamePlaceAt l) es (numbers_in X) (numbers_in X)
+  tied [] e = absurd (omega (arith, ap length e, size, some))
+  tied (g ∷ G) e =
+      let held = subst (AllByRecursion (IsHeld es l)) (L_is ∙ ap (λ (xs : List Strand). m.done ++ (xs ++ O)) e) m.held in
+      let held_G = front (IsHeld es l) (g ∷ G) O (back (IsHeld es l) m.done ((g ∷ G) ++ O) held) in (
+        All-from_recursion (λ k. k < length es) (numbers_in (g ∷ G))
+            (members_there es l u w n.lower_divisor (g ∷ G) held_G),
+        stand_together es l u w n.lower_divisor g G held_G (subst (Chain (IsTogether es l)) e together),
       )
 
-  pub put_group : AreMendedTo es l u (from + length bs) put × KeepTimes es l u L put
-  put_group = by_group (take count R) refl
+  pub group_there : All (λ k. k < length es) numbers
+  group_there = subst (All (λ k. k < length es)) (sym numbers_are) (tied (take count R) refl).0
 
-  -- as the code puts it
-  pub regrouped_by : (W N new : List Strand) (end : ℕ) → W ≡ weakened (take from L) ++ drop from L → N ≡ fresh bs
-      → new ≡ take from W ++ (N ++ drop to W) → end ≡ from + length N
-      → AreMendedTo es l u end new × KeepTimes es l u L new × (length new - end < length L - from)
-  regrouped_by W N new end we ne e m =
-      let here : from ≤ length L = omega (arith, some, within) in
-      let new-is : put ≡ new = sym (e ∙ put_between L from to W N (omega (arith, some)) here we
-      ∙ ap (λ (xs : List Strand). weakened (take from L) ++ (xs ++ O)) ne) in
-      let size : length N ≡ length bs = ap length ne ∙ length_fresh bs in
-      let end-is : from + length bs ≡ end = omega (arith, m, size) in
-      let long : length new ≡ from + (length N + (length L - to)) = sym (ap length new-is)
-      ∙ length-append (weakened (take from L)) (fresh bs ++ O)
-      ∙ ap₂ (λ (a b : ℕ). a + b) (length_weakened (take from L) ∙ length-take-le from L here)
-      (length-append (fresh bs) O ∙ ap₂ (λ (a b : ℕ). a + b) (length_fresh bs ∙ sym size) (length-drop to L)) in (
-        subst (λ (i : ℕ). AreMendedTo es l u i new) end-is
-            (subst (AreMendedTo es l u (from + length bs)) new-is put_group.0),
-        subst (KeepTimes es l u L) new-is put_group.1,
-        omega (arith, long, m, some, within),
-      )
+  pub group_together : AllStand (IsSamePlaceAt l) es numbers numbers
+  group_together = subst (λ (ks : List ℕ). AllStand (IsSamePlaceAt l) es ks ks) (sym numbers_are)
+      (tied (take count R) refl).1
+
+  module _ (bs : List (List ℕ)) (ranks : AreRanked es l bs)
+      (same : IsPermutation (filter (λ k. reaches (edge_at es k) l u) numbers) (concat bs)) where
+    abbrev put : List Strand
+    put = weakened (take from L) ++ (fresh bs ++ O)
+
+    by_group : (X : List Strand) → take count R ≡ X → AreMendedTo es l u (from + length bs) put × KeepTimes es l u L put
+    by_group [] e = absurd (omega (arith, ap length e, size, some))
+    by_group (g ∷ G) e =
+        let L_as : L ≡ m.done ++ ((g ∷ G) ++ O) = L_is ∙ ap (λ (xs : List Strand). m.done ++ (xs ++ O)) e in
+        let rest : m.rest ≡ (g ∷ G) ++ O = rest_as ∙ ap (λ (xs : List Strand). xs ++ O) e in
+        let held = subst (AllByRecursion (IsHeld es l)) L_as m.held in
+        let ordered = subst (Chain (AreHeld es l)) L_as m.ordered in
+        let beside = subst (Joins (LiesLeft es l) m.done) rest m.beside in
+        let apart = subst (Chain (AreApart es l)) rest m.apart in
+        let tied = subst (Chain (IsTogether es l)) e together in
+        let cut = subst (λ (xs : List Strand). Joins (λ s t. IsTogether es l s t → ⊥) xs O) e parted in
+        let perm = subst (λ (ks : List ℕ). IsPermutation (filter (λ k. reaches (edge_at es k) l u) ks) (concat bs))
+        (numbers_are ∙ ap numbers_in e) same in
+        let placed : weakened m.done ++ (fresh bs ++ O) ≡ put =
+        ap (λ (xs : List Strand). weakened xs ++ (fresh bs ++ O)) D_is in (
+          subst (AreMendedTo es l u (from + length bs)) placed
+              (regrouped es l u w n.lower_divisor n.upper_divisor n.in_order m.done O g G held ordered m.mended beside
+              apart tied cut bs ranks perm from m.size),
+          subst (λ (xs : List Strand). KeepTimes es l u xs put) (sym L_as)
+              (subst (KeepTimes es l u (m.done ++ ((g ∷ G) ++ O))) placed
+              (regrouped_times es l u w n.lower_divisor n.upper_divisor n.in_order m.done O g G held ordered m.mended
+              beside apart tied cut bs ranks perm)),
+        )
+
+    pub put_group : AreMendedTo es l u (from + length bs) put × KeepTimes es l u L put
+    put_group = by_group (take count R) refl
+
+    -- as the code puts it
+    pub regrouped_by : (W N new : List Strand) (end : ℕ) → W ≡ weakened (take from L) ++ drop from L → N ≡ fresh bs
+        → new ≡ take from W ++ (N ++ drop to W) → end ≡ from + length N
+        → AreMendedTo es l u end new × KeepTimes es l u L new × (length new - end < length L - from)
+    regrouped_by W N new end we ne e m =
+        let here : from ≤ length L = omega (arith, some, within) in
+        let new-is : put ≡ new = sym (e ∙ put_between L from to W N (omega (arith, some)) here we
+        ∙ ap (λ (xs : List Strand). weakened (take from L) ++ (xs ++ O)) ne) in
+        let size : length N ≡ length bs = ap length ne ∙ length_fresh bs in
+        let end-is : from + length bs ≡ end = omega (arith, m, size) in
+        let long : length new ≡ from + (length N + (length L - to)) = sym (ap length new-is)
+        ∙ length-append (weakened (take from L)) (fresh bs ++ O)
+        ∙ ap₂ (λ (a b : ℕ). a + b) (length_weakened (take from L) ∙ length-take-le from L here)
+        (length-append (fresh bs) O ∙ ap₂ (λ (a b : ℕ). a + b) (length_fresh bs ∙ sym size) (length-drop to L)) in (
+          subst (λ (i : ℕ). AreMendedTo es l u i new) end-is
+              (subst (AreMendedTo es l u (from + length bs)) new-is put_group.0),
+          subst (KeepTimes es l u L) new-is put_group.1,
+          omega (arith, long, m, some, within),
+        )
 
 -- ---- the first place and the last
 pub none_mended : (es : List LeafEdge) (l u : Level) (L : List Strand) → AreWaiting es l L → AreMendedTo es l u 0 L

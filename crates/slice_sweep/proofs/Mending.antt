@@ -21,7 +21,7 @@ use Rattle.scad_geom.proofs.Heights.{lower_same, same_lower, same_chain, lower_c
 use Rattle.scad_geom.proofs.Order.{front, back, aligned_all}
 use Rattle.slice_slab.specs.Active.{times}
 use Rattle.slice_slab.specs.Bundles.{edge_at, reaches, IsBundle, Precedes, AreRanked}
-use Rattle.slice_slab.specs.KeptOrder.{IsLeftAt, IsNotRightAt, IsSamePlaceAt}
+use Rattle.slice_slab.specs.KeptOrder.{IsLeftAt, IsNotRightAt, IsSamePlaceAt, AllStand}
 use Rattle.slice_slab.specs.Touching.{touches}
 use Rattle.slice_slab.proofs.Live.{reaches_is}
 use Rattle.slice_slab.proofs.Standing.{reaches_touches}
@@ -186,12 +186,34 @@ module _ (es : List LeafEdge) (l u : Level) (w : IsLevelWithin coordinate_limit 
       AllByRecursion-append (IsAt es l x) s.bundle (numbers_in ss)
       (bundle_at x dx s.bundle h.0.bundle h.0.reach a.0.same) (members_at x dx ss h.1 a.1)
 
-  members_there : (ss : List Strand) → AllByRecursion (IsHeld es l) ss
+  pub members_there : (ss : List Strand) → AllByRecursion (IsHeld es l) ss
       → AllByRecursion (λ k. k < length es) (numbers_in ss)
   members_there [] h = tt
   members_there (s ∷ ss) h =
       AllByRecursion-append (λ k. k < length es) s.bundle (numbers_in ss)
       (weaker (IsReaching es l l) (λ k. k < length es) (λ k r. r.there) s.bundle h.0.reach) (members_there ss h.1)
+
+  pub stand_together : (g : Strand) (G : List Strand) → AllByRecursion (IsHeld es l) (g ∷ G)
+      → Chain (IsTogether es l) (g ∷ G)
+      → AllStand (IsSamePlaceAt l) es (numbers_in (g ∷ G)) (numbers_in (g ∷ G))
+  stand_together g G h c = weaker (IsAt es l x) (λ k. AllByRecursion (λ j. Same k j) ks)
+      (λ k a. weaker (IsAt es l x) (λ j. Same k j) (λ j b. same_same l (edge_at es k) x (edge_at es j) a.rises dx b.rises
+      (turned l x (edge_at es k) a.same) b.same) ks all) ks all
+    where
+      x : Edge
+      x = head es g.bundle
+
+      ks : List ℕ
+      ks = numbers_in (g ∷ G)
+
+      Same : ℕ → ℕ → Type 0
+      Same k j = IsSamePlaceAt l (edge_at es k) (edge_at es j)
+
+      dx : pos 0 <ℤ rise x
+      dx = head_rises es l l l g.bundle h.0.bundle h.0.reach
+
+      all : AllByRecursion (IsAt es l x) ks
+      all = members_at x dx (g ∷ G) h (heads_at x dx g G h c refl)
 
   -- ---- the bundles in their place
   both_true : (s t : Bool) → s ≡ true → t ≡ true → (s && t) ≡ true

@@ -3,6 +3,7 @@ use Rattle.std.proofs.Common.{◌≡◌, ℕ, zero, suc, ◌+◌, ◌<◌, ◌�
 use lib.Signed.{◌≤ℤ◌}
 use Rattle.std.specs.List.{AllByRecursion}
 use Rattle.std.proofs.lemmas.Int.{ints, by_lt_z}
+use Rattle.std.proofs.lemmas.List.{get_or_read}
 use Rattle.scad_geom.specs.Limits.{coordinate_limit}
 use Rattle.scad_geom.specs.declared.point.Edge.{Edge}
 use Rattle.scad_geom.specs.declared.level.Level.{Level}
@@ -106,3 +107,26 @@ woken es l u L i wake w o ends left h = record {
         let a = chain_at (ComesBefore es l) L i no_strand h.mended.ranked p in
         let c = subst (λ (j : ℕ). ComesBefore es l (strand_at L i) (strand_at L j)) (sym e) a in
         subst (λ (j : ℕ). LiesLeft es g (strand_at L i) (strand_at L j)) e (left r l g w c d q b)
+
+-- as the code writes it
+pub woken_by : (es : List LeafEdge) (l u : Level) (L X : List Strand) (i : ℕ) (x : Strand) (wake : ℤ)
+    → IsLevelWithin coordinate_limit l → X ≡ L → i < length L → x ≡ get_or L i x
+    → ((h : Level) → pos 0 <ℤ h.d → IsBelowKey h wake → EndAbove es h (strand_at X i).bundle)
+    → (i + 1 < length X → (at h : Level) → IsLevelWithin coordinate_limit at
+    → ComesBefore es at (strand_at X i) (strand_at X (i + 1)) → pos 0 <ℤ h.d → IsLower at h → IsBelowKey h wake
+    → LiesLeft es h (strand_at X i) (strand_at X (i + 1)))
+    → AreOrdered es l u L
+    → AreOrdered es l u (set L i (record { bundle = x.bundle; wake = wake }))
+    × (bundles_of (set L i (record { bundle = x.bundle; wake = wake })) ≡ bundles_of L)
+woken_by es l u L X i x wake w e o r ends left h =
+    let is : strand_at L i ≡ x = sym (get_or_read L i x o r no_strand) in
+    let ends' = subst (λ (xs : List Strand). (h : Level) → pos 0 <ℤ h.d → IsBelowKey h wake
+    → EndAbove es h (strand_at xs i).bundle) e ends in
+    let left' = subst (λ (xs : List Strand). i + 1 < length xs → (at h : Level) → IsLevelWithin coordinate_limit at
+    → ComesBefore es at (strand_at xs i) (strand_at xs (i + 1)) → pos 0 <ℤ h.d → IsLower at h → IsBelowKey h wake
+    → LiesLeft es h (strand_at xs i) (strand_at xs (i + 1))) e left in (
+      subst (λ (y : Strand). AreOrdered es l u (set L i (record { bundle = y.bundle; wake = wake }))) is
+          (woken es l u L i wake w o ends' left' h),
+      subst (λ (y : Strand). bundles_of (set L i (record { bundle = y.bundle; wake = wake })) ≡ bundles_of L) is
+          (bundles_set L i wake o),
+    )

@@ -4,7 +4,7 @@ use lib.IntN.{pos}
 use lib.Signed.{◌<ℤ◌}
 use Rattle.std.specs.List.{AllByRecursion, concat}
 use Rattle.std.proofs.lemmas.Int.{ints}
-use Rattle.std.proofs.lemmas.List.{length-append, length-take-le}
+use Rattle.std.proofs.lemmas.List.{length-append, length-drop, length-take-le}
 use Rattle.scad_base.proofs.Lists.{AllByRecursion-append}
 use Rattle.scad_geom.specs.Limits.{coordinate_limit}
 use Rattle.scad_geom.specs.declared.level.Level.{Level}
@@ -56,11 +56,11 @@ weakened_by ss (suc n) x o q e =
     subst (λ (i : ℕ). set ss i (restaled x) ≡ weakened (take (suc n) ss) ++ drop (suc n) ss) (sym m)
     (ap (λ (s : Strand). set ss n (restaled s)) r ∙ weakened_at ss n x (omega arith))
 
-pub weakened_within : (ss W : List Strand) (p : ℕ) → p ≤ length ss → W ≡ weakened (take p ss) ++ drop p ss
-    → p ≤ length W
-weakened_within ss W p o e =
+pub weakened_length : (ss W : List Strand) (p : ℕ) → p ≤ length ss → W ≡ weakened (take p ss) ++ drop p ss
+    → length W ≡ length ss
+weakened_length ss W p o e =
     omega (arith, ap length e, length-append (weakened (take p ss)) (drop p ss), length_weakened (take p ss),
-    length-take-le p ss o)
+    length-take-le p ss o, length-drop p ss)
 
 module _ (P : Strand → Type 0) (f : (s : Strand) → P s → P (restaled s)) where
   pub all_weakened : (ss : List Strand) → AllByRecursion P ss → AllByRecursion P (weakened ss)

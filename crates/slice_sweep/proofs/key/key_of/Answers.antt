@@ -16,5 +16,7 @@ returns c wake o =
     let most : c.times.result <ℤ (c.floor.result *ℤ c.args.at.now.d +ℤ c.args.at.now.d) =
     simp to_z-of_z at c.floor.ensures.most in
     let product : c.times.result ≡ c.args.at.now.n *ℤ parts = simp to_z-of_z at c.times.ensures.product in
+    let q_fits : FitsSigned w128 c.floor.result = record { sfits = c.floor.type_inv } in
+    let o' : c.floor.result <ℤ wake = simp to_z-of_z at o in
     below_greater c.args.at.now c.floor.result wake c.requires.positive
-    (subst (λ (z : ℤ). z <ℤ (c.floor.result *ℤ c.args.at.now.d +ℤ c.args.at.now.d)) product most) o
+    (subst (λ (z : ℤ). z <ℤ (c.floor.result *ℤ c.args.at.now.d +ℤ c.args.at.now.d)) product most) o'

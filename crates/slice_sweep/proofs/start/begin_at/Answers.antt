@@ -1,11 +1,11 @@
 -- The edge stands at the place that was found, and the strand before it has lost its key.
-use Rattle.std.proofs.Common.{◌≤◌, length, sym, subst, List}
+use Rattle.std.proofs.Common.{arith, ◌≤◌, length, sym, subst, List}
 use Rattle.std.proofs.lemmas.Result.{on_ok_weaker}
 use Rattle.slice_sweep.specs.declared.strand.Strand.{Strand}
 use Rattle.slice_sweep.specs.Strands.{AreThere}
 use Rattle.slice_sweep.proofs.Groups.{there_of}
 use Rattle.slice_sweep.proofs.Starting.{started_by}
-use Rattle.slice_sweep.proofs.Weakening.{weakened_within}
+use Rattle.slice_sweep.proofs.Weakening.{weakened_length}
 use Rattle.slice_sweep.proofs.start.begin_at.Goals as goal
 
 pub place-i-requires-clause-strands : goal.place-i-requires-clause-strands
@@ -30,6 +30,9 @@ returns-clause-numbers c = on_ok_weaker c.insert.result
     c.insert.ensures
 
 pub insert-requires : goal.insert-requires
-insert-requires c = weakened_within c.args.strands.now.items c.weaken.new.strands.items c.place-i.result
-    (subst (λ (xs : List Strand). c.place-i.result ≤ length xs) c.deref.ensures.value c.place-i.ensures.within)
-    c.weaken.ensures
+insert-requires c =
+    let within : c.place-i.result ≤ length c.args.strands.now.items =
+    subst (λ (xs : List Strand). c.place-i.result ≤ length xs) c.deref.ensures.value c.place-i.ensures.within in
+    let size = weakened_length c.args.strands.now.items c.weaken.new.strands.items c.place-i.result within
+    c.weaken.ensures in
+    omega (arith, within, size)
