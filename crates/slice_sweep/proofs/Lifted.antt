@@ -1,12 +1,11 @@
 -- From one height to the next.
-use Rattle.std.proofs.Common.{◌≡◌, ℕ, zero, suc, ◌+◌, ◌<◌, ◌≤◌, ◌⊎◌, inl, inr, Bool, true, false, List, [], ◌∷◌, ◌++◌, length, drop, refl, sym, ap, ◌∙◌, arith, subst, true≢false, IsPermutation}
+use Rattle.std.proofs.Common.{◌≡◌, ℕ, zero, suc, ◌+◌, ◌<◌, ◌≤◌, ◌⊎◌, inl, inr, Bool, true, false, List, [], ◌∷◌, ◌++◌, length, drop, refl, sym, ap, ◌∙◌, arith, subst, true≢false, IsPermutation, All}
 use lib.IntN.{ℤ, pos, ◌*ℤ◌}
 use lib.Signed.{◌<ℤ◌, ◌≤ℤ◌}
 use Rattle.std.specs.Prelude.{int_lt, int_le, nat_lt, ◌==◌, if◌then◌else◌, ◌&&◌}
 use Rattle.std.specs.List.{AllByRecursion, concat}
 use Rattle.std.proofs.lemmas.Bool.{and_parts}
 use Rattle.std.proofs.lemmas.Int.{ints}
-use Rattle.std.proofs.lemmas.List.Sorted.{IsPermutation-refl, IsPermutation-sym, IsPermutation-trans, IsPermutation-cons, IsPermutation-middle}
 use Rattle.scad_base.proofs.Lists.{AllByRecursion-append}
 use Rattle.scad_geom.specs.declared.point.Edge.{Edge}
 use Rattle.scad_geom.specs.declared.level.Level.{Level}
@@ -23,12 +22,12 @@ use Rattle.slice_slab.specs.Bundles.{no_edge, edge_at, reaches, reaching, IsBund
 use Rattle.slice_slab.specs.Starts.{AreStarts, AreRising, IsStartOf, numbers_of, all_numbers, begun_at, pending_at}
 use Rattle.slice_slab.specs.Touching.{touches}
 use Rattle.slice_slab.proofs.Standing.{none_live}
-use Rattle.std.proofs.lemmas.List.Elements.{recursion_from_All, All-drop}
+use Rattle.std.proofs.lemmas.List.Elements.{All-from_recursion}
 use Rattle.slice_slab.proofs.Live.{reaches_is}
 use Rattle.slice_slab.proofs.Bundling.{before_chain}
-use Rattle.slice_slab.proofs.Beginning.{rising_drop, parted, begun_too, pending_too, all_begun, all_pending, of_numbers}
+use Rattle.slice_slab.proofs.Beginning.{parted, begun_too, pending_too, all_begun, all_pending, of_numbers}
 use Rattle.slice_slab.proofs.Chosen.{reaching_is, once_where, none_where}
-use Rattle.slice_slab.proofs.Times.{same_number, times_here, times_other, times-append, times_permuted, standing}
+use Rattle.slice_slab.proofs.Times.{times-append, standing, from_times}
 use Rattle.slice_sweep.specs.declared.strand.Strand.{Strand}
 use Rattle.slice_sweep.specs.Keys.{IsBelowKey}
 use Rattle.slice_sweep.specs.Chains.{Chain}
@@ -37,47 +36,6 @@ use Rattle.slice_sweep.specs.Mending.{ComesBefore, AreOrdered, KeepTimes}
 use Rattle.slice_sweep.specs.Front.{AreAll}
 use Rattle.slice_sweep.proofs.Lists.{chain_map, weaker}
 use Rattle.slice_sweep.proofs.Mending.{edge_rises}
-
--- ---- lists with each number as often
-some_more : (m n : ℕ) → 1 ≤ m → m ≡ n → 1 ≤ n
-some_more m n h e = omega arith
-
-none_and_one : (m n : ℕ) → m ≡ 1 + n → 0 ≡ m → ⊥
-none_and_one m n h e = omega arith
-
-at_least_one : (m n k : ℕ) → k ≡ 1 + n → k ≡ m → 1 ≤ m
-at_least_one m n k h e = omega arith
-
-same_rest : (a m n x y : ℕ) → x ≡ a + m → y ≡ a + n → x ≡ y → m ≡ n
-same_rest a m n x y h k e = omega arith
-
-take_out : (k : ℕ) (xs : List ℕ) → 1 ≤ times k xs → (rest : List ℕ) × IsPermutation xs (k ∷ rest)
-take_out k [] h = absurd (omega arith)
-take_out k (j ∷ js) h = by_test (take_out k js) (j == k) refl
-  where
-    by_test : (1 ≤ times k js → (rest : List ℕ) × IsPermutation js (k ∷ rest)) → (b : Bool) → (j == k) ≡ b
-        → (rest : List ℕ) × IsPermutation (j ∷ js) (k ∷ rest)
-    by_test more true e = (
-      js,
-      subst (λ (n : ℕ). IsPermutation (j ∷ js) (n ∷ js)) (same_number j k e) (IsPermutation-refl (j ∷ js)),
-    )
-    by_test more false e =
-        let r = more (some_more (times k (j ∷ js)) (times k js) h (times_other k j js e)) in (
-          j ∷ r.0,
-          IsPermutation-trans (j ∷ js) (j ∷ (k ∷ r.0)) (k ∷ (j ∷ r.0)) (IsPermutation-cons j js (k ∷ r.0) r.1)
-              (IsPermutation-middle (j ∷ []) k r.0),
-        )
-
-pub from_times : (xs ys : List ℕ) → ((k : ℕ) → times k xs ≡ times k ys) → IsPermutation xs ys
-from_times [] [] h = IsPermutation-refl []
-from_times [] (y ∷ ys) h = absurd (none_and_one (times y (y ∷ ys)) (times y ys) (times_here y ys) (h y))
-from_times (x ∷ xs) ys h =
-    let f = take_out x ys (at_least_one (times x ys) (times x xs) (times x (x ∷ xs)) (times_here x xs) (h x)) in
-    IsPermutation-trans (x ∷ xs) (x ∷ f.0) ys
-    (IsPermutation-cons x xs f.0 (from_times xs f.0
-    (λ k. same_rest (if x == k then 1 else 0) (times k xs) (times k f.0) (times k (x ∷ xs)) (times k (x ∷ f.0)) refl refl
-    (h k ∙ sym (times_permuted k ys (x ∷ f.0) f.1)))))
-    (IsPermutation-sym ys (x ∷ f.0) f.1)
 
 -- ---- the bundles between two heights
 precede : (es : List LeafEdge) (l : Level) (b c : List ℕ) → IsBundle es l b → IsBundle es l c
@@ -412,29 +370,34 @@ none_yet es h starts m =
 pub none_waiting : (es : List LeafEdge) (at : Level) → AreWaiting es at []
 none_waiting es at = record { held = tt; ordered = tt; apart = tt }
 
--- ---- as the code lifts it: B are the numbers of the edges that begin, n those that have begun then
-pub made_by : (es : List LeafEdge) (l u : Level) (n : AreNeighbours es l u) (starts : List Start) (begun next : ℕ)
-    (B : List ℕ) (L0 L1 L2 L3 : List Strand) → AreStarts es starts → AreRising starts
-    → AreWaiting es l L0
-    → ((h : Level) → pos 0 <ℤ h.d → IsAtMost l h → AreAll es h (numbers_in L0) (drop begun starts))
-    → B ≡ numbers_of (begun_at l (drop begun starts)) → drop next starts ≡ pending_at l (drop begun starts)
+-- ---- as the code lifts it: P are the starts that were pending, Q those that are, B the numbers of the edges that begin
+pub made_by : (es : List LeafEdge) (l u : Level) (n : AreNeighbours es l u) (P Q : List Start) (B : List ℕ)
+    (L0 L1 L2 L3 : List Strand) → AllByRecursion (IsStartOf es) P → AreRising P → AreWaiting es l L0
+    → ((h : Level) → pos 0 <ℤ h.d → IsAtMost l h → AreAll es h (numbers_in L0) P)
+    → B ≡ numbers_of (begun_at l P) → Q ≡ pending_at l P
     → ((k : ℕ) → reaches (edge_at es k) l l ≡ true
     → times k (numbers_in L1) ≡ times k (numbers_in L0) + times k B)
     → KeepTimes es l u L1 L2 → bundles_of L3 ≡ bundles_of L2 → AreOrdered es l u L3
     → AreBundles es l u (bundles_of L3) × AreWaiting es u L3
-    × ((h : Level) → pos 0 <ℤ h.d → IsAtMost u h → AreAll es h (numbers_in L3) (drop next starts))
-made_by es l u n starts begun next B L0 L1 L2 L3 s r w later b p t k e o =
-    let P : List Start = drop begun starts in
-    let sP : AllByRecursion (IsStartOf es) P = recursion_from_All (IsStartOf es) P (All-drop (IsStartOf es) begun starts s) in
-    let rP : AreRising P = rising_drop begun starts r in
+    × ((h : Level) → pos 0 <ℤ h.d → IsAtMost u h → AreAll es h (numbers_in L3) Q)
+made_by es l u n P Q B L0 L1 L2 L3 s r w later b p t k e o =
     let t' : (k : ℕ) → reaches (edge_at es k) l l ≡ true
     → times k (numbers_in L1) ≡ times k (numbers_in L0) + times k (numbers_of (begun_at l P)) =
     subst (λ (ks : List ℕ). (k : ℕ) → reaches (edge_at es k) l l ≡ true
     → times k (numbers_in L1) ≡ times k (numbers_in L0) + times k ks) b t in (
-      bundles_are es l u n P L0 L1 L2 L3 sP rP w.held later t' k e o,
+      bundles_are es l u n P L0 L1 L2 L3 s r w.held later t' k e o,
       lifted es l u n L3 o,
       λ h d q. subst (AreAll es h (numbers_in L3)) (sym p) (record {
-        once = once es l u n P L0 L1 L2 L3 sP rP w.held later t' k e o;
-        all = all_later es l u n P L0 L1 L2 L3 sP rP w.held later t' k e o h d q;
+        once = once es l u n P L0 L1 L2 L3 s r w.held later t' k e o;
+        all = all_later es l u n P L0 L1 L2 L3 s r w.held later t' k e o h d q;
       }),
     )
+
+pub begun_there : (es : List LeafEdge) (at : Level) (P : List Start) → AllByRecursion (IsStartOf es) P
+    → All (λ k. k < length es) (numbers_of (begun_at at P))
+begun_there es at P s =
+    let ks : List ℕ = numbers_of (begun_at at P) in
+    All-from_recursion (λ k. k < length es) ks
+    (weaker (λ k. (k < length es) × (int_le ((low (edge_at es k)).y *ℤ at.d) at.n ≡ true)) (λ k. k < length es)
+    (λ k h. h.0) ks
+    (of_numbers es at true (begun_at at P) (begun_too at (IsStartOf es) P s) (all_begun at P)))

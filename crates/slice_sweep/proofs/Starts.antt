@@ -1,11 +1,16 @@
 -- Lower ends as starts of edges.
-use Rattle.std.proofs.Common.{◌≡◌, ℕ, zero, suc, ◌+◌, ◌<◌, List, [], ◌∷◌, length, get_or, drop, refl, sym, ap, arith, add-one, Bool, true, false}
+use Rattle.std.proofs.Common.{◌≡◌, ℕ, zero, suc, ◌+◌, ◌<◌, List, [], ◌∷◌, ◌++◌, length, get_or, drop, refl, sym, ap, ap₂, ◌∙◌, arith, subst, add-one, Bool, true, false}
 use lib.Signed.{◌≤ℤ◌}
 use Rattle.std.specs.Prelude.{int_lt}
 use Rattle.std.specs.Cmp.{IsStrictWeakOrder}
 use Rattle.std.specs.List.Sorted.{IsSortedBy}
 use Rattle.std.proofs.lemmas.Int.{ints}
-use Rattle.slice_slab.specs.Starts.{AreRising}
+use Rattle.std.specs.List.{AllByRecursion}
+use Rattle.std.proofs.lemmas.List.Elements.{recursion_from_All, All-drop}
+use Rattle.scad_geom.specs.declared.level.Level.{Level}
+use Rattle.scad_geom.specs.declared.level.LeafEdge.{LeafEdge}
+use Rattle.slice_slab.specs.Starts.{AreStarts, AreRising, IsStartOf, numbers_of, begun_at, pending_at}
+use Rattle.slice_slab.proofs.Beginning.{rising_drop}
 use Rattle.slice_sweep.specs.declared.lower_end.LowerEnd.{LowerEnd}
 use Rattle.slice_sweep.specs.LowerEnds.{starts_of}
 
@@ -29,7 +34,29 @@ rising_by (s ∷ (t ∷ ss)) h =
 pub rising_from : (ss : List LowerEnd) → IsSortedBy lower_first ss → AreRising (starts_of ss)
 rising_from ss h = rising_by ss (λ k d b. let t : lower_first (get_or ss (k + 1) d) (get_or ss k d) ≡ false = h k d (omega arith) (omega arith) in rw add-one at t)
 
-pub starts_drop : (n : ℕ) (ss : List LowerEnd) → drop n (starts_of ss) ≡ starts_of (drop n ss)
+starts_drop : (n : ℕ) (ss : List LowerEnd) → drop n (starts_of ss) ≡ starts_of (drop n ss)
 starts_drop zero ss = refl
 starts_drop (suc n) [] = refl
 starts_drop (suc n) (s ∷ ss) = starts_drop n ss
+
+-- ---- those that are left
+pub starts_left : (es : List LeafEdge) (n : ℕ) (ss : List LowerEnd) → AreStarts es (starts_of ss)
+    → AllByRecursion (IsStartOf es) (starts_of (drop n ss))
+starts_left es n ss h = subst (AllByRecursion (IsStartOf es)) (starts_drop n ss)
+    (recursion_from_All (IsStartOf es) (drop n (starts_of ss)) (All-drop (IsStartOf es) n (starts_of ss) h))
+
+pub rising_left : (n : ℕ) (ss : List LowerEnd) → AreRising (starts_of ss) → AreRising (starts_of (drop n ss))
+rising_left n ss r = subst AreRising (starts_drop n ss) (rising_drop n (starts_of ss) r)
+
+-- ---- as the code begins them
+pub begun_by : (at : Level) (b : ℕ) (E X : List LowerEnd) (old new B : List ℕ) → X ≡ E → old ≡ []
+    → new ≡ old ++ numbers_of (begun_at at (starts_of (drop b X))) → B ≡ new
+    → B ≡ numbers_of (begun_at at (starts_of (drop b E)))
+begun_by at b E X old new B x o n e =
+    e ∙ n ∙ ap₂ (λ (ks : List ℕ) (es : List LowerEnd). ks ++ numbers_of (begun_at at (starts_of (drop b es)))) o x
+
+pub pending_by : (at : Level) (b n : ℕ) (E X : List LowerEnd) → X ≡ E
+    → starts_of (drop n X) ≡ pending_at at (starts_of (drop b X))
+    → starts_of (drop n E) ≡ pending_at at (starts_of (drop b E))
+pending_by at b n E X x h =
+    subst (λ (es : List LowerEnd). starts_of (drop n es) ≡ pending_at at (starts_of (drop b es))) x h
