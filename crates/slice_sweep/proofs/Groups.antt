@@ -1,7 +1,6 @@
 -- What the code finds of the strands at a place.
 use Rattle.std.proofs.Common.{◌≡◌, ℕ, zero, suc, ◌+◌, ◌-◌, ◌<◌, ◌≤◌, ◌⊎◌, inl, inr, Bool, true, false, cond, List, [], ◌∷◌, ◌++◌, length, get_or, take, drop, filter, refl, sym, ap, ap₂, ◌∙◌, arith, subst, append_assoc, IsPermutation, All}
 use lib.IntN.{pos, ◌*ℤ◌}
-use lib.Signed.{◌<ℤ◌, ◌≤ℤ◌}
 use Rattle.std.specs.Prelude.{int_lt, int_le, nat_lt, ◌&&◌}
 use Rattle.std.specs.Ordering.{int_eq}
 use Rattle.std.specs.Cmp.{signed_Decides}
@@ -18,7 +17,6 @@ use Rattle.scad_geom.specs.Line.{low, high, rise, x_at}
 use Rattle.scad_geom.specs.Level.{level_of, IsLower, IsAtMost, IsLevelWithin}
 use Rattle.scad_geom.specs.Heights.{heights, AreNeighbours}
 use Rattle.scad_geom.proofs.Order.{front, back, all_ends}
-use Rattle.slice_slab.specs.Active.{times}
 use Rattle.slice_slab.specs.Bundles.{no_edge, edge_at, reaches, AreRanked}
 use Rattle.slice_slab.specs.KeptOrder.{IsSamePlaceAt, AllStand}
 use Rattle.slice_sweep.specs.declared.strand.Strand.{Strand}
@@ -26,7 +24,7 @@ use Rattle.slice_sweep.specs.Keys.{IsBelowKey}
 use Rattle.slice_sweep.specs.Chains.{Chain, Joins}
 use Rattle.slice_sweep.specs.Strands.{head, numbers_in, LiesLeft, IsTogether, IsReaching, IsHeld, AreHeld, AreApart, AreWaiting, EndAbove, AreThere, weakened, fresh, no_strand, strand_at}
 use Rattle.slice_sweep.specs.Mending.{AreMended, AreOrdered, AreMendedTo, KeepTimes, IsGroup}
-use Rattle.slice_sweep.proofs.Lists.{chain_from, joins_from, chain_at, joins_nil, weaker}
+use Rattle.slice_sweep.proofs.Lists.{chain_from, joins_from, chain_at, weaker}
 use Rattle.slice_sweep.proofs.Starting.{put_between}
 use Rattle.slice_sweep.proofs.Weakening.{length_weakened, length_fresh}
 use Rattle.slice_sweep.proofs.Mending.{as_it_is, strict_heads, members_there, stand_together, regrouped, regrouped_times}
@@ -325,13 +323,13 @@ all_mended es l u p L m o = by_rest m.rest m.is
         absurd (omega (arith, ap length e, length-append m.done (s ∷ rest), size, o))
 
 -- ---- one more strand at a place
-pub together_more : (es : List LeafEdge) (l : Level) (L : List Strand) (from to : ℕ) (s t : Strand)
+pub together_more : (es : List LeafEdge) (l : Level) (L : List Strand) (from to : ℕ) (s t : Strand) (r : Bool)
     → ((i : ℕ) → from ≤ i → i + 1 < to → IsTogether es l (strand_at L i) (strand_at L (i + 1))) → from < to
     → to < length L → s ≡ get_or L (to - 1) s → t ≡ get_or L to t
-    → int_eq (x_at (head es s.bundle) l.n l.d *ℤ rise (head es t.bundle))
-    (x_at (head es t.bundle) l.n l.d *ℤ rise (head es s.bundle)) ≡ true
+    → r ≡ int_eq (x_at (head es s.bundle) l.n l.d *ℤ rise (head es t.bundle))
+    (x_at (head es t.bundle) l.n l.d *ℤ rise (head es s.bundle)) → r ≡ true
     → (i : ℕ) → from ≤ i → i + 1 < to + 1 → IsTogether es l (strand_at L i) (strand_at L (i + 1))
-together_more es l L from to s t h some there es-is et-is e i o q = by_test (nat_lt (i + 1) to) refl
+together_more es l L from to s t r h some there es-is et-is e v i o q = by_test (nat_lt (i + 1) to) refl
   where
     less : nat_lt (i + 1) to ≡ true → i + 1 < to
     less v = grind arith
@@ -344,7 +342,7 @@ together_more es l L from to s t h some there es-is et-is e i o q = by_test (nat
 
     both : IsTogether es l s t
     both = (signed_Decides (x_at (head es s.bundle) l.n l.d *ℤ rise (head es t.bundle))
-        (x_at (head es t.bundle) l.n l.d *ℤ rise (head es s.bundle))).0 e
+        (x_at (head es t.bundle) l.n l.d *ℤ rise (head es s.bundle))).0 (sym e ∙ v)
 
     by_test : (b : Bool) → nat_lt (i + 1) to ≡ b → IsTogether es l (strand_at L i) (strand_at L (i + 1))
     by_test true v = h i o (less v)

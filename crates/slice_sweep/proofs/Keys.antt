@@ -1,20 +1,19 @@
 -- What keys say of heights.
-use Rattle.std.proofs.Common.{◌≡◌, ◌≤◌, ◌*◌, ◌⊎◌, inl, inr, [], ◌∷◌, refl, sym, subst, arith, ℤ, pos, negsuc, ◌+ℤ◌, ◌-ℤ◌, ◌*ℤ◌, ◌<ℤ◌}
+use Rattle.std.proofs.Common.{◌≡◌, ◌≤◌, ◌*◌, ◌⊎◌, inl, inr, [], ◌∷◌, refl, subst, arith, ℤ, pos, negsuc, ◌+ℤ◌, ◌-ℤ◌, ◌*ℤ◌, ◌<ℤ◌}
 use lib.IntN.{neg_ℤ}
 use lib.Signed.{◌≤ℤ◌}
 use Rattle.std.specs.Prelude.{unsigned_abs}
 use Rattle.std.specs.Int.{int_div_euclid}
-use Rattle.std.proofs.lemmas.Int.{ints, by_lt_z}
+use Rattle.std.proofs.lemmas.Int.{ints}
 use Rattle.scad_base.proofs.Products.{positive_product, negative_product, negative_factor}
-use Rattle.scad_base.proofs.Integers.{gap_of_less, less_of_gap}
+use Rattle.scad_base.proofs.Integers.{gap_of_less}
 use Rattle.scad_geom.specs.Limits.{coordinate_limit}
 use Rattle.scad_geom.specs.declared.point.Edge.{Edge}
 use Rattle.scad_geom.specs.declared.level.Level.{Level}
-use Rattle.scad_geom.specs.Line.{rise, run, x_at, lean, apart}
+use Rattle.scad_geom.specs.Line.{rise, run, lean, apart}
 use Rattle.scad_geom.specs.Level.{level_of, IsLower, IsAtMost, IsLevelWithin}
 use Rattle.scad_geom.specs.EdgeOrder.{IsBefore}
 use Rattle.scad_geom.proofs.Heights.{at_most_chain, apart_turned}
-use Rattle.scad_geom.proofs.Integers.{neg_mul}
 use Rattle.scad_geom.proofs.Lines.{gap_is}
 use Rattle.scad_geom.proofs.Ring.{ring, num, ◌⊕◌, ◌⊖◌, ◌⊗◌, v0, v1, v2, v3, v4, v5}
 use Rattle.scad_geom.proofs.Signs.{at_least_mul, at_most_mul, sub_mul, one_more_times}

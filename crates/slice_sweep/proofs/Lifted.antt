@@ -1,8 +1,8 @@
 -- From one height to the next.
-use Rattle.std.proofs.Common.{◌≡◌, ℕ, zero, suc, ◌+◌, ◌<◌, ◌≤◌, ◌⊎◌, inl, inr, Bool, true, false, List, [], ◌∷◌, ◌++◌, length, drop, refl, sym, ap, ◌∙◌, arith, subst, true≢false, IsPermutation, All}
+use Rattle.std.proofs.Common.{◌≡◌, ℕ, zero, suc, ◌+◌, ◌<◌, ◌≤◌, Bool, true, false, List, [], ◌∷◌, ◌++◌, length, refl, sym, ap, ◌∙◌, arith, subst, true≢false, IsPermutation, All}
 use lib.IntN.{ℤ, pos, ◌*ℤ◌}
-use lib.Signed.{◌<ℤ◌, ◌≤ℤ◌}
-use Rattle.std.specs.Prelude.{int_lt, int_le, nat_lt, ◌==◌, if◌then◌else◌, ◌&&◌}
+use lib.Signed.{◌<ℤ◌}
+use Rattle.std.specs.Prelude.{int_lt, int_le, nat_lt, ◌&&◌}
 use Rattle.std.specs.List.{AllByRecursion, concat}
 use Rattle.std.proofs.lemmas.Bool.{and_parts}
 use Rattle.std.proofs.lemmas.Int.{ints}
@@ -11,7 +11,7 @@ use Rattle.scad_geom.specs.declared.point.Edge.{Edge}
 use Rattle.scad_geom.specs.declared.level.Level.{Level}
 use Rattle.scad_geom.specs.declared.level.LeafEdge.{LeafEdge}
 use Rattle.scad_geom.specs.Line.{low, high, rise}
-use Rattle.scad_geom.specs.Level.{level_of, IsLower, IsAtMost}
+use Rattle.scad_geom.specs.Level.{level_of, IsAtMost}
 use Rattle.scad_geom.specs.EdgeOrder.{IsBefore, AreAligned}
 use Rattle.scad_geom.specs.Heights.{AreNeighbours}
 use Rattle.scad_geom.proofs.Heights.{at_most_chain, lower_weak, lower_chain}
@@ -19,7 +19,7 @@ use Rattle.scad_geom.proofs.Order.{aligned_all, before_between}
 use Rattle.slice_slab.specs.declared.start.Start.{Start}
 use Rattle.slice_slab.specs.Active.{times}
 use Rattle.slice_slab.specs.Bundles.{no_edge, edge_at, reaches, reaching, IsBundle, Precedes, AreRanked, AreBundles}
-use Rattle.slice_slab.specs.Starts.{AreStarts, AreRising, IsStartOf, numbers_of, all_numbers, begun_at, pending_at}
+use Rattle.slice_slab.specs.Starts.{AreRising, IsStartOf, numbers_of, all_numbers, begun_at, pending_at}
 use Rattle.slice_slab.specs.Touching.{touches}
 use Rattle.slice_slab.proofs.Standing.{none_live}
 use Rattle.std.proofs.lemmas.List.Elements.{All-from_recursion}
@@ -29,9 +29,8 @@ use Rattle.slice_slab.proofs.Beginning.{parted, begun_too, pending_too, all_begu
 use Rattle.slice_slab.proofs.Chosen.{reaching_is, once_where, none_where}
 use Rattle.slice_slab.proofs.Times.{times-append, standing, from_times}
 use Rattle.slice_sweep.specs.declared.strand.Strand.{Strand}
-use Rattle.slice_sweep.specs.Keys.{IsBelowKey}
 use Rattle.slice_sweep.specs.Chains.{Chain}
-use Rattle.slice_sweep.specs.Strands.{bundles_of, numbers_in, head, LiesNotRight, EndAbove, IsReaching, IsHeld, AreHeld, AreApart, AreWaiting}
+use Rattle.slice_sweep.specs.Strands.{bundles_of, numbers_in, head, LiesNotRight, IsReaching, IsHeld, AreHeld, AreApart, AreWaiting}
 use Rattle.slice_sweep.specs.Mending.{ComesBefore, AreOrdered, KeepTimes}
 use Rattle.slice_sweep.specs.Front.{AreAll}
 use Rattle.slice_sweep.proofs.Lists.{chain_map, weaker}

@@ -1,12 +1,12 @@
 -- One place after another is mended.
-use Rattle.std.proofs.Common.{◌≡◌, ℕ, zero, suc, ◌+◌, ◌-◌, ◌<◌, ◌≤◌, ◌⊎◌, inl, inr, Bool, true, false, List, [], ◌∷◌, ◌++◌, length, get_or, take, drop, filter, refl, sym, ap, ap₂, ◌∙◌, arith, subst, append_assoc, IsPermutation, All}
+use Rattle.std.proofs.Common.{◌≡◌, ℕ, ◌+◌, ◌<◌, inl, inr, Bool, true, List, [], ◌∷◌, ◌++◌, length, filter, refl, sym, ap, ap₂, ◌∙◌, arith, subst, append_assoc, IsPermutation}
 use lib.IntN.{pos, ◌*ℤ◌}
-use lib.Signed.{◌<ℤ◌, ◌≤ℤ◌}
+use lib.Signed.{◌<ℤ◌}
 use Rattle.std.specs.Prelude.{int_lt, int_le, ◌&&◌}
 use Rattle.std.specs.List.{AllByRecursion, concat}
 use Rattle.std.proofs.lemmas.Bool.{and_parts}
 use Rattle.std.proofs.lemmas.Int.{ints, by_lt_z}
-use Rattle.std.proofs.lemmas.List.{append-nil, length-append, length-drop, take-append-drop, get_or-take, get_or-drop, get_or_at, get_or-append-add, length-take-le, take_at, drop_at, drop-drop, length_push, append_cancel_right}
+use Rattle.std.proofs.lemmas.List.{append-nil, length-append, get_or_at, get_or-append-add, length_push}
 use Rattle.std.proofs.lemmas.List.Elements.{All-from_recursion, recursion_from_All, All-filter, filter_passes}
 use Rattle.std.proofs.lemmas.List.Sorted.{All-permutation}
 use Rattle.scad_base.proofs.Lists.{AllByRecursion-append}
@@ -15,25 +15,25 @@ use Rattle.scad_geom.specs.declared.point.Edge.{Edge}
 use Rattle.scad_geom.specs.declared.level.Level.{Level}
 use Rattle.scad_geom.specs.declared.level.LeafEdge.{LeafEdge}
 use Rattle.scad_geom.specs.Line.{low, high, rise, x_at}
-use Rattle.scad_geom.specs.Level.{IsLower, IsAtMost, IsLevelWithin}
+use Rattle.scad_geom.specs.Level.{IsLower, IsLevelWithin}
 use Rattle.scad_geom.specs.EdgeOrder.{IsBefore, AreAligned}
 use Rattle.scad_geom.proofs.Heights.{lower_same, same_lower, same_chain, lower_chain}
 use Rattle.scad_geom.proofs.Order.{front, back, aligned_all}
 use Rattle.slice_slab.specs.Active.{times}
-use Rattle.slice_slab.specs.Bundles.{edge_at, reaches, IsBundle, Precedes, AreRanked}
+use Rattle.slice_slab.specs.Bundles.{edge_at, reaches, IsBundle, AreRanked}
 use Rattle.slice_slab.specs.KeptOrder.{IsLeftAt, IsNotRightAt, IsSamePlaceAt, AllStand}
 use Rattle.slice_slab.specs.Touching.{touches}
 use Rattle.slice_slab.proofs.Live.{reaches_is}
 use Rattle.slice_slab.proofs.Standing.{reaches_touches}
-use Rattle.slice_slab.proofs.Times.{times_permuted, times_kept, times-append}
+use Rattle.slice_slab.proofs.Times.{times_permuted, times_kept}
 use Rattle.slice_sweep.specs.declared.strand.Strand.{Strand}
 use Rattle.slice_sweep.specs.Keys.{stale}
 use Rattle.slice_sweep.specs.Chains.{Chain, Joins}
-use Rattle.slice_sweep.specs.Strands.{bundles_of, numbers_in, head, LiesLeft, LiesNotRight, IsTogether, IsReaching, IsHeld, AreHeld, AreApart, AreWaiting, weakened, fresh, no_strand, strand_at}
-use Rattle.slice_sweep.specs.Mending.{ComesBefore, AreMended, AreOrdered, AreMendedTo, KeepTimes, IsGroup}
+use Rattle.slice_sweep.specs.Strands.{numbers_in, head, LiesLeft, LiesNotRight, IsTogether, IsReaching, IsHeld, AreHeld, AreApart, weakened, fresh, no_strand, strand_at}
+use Rattle.slice_sweep.specs.Mending.{ComesBefore, AreMended, AreMendedTo, KeepTimes}
 use Rattle.slice_sweep.proofs.Keys.{never_below}
 use Rattle.slice_sweep.proofs.Lists.{chain_append, chain_front, chain_back, chain_joins, chain_tail, joins_nil, joins_more, joins_first, joins_swap, joins_all, joins_map, chain_map, weaker}
-use Rattle.slice_sweep.proofs.Weakening.{bundles_weakened, length_weakened, length_fresh, chain_weakened, all_weakened, joins_weakened, held_put, ordered_put, times_strands, times_put}
+use Rattle.slice_sweep.proofs.Weakening.{length_weakened, length_fresh, chain_weakened, all_weakened, joins_weakened, held_put, ordered_put, times_strands, times_put}
 
 -- where an edge passes a height, as a number over its rise
 place : Level → Edge → Level

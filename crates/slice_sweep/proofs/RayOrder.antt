@@ -1,6 +1,6 @@
 -- The order of rays is a strict order in which any two compare.
 use Rattle.std.proofs.Common.{◌≡◌, ℕ, zero, suc, ◌+◌, ◌<◌, ◌≤◌, ◌⊎◌, inl, inr, Bool, true, false, not, ◌&&◌, ◌||◌, List, [], ◌∷◌, length, get_or, refl, sym, arith, subst, add-one}
-use lib.IntN.{pos, ◌*ℤ◌}
+use lib.IntN.{◌*ℤ◌}
 use lib.Signed.{◌<ℤ◌}
 use lib.Dec.{T, nltb→le}
 use Rattle.std.specs.Prelude.{nat_lt}

@@ -1,6 +1,5 @@
 -- An edge that starts at a height.
 use Rattle.std.proofs.Common.{◌≡◌, ℕ, zero, suc, ◌+◌, ◌-◌, ◌<◌, ◌≤◌, List, [], ◌∷◌, ◌++◌, length, get_or, take, drop, refl, sym, ap, ap₂, ◌∙◌, arith, subst}
-use lib.Signed.{◌<ℤ◌, ◌≤ℤ◌}
 use Rattle.std.specs.List.{AllByRecursion, concat}
 use Rattle.std.proofs.lemmas.Int.{ints}
 use Rattle.std.proofs.lemmas.List.{length-drop, take-append-drop, get_or-take, get_or-drop, length-take-le, take_at, take_more, drop_at, drop-drop}
@@ -15,9 +14,8 @@ use Rattle.slice_slab.proofs.Times.{times-append}
 use Rattle.slice_slab.specs.Bundles.{edge_at}
 use Rattle.slice_slab.specs.KeptOrder.{IsLeftAt, IsNotRightAt}
 use Rattle.slice_sweep.specs.declared.strand.Strand.{Strand}
-use Rattle.slice_sweep.specs.Keys.{stale}
 use Rattle.slice_sweep.specs.Chains.{Chain, Joins}
-use Rattle.slice_sweep.specs.Strands.{numbers_in, head, LiesLeft, LiesNotRight, IsReaching, IsHeld, AreHeld, AreApart, AreWaiting, weakened, fresh, no_strand, strand_at}
+use Rattle.slice_sweep.specs.Strands.{numbers_in, head, LiesNotRight, IsReaching, IsHeld, AreHeld, AreApart, AreWaiting, weakened, fresh, no_strand, strand_at}
 use Rattle.slice_sweep.proofs.Keys.{never_below}
 use Rattle.slice_sweep.proofs.Lists.{chain_front, chain_back, joins_from}
 use Rattle.slice_sweep.proofs.Weakening.{length_weakened, held_put, ordered_put, apart_put, times_strands, times_put}

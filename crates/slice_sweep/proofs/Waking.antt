@@ -1,5 +1,5 @@
 -- The keys of mended strands.
-use Rattle.std.proofs.Common.{◌≡◌, ℕ, zero, suc, ◌+◌, ◌<◌, ◌≤◌, ◌⊎◌, inl, inr, List, [], ◌∷◌, length, get_or, set, refl, sym, ap, ◌∙◌, arith, subst, ℤ, pos, ◌*ℤ◌, ◌<ℤ◌}
+use Rattle.std.proofs.Common.{◌≡◌, ℕ, zero, suc, ◌+◌, ◌<◌, ◌⊎◌, inl, inr, List, [], ◌∷◌, length, get_or, set, refl, sym, ap, arith, subst, ℤ, pos, ◌*ℤ◌, ◌<ℤ◌}
 use lib.Signed.{◌≤ℤ◌}
 use Rattle.std.specs.List.{AllByRecursion}
 use Rattle.std.proofs.lemmas.Int.{ints, by_lt_z}
@@ -9,7 +9,7 @@ use Rattle.scad_geom.specs.declared.point.Edge.{Edge}
 use Rattle.scad_geom.specs.declared.level.Level.{Level}
 use Rattle.scad_geom.specs.declared.level.LeafEdge.{LeafEdge}
 use Rattle.scad_geom.specs.Line.{high, lean, apart}
-use Rattle.scad_geom.specs.Level.{level_of, IsLower, IsAtMost, IsLevelWithin}
+use Rattle.scad_geom.specs.Level.{level_of, IsLower, IsLevelWithin}
 use Rattle.scad_geom.specs.EdgeOrder.{IsBefore}
 use Rattle.scad_geom.proofs.Heights.{lower_weak}
 use Rattle.slice_slab.specs.Bundles.{edge_at}
@@ -18,7 +18,7 @@ use Rattle.slice_sweep.specs.declared.strand.Strand.{Strand}
 use Rattle.slice_sweep.specs.Keys.{parts, IsBelowKey, stale}
 use Rattle.slice_sweep.specs.Chains.{Chain}
 use Rattle.slice_sweep.specs.Strands.{bundles_of, EndAbove, LiesLeft, IsReaching, IsHeld, AreHeld, no_strand, strand_at}
-use Rattle.slice_sweep.specs.Mending.{ComesBefore, AreMended, AreOrdered}
+use Rattle.slice_sweep.specs.Mending.{ComesBefore, AreOrdered}
 use Rattle.slice_sweep.proofs.Keys.{below_whole, never_below_less, left_until, left_always}
 use Rattle.slice_sweep.proofs.Lists.{chain_at, weaker}
 

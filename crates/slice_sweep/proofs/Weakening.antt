@@ -1,7 +1,5 @@
 -- Strands without keys.
 use Rattle.std.proofs.Common.{◌≡◌, ℕ, zero, suc, ◌+◌, ◌-◌, ◌<◌, ◌≤◌, List, [], ◌∷◌, ◌++◌, length, get_or, set, take, drop, refl, sym, ap, ◌∙◌, arith, subst, zero-add}
-use lib.IntN.{pos}
-use lib.Signed.{◌<ℤ◌}
 use Rattle.std.specs.List.{AllByRecursion, concat}
 use Rattle.std.proofs.lemmas.Int.{ints}
 use Rattle.std.proofs.lemmas.List.{length-append, length-drop, length-take-le}
@@ -59,8 +57,14 @@ weakened_by ss (suc n) x o q e =
 pub weakened_length : (ss W : List Strand) (p : ℕ) → p ≤ length ss → W ≡ weakened (take p ss) ++ drop p ss
     → length W ≡ length ss
 weakened_length ss W p o e =
-    omega (arith, ap length e, length-append (weakened (take p ss)) (drop p ss), length_weakened (take p ss),
-    length-take-le p ss o, length-drop p ss)
+    omega (
+      arith,
+      ap length e,
+      length-append (weakened (take p ss)) (drop p ss),
+      length_weakened (take p ss),
+      length-take-le p ss o,
+      length-drop p ss,
+    )
 
 module _ (P : Strand → Type 0) (f : (s : Strand) → P s → P (restaled s)) where
   pub all_weakened : (ss : List Strand) → AllByRecursion P ss → AllByRecursion P (weakened ss)

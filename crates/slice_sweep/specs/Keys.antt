@@ -1,5 +1,5 @@
 -- Wake-up keys: heights in parts of a micrometre.
-use Rattle.std.specs.Prelude.{◌≡◌, ℤ, pos, negsuc, ◌*ℤ◌, ◌<ℤ◌}
+use Rattle.std.specs.Prelude.{ℤ, pos, negsuc, ◌*ℤ◌, ◌<ℤ◌}
 use Rattle.scad_geom.specs.declared.level.Level.{Level}
 
 -- how many parts a micrometre has

@@ -1,5 +1,5 @@
 -- One more strand at the place.
-use Rattle.std.proofs.Common.{arith, sym, ◌∙◌}
+use Rattle.std.proofs.Common.{arith}
 use Rattle.slice_sweep.proofs.Groups.{together_more}
 use Rattle.slice_sweep.proofs.group.group_end.Goals as goal
 
@@ -12,6 +12,8 @@ group-preserved c =
       some = omega (arith, some);
       within = omega (arith, there);
       together = together_more c.args.step.now.edges.now c.args.step.now.lower.now c.args.strands.now c.args.from
-          c.group.end c.index-strands-end.result c.index-strands-end-in-group.result i.together some there
-          c.index-strands-end.is c.index-strands-end-in-group.is (sym c.are_together.ensures ∙ c.if-are_together.true);
+          c.group.end c.index-strands-end.result c.index-strands-end-in-group.result c.are_together.result i.together
+          some there
+          c.index-strands-end.is c.index-strands-end-in-group.is c.are_together.ensures
+          c.if-are_together.true;
     }

@@ -1,5 +1,5 @@
 -- The quotient rounded down is the greatest key that isn't above the height.
-use Rattle.std.proofs.Common.{◌≡◌, arith, FitsSigned, ℤ, pos, ◌<ℤ◌, ◌+ℤ◌, ◌*ℤ◌, subst}
+use Rattle.std.proofs.Common.{◌≡◌, arith, FitsSigned, ℤ, ◌<ℤ◌, ◌+ℤ◌, ◌*ℤ◌, subst}
 use Rattle.std.proofs.lemmas.Int.{to_z-of_z}
 use Rattle.slice_sweep.specs.Keys.{parts}
 use Rattle.slice_sweep.proofs.Keys.{below_greater}

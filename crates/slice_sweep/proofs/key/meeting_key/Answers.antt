@@ -1,5 +1,5 @@
 -- The quotient of what they lie apart by how they lean to one another, or a lower key.
-use Rattle.std.proofs.Common.{◌≡◌, ◌⊎◌, FitsSigned, ℤ, pos, ◌*ℤ◌, ◌<ℤ◌}
+use Rattle.std.proofs.Common.{◌≡◌, ◌⊎◌, FitsSigned, ◌*ℤ◌}
 use lib.Signed.{◌≤ℤ◌}
 use Rattle.std.proofs.lemmas.Int.{to_z-of_z}
 use Rattle.scad_geom.specs.Line.{lean, apart}

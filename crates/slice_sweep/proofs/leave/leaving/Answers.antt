@@ -1,5 +1,5 @@
 -- Sorted rays, those that coincide together, are the bundles.
-use Rattle.std.proofs.Common.{◌≡◌, sym, ap, ◌∙◌, subst, filter, List, ℕ, IsPermutation, Bool}
+use Rattle.std.proofs.Common.{sym, ap, ◌∙◌, subst, filter, List, ℕ, IsPermutation, Bool}
 use Rattle.std.specs.List.{concat}
 use Rattle.std.proofs.lemmas.Result.{IfOk-weaker}
 use Rattle.slice_slab.specs.Bundles.{edge_at, reaches, AreRanked}

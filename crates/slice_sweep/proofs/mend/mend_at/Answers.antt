@@ -1,5 +1,5 @@
 -- A strand below whose key the height lies stays as it is.
-use Rattle.std.proofs.Common.{◌<◌, length, subst, sym, ap, List}
+use Rattle.std.proofs.Common.{subst, List}
 use Rattle.slice_sweep.specs.declared.strand.Strand.{Strand}
 use Rattle.slice_sweep.specs.Keys.{IsBelowKey}
 use Rattle.slice_sweep.specs.Strands.{strand_at}

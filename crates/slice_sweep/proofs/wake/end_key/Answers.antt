@@ -1,5 +1,5 @@
 -- The key is that of the height at which the first of the edges ends.
-use Rattle.std.proofs.Common.{◌≡◌, FitsSigned, ℤ, ◌*ℤ◌, List, ℕ, subst, ap, ◌∙◌}
+use Rattle.std.proofs.Common.{◌≡◌, FitsSigned, ℤ, ◌*ℤ◌, ℕ, subst}
 use lib.Signed.{◌≤ℤ◌}
 use Rattle.std.specs.List.{All}
 use Rattle.std.proofs.lemmas.Int.{to_z-of_z}

@@ -1,5 +1,5 @@
 -- Each edge lowers the height to its end, if that is lower.
-use Rattle.std.proofs.Common.{◌≡◌, FitsSigned, ℤ, ℕ, List, subst, arith}
+use Rattle.std.proofs.Common.{FitsSigned, ℤ, ℕ, List, subst, arith}
 use lib.Signed.{◌≤ℤ◌}
 use Rattle.std.specs.List.{All}
 use Rattle.std.proofs.lemmas.Int.{ints, to_z-of_z}

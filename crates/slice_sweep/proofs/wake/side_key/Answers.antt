@@ -1,5 +1,5 @@
 -- The key is that of their meeting.
-use Rattle.std.proofs.Common.{◌≡◌, subst, sym, FitsSigned}
+use Rattle.std.proofs.Common.{subst, sym, FitsSigned}
 use Rattle.std.proofs.lemmas.Int.{to_z-of_z}
 use Rattle.scad_geom.specs.declared.point.Edge.{Edge}
 use Rattle.scad_geom.specs.EdgeOrder.{IsBefore}

@@ -1,7 +1,6 @@
 -- Only the key is written.
-use Rattle.std.proofs.Common.{◌≡◌, ◌<◌, length, set, sym, subst, List, ℤ, FitsSigned}
+use Rattle.std.proofs.Common.{sym, subst, FitsSigned}
 use Rattle.std.proofs.lemmas.Int.{to_z-of_z}
-use Rattle.slice_sweep.specs.declared.strand.Strand.{Strand}
 use Rattle.slice_sweep.specs.Strands.{AreThere}
 use Rattle.slice_sweep.proofs.Groups.{there_of}
 use Rattle.slice_sweep.proofs.Waking.{woken_by}

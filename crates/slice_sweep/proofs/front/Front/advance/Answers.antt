@@ -1,5 +1,5 @@
 -- The edges that begin are put to their places, the strands mended, and their keys written.
-use Rattle.std.proofs.Common.{◌≡◌, ◌≤◌, ◌<◌, ◌++◌, ◌∙◌, drop, length, sym, ap, ap₂, subst, List, ℕ, All, pos, ◌<ℤ◌}
+use Rattle.std.proofs.Common.{◌≤◌, ◌<◌, drop, length, sym, subst, List, All, pos, ◌<ℤ◌}
 use Rattle.scad_geom.specs.declared.level.Level.{Level}
 use Rattle.scad_geom.specs.Level.{IsAtMost}
 use Rattle.slice_slab.specs.Bundles.{AreBundles}
@@ -36,7 +36,6 @@ made c =
     c.start_all.new.strands.items c.mend.new.strands.items c.wake_all.new.strands.items
     (starts_left es s.begun s.ends.items c.requires.ready.starts)
     (rising_left s.begun s.ends.items c.requires.ready.rising) c.requires.ready.waiting c.requires.ready.later
-    
     (begun_by c.args.lower.now s.begun s.ends.items c.deref.result.now c.new-numbers.result.items
     c.begin.new.numbers.items c.deref-2.result.now c.deref.ensures.value c.new-numbers.ensures.items
     c.in_ok-self.ensures.begun c.deref-2.ensures.value)
