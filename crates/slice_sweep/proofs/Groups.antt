@@ -228,7 +228,8 @@ module _ (es : List LeafEdge) (l u : Level) (w : IsLevelWithin coordinate_limit 
       → All (λ k. k < length es) (numbers_in X) × AllStand (IsSamePlaceAt l) es (numbers_in X) (numbers_in X)
   tied [] e = absurd (omega (arith, ap length e, size, some))
   tied (g ∷ G) e =
-      let held = subst (AllByRecursion (IsHeld es l)) (L_is ∙ ap (λ (xs : List Strand). m.done ++ (xs ++ O)) e) m.held in
+      let is : L ≡ m.done ++ ((g ∷ G) ++ O) = L_is ∙ ap (λ (xs : List Strand). m.done ++ (xs ++ O)) e in
+      let held = subst (AllByRecursion (IsHeld es l)) is m.held in
       let held_G = front (IsHeld es l) (g ∷ G) O (back (IsHeld es l) m.done ((g ∷ G) ++ O) held) in (
         All-from_recursion (λ k. k < length es) (numbers_in (g ∷ G))
             (members_there es l u w n.lower_divisor (g ∷ G) held_G),

@@ -47,7 +47,8 @@ below_greater h key wake d o k =
     omega (arith, ints, m, e)
 
 -- no height is below the key of what is looked at in any case
-pub never_below : (l h : Level) → IsLevelWithin coordinate_limit l → pos 0 <ℤ h.d → IsAtMost l h → IsBelowKey h stale → ⊥
+pub never_below : (l h : Level) → IsLevelWithin coordinate_limit l → pos 0 <ℤ h.d → IsAtMost l h
+    → IsBelowKey h stale → ⊥
 never_below l h w d o b =
     let positive = w.positive in
     let size = w.size in

@@ -139,7 +139,8 @@ module _ (es : List LeafEdge) (l u : Level) (n : AreNeighbours es l u) where
   held_upper s h = record {
     bundle = bundle_upper s.bundle h.0.bundle;
     reach = weaker (IsReaching es l u) (IsReaching es u u) reach_upper s.bundle h.1;
-    ends = λ g d o b. h.0.ends g d (at_most_chain l u g n.lower_divisor n.upper_divisor d (lower_weak l u n.in_order) o) b;
+    ends = λ g d o b. h.0.ends g d
+        (at_most_chain l u g n.lower_divisor n.upper_divisor d (lower_weak l u n.in_order) o) b;
   }
 
   order_upper : (b c : List ℕ) → IsBundle es l b → IsBundle es l c → AllByRecursion (IsReaching es l u) b
@@ -173,7 +174,8 @@ module _ (es : List LeafEdge) (l u : Level) (n : AreNeighbours es l u) where
       both_chains (s ∷ (t ∷ ss)) a b = ((a.0, b.0), both_chains (t ∷ ss) a.1 b.1)
 
   -- ---- which edges there are
-  module _ (P : List Start) (L0 L1 L2 L3 : List Strand) (starts : AllByRecursion (IsStartOf es) P) (rising : AreRising P)
+  module _ (P : List Start) (L0 L1 L2 L3 : List Strand) (starts : AllByRecursion (IsStartOf es) P)
+      (rising : AreRising P)
       (waiting : AllByRecursion (IsHeld es l) L0)
       (later : (h : Level) → pos 0 <ℤ h.d → IsAtMost l h → AreAll es h (numbers_in L0) P)
       (begun-is : (k : ℕ) → reaches (edge_at es k) l l ≡ true
@@ -218,8 +220,10 @@ module _ (es : List LeafEdge) (l u : Level) (n : AreNeighbours es l u) where
         × (int_le b.n ((high e).y *ℤ b.d) ≡ true)
     unfolding reaches
     parts_of e a b h =
-        let p = and_parts (int_lt (pos 0) (rise e)) (int_le ((low e).y *ℤ a.d) a.n && int_le b.n ((high e).y *ℤ b.d)) h in
-        let q = and_parts (int_le ((low e).y *ℤ a.d) a.n) (int_le b.n ((high e).y *ℤ b.d)) p.1 in
+        let begun = int_le ((low e).y *ℤ a.d) a.n in
+        let on = int_le b.n ((high e).y *ℤ b.d) in
+        let p = and_parts (int_lt (pos 0) (rise e)) (begun && on) h in
+        let q = and_parts begun on p.1 in
         (p.0, q.0, q.1)
 
     whole_of : (e : Edge) (a b : Level) → int_lt (pos 0) (rise e) ≡ true → int_le ((low e).y *ℤ a.d) a.n ≡ true
@@ -288,8 +292,8 @@ module _ (es : List LeafEdge) (l u : Level) (n : AreNeighbours es l u) where
             (times k (numbers_in L3) + waits k) (times k (numbers_in L0 ++ numbers_of P)) (two k)
             (sum_is (times k (numbers_in L0 ++ numbers_of P)) (times k (numbers_in L0)) (started k) (waits k)
             (times k (numbers_in L3)) (total k) (new_is k h)) (at_lower.once k)
-        by_test false h = few (times k (numbers_in L3 ++ numbers_of (pending_at l P))) (times k (numbers_in L3)) (waits k)
-            (times k (numbers_in L0 ++ numbers_of P)) (times k (numbers_in L0)) (started k) (two k) (no_new k h)
+        by_test false h = few (times k (numbers_in L3 ++ numbers_of (pending_at l P))) (times k (numbers_in L3))
+            (waits k) (times k (numbers_in L0 ++ numbers_of P)) (times k (numbers_in L0)) (started k) (two k) (no_new k h)
             (total k) (at_lower.once k)
 
     pub all_later : (h : Level) → pos 0 <ℤ h.d → IsAtMost u h → (k : ℕ) → k < length es
@@ -369,7 +373,8 @@ none_yet es h starts m =
 pub none_waiting : (es : List LeafEdge) (at : Level) → AreWaiting es at []
 none_waiting es at = record { held = tt; ordered = tt; apart = tt }
 
--- ---- as the code lifts it: P are the starts that were pending, Q those that are, B the numbers of the edges that begin
+-- ---- as the code lifts it
+-- P are the starts that were pending, Q those that are, B the numbers of the edges that begin
 pub made_by : (es : List LeafEdge) (l u : Level) (n : AreNeighbours es l u) (P Q : List Start) (B : List ℕ)
     (L0 L1 L2 L3 : List Strand) → AllByRecursion (IsStartOf es) P → AreRising P → AreWaiting es l L0
     → ((h : Level) → pos 0 <ℤ h.d → IsAtMost l h → AreAll es h (numbers_in L0) P)

@@ -77,8 +77,8 @@ before_weak at e f (inr h) = let h0 = h.0 in omega (arith, ints)
 pub edge_rises : (es : List LeafEdge) (l u : Level) (k : ℕ) → IsReaching es l u k → pos 0 <ℤ rise (edge_at es k)
 edge_rises es l u k r = (reaches_is (edge_at es k) l u r.reaches).rises
 
-head_rises : (es : List LeafEdge) (at l u : Level) (b : List ℕ) → IsBundle es at b → AllByRecursion (IsReaching es l u) b
-    → pos 0 <ℤ rise (head es b)
+head_rises : (es : List LeafEdge) (at l u : Level) (b : List ℕ) → IsBundle es at b
+    → AllByRecursion (IsReaching es l u) b → pos 0 <ℤ rise (head es b)
 head_rises es at l u [] b r = absurd b
 head_rises es at l u (k ∷ ks) b r = edge_rises es l u k r.0
 
@@ -197,8 +197,8 @@ module _ (es : List LeafEdge) (l u : Level) (w : IsLevelWithin coordinate_limit 
       → Chain (IsTogether es l) (g ∷ G)
       → AllStand (IsSamePlaceAt l) es (numbers_in (g ∷ G)) (numbers_in (g ∷ G))
   stand_together g G h c = weaker (IsAt es l x) (λ k. AllByRecursion (λ j. Same k j) ks)
-      (λ k a. weaker (IsAt es l x) (λ j. Same k j) (λ j b. same_same l (edge_at es k) x (edge_at es j) a.rises dx b.rises
-      (turned l x (edge_at es k) a.same) b.same) ks all) ks all
+      (λ k a. weaker (IsAt es l x) (λ j. Same k j)
+      (λ j b. same_same l (edge_at es k) x (edge_at es j) a.rises dx b.rises (turned l x (edge_at es k) a.same) b.same) ks all) ks all
     where
       x : Edge
       x = head es g.bundle

@@ -71,7 +71,9 @@ sorted_by (r ∷ []) h = tt
 sorted_by (r ∷ (s ∷ rs)) h = (h zero r (omega arith), sorted_by (s ∷ rs) (λ k d b. h (suc k) d (omega arith)))
 
 pub sorted_from : (rs : List Ray) → IsSortedBy comes_first rs → AreSorted rs
-sorted_from rs h = sorted_by rs (λ k d b. let t : comes_first (get_or rs (k + 1) d) (get_or rs k d) ≡ false = h k d (omega arith) (omega arith) in rw add-one at t)
+sorted_from rs h = sorted_by rs (λ k d b.
+    let t : comes_first (get_or rs (k + 1) d) (get_or rs k d) ≡ false = h k d (omega arith) (omega arith) in
+    rw add-one at t)
 
 -- one of two neighbours doesn't come after the other
 apart_parts : (c d e : Bool) → (c || (not d && e)) ≡ false

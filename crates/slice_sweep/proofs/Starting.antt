@@ -26,7 +26,8 @@ pub put_between : (L : List Strand) (from to : ℕ) (W N : List Strand) → from
     → take from W ++ (N ++ drop to W) ≡ weakened (take from L) ++ (N ++ drop to L)
 put_between L from to W N o q e =
     let n : length (weakened (take from L)) ≡ from = length_weakened (take from L) ∙ length-take-le from L q in
-    let t : take from W ≡ weakened (take from L) = ap (take from) e ∙ take_at (weakened (take from L)) (drop from L) from n in
+    let t : take from W ≡ weakened (take from L) = ap (take from) e
+    ∙ take_at (weakened (take from L)) (drop from L) from n in
     let d : drop from W ≡ drop from L = ap (drop from) e ∙ drop_at (weakened (take from L)) (drop from L) from n in
     let m : from + (to - from) ≡ to = omega (arith, o) in
     let r : drop to W ≡ drop to L =

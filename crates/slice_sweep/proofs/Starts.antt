@@ -31,7 +31,9 @@ rising_by (s ∷ (t ∷ ss)) h =
     (omega (arith, ints), rising_by (t ∷ ss) (λ k d b. h (suc k) d (omega arith)))
 
 pub rising_from : (ss : List LowerEnd) → IsSortedBy lower_first ss → AreRising (starts_of ss)
-rising_from ss h = rising_by ss (λ k d b. let t : lower_first (get_or ss (k + 1) d) (get_or ss k d) ≡ false = h k d (omega arith) (omega arith) in rw add-one at t)
+rising_from ss h = rising_by ss (λ k d b.
+    let t : lower_first (get_or ss (k + 1) d) (get_or ss k d) ≡ false = h k d (omega arith) (omega arith) in
+    rw add-one at t)
 
 starts_drop : (n : ℕ) (ss : List LowerEnd) → drop n (starts_of ss) ≡ starts_of (drop n ss)
 starts_drop zero ss = refl

@@ -40,8 +40,8 @@ pub record IsReaching (edges : List LeafEdge) (lower upper : Level) (k : ℕ) : 
 abbrev pub EndAbove : List LeafEdge → Level → List ℕ → Type 0
 EndAbove edges at ks = AllByRecursion (λ k. IsLower at (level_of (high (edge_at edges k)).y)) ks
 
--- a strand at a height: a bundle of edges that reach it, of which none ends at a height that isn't below it and is below
--- the key
+-- a strand at a height: a bundle of edges that reach it, of which none ends at a height that isn't below it and is
+-- below the key
 pub record IsHeld (edges : List LeafEdge) (at : Level) (s : Strand) : Type 0 where
   pub bundle : IsBundle edges at s.bundle
   pub reach : AllByRecursion (IsReaching edges at at) s.bundle

@@ -26,7 +26,8 @@ pub(crate) fn group_end(step: &Step<'_>, strands: &[Strand], from: usize) -> usi
     ensures together { (i : ℕ) → from ≤ i → i + 1 < result
         → IsTogether step.now.edges.now step.now.lower.now (strand_at strands.now i) (strand_at strands.now (i + 1)) }
     ensures apart { (i : ℕ) → i + 1 ≡ result → result < length strands.now
-        → IsTogether step.now.edges.now step.now.lower.now (strand_at strands.now i) (strand_at strands.now (i + 1)) → ⊥ }
+        → IsTogether step.now.edges.now step.now.lower.now (strand_at strands.now i) (strand_at strands.now (i + 1))
+        → ⊥ }
 {
     let mut end = from + 1;
     'group: while end < strands.len() && are_together(step, &strands[end - 1], &strands[end]) {

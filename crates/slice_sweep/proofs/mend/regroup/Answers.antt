@@ -34,8 +34,8 @@ replace-requires-clause-to c =
     let q = c.requires.group in
     let some = q.some in
     let within = q.within in
-    let size = weakened_length c.args.strands.now.items c.weaken.new.strands.items c.args.from (omega (arith, some, within))
-    c.weaken.ensures in
+    let size = weakened_length c.args.strands.now.items c.weaken.new.strands.items c.args.from
+    (omega (arith, some, within)) c.weaken.ensures in
     omega (arith, within, size)
 
 put : (c : After-drop-numbers-2)

@@ -9,7 +9,8 @@ invariant-places l = record {
   order : l.low ≤ l.high;
   within : l.high ≤ length l.strands;
   left : (j : ℕ) → j + 1 ≡ l.low → IsLeftAt l.at (head l.edges (strand_at l.strands j).bundle) (edge_at l.edges l.k);
-  right : l.high < length l.strands → IsNotRightAt l.at (edge_at l.edges l.k) (head l.edges (strand_at l.strands l.high).bundle);
+  right : l.high < length l.strands
+      → IsNotRightAt l.at (edge_at l.edges l.k) (head l.edges (strand_at l.strands l.high).bundle);
 }
 
 abbrev pub decreases-places : goal.decreases-places

@@ -8,5 +8,6 @@ abbrev pub invariant-numbers : goal.invariant-numbers
 invariant-numbers l = record {
   waiting : AreWaiting l.edges l.at l.strands.items;
   numbers : (k : ℕ) → reaches (edge_at l.edges k) l.at l.at ≡ true
-      → times k (numbers_in l.strands.items) ≡ times k (numbers_in l.fn.strands.items) + times k (take l.k-index l.numbers);
+      → times k (numbers_in l.strands.items)
+      ≡ times k (numbers_in l.fn.strands.items) + times k (take l.k-index l.numbers);
 }
