@@ -1,0 +1,12 @@
+mod Lists
+mod Keys
+mod Weakening
+mod Starting
+mod Mending
+mod Groups
+mod Waking
+mod Lifted
+mod Starts
+mod RayOrder
+mod RayBundles
+mod RaySteps

@@ -1,0 +1,22 @@
+-- No edge has begun.
+use Rattle.std.proofs.Common.{sym, subst, arith, List}
+use Rattle.slice_slab.specs.declared.start.Start.{Start}
+use Rattle.slice_sweep.specs.declared.strand.Strand.{Strand}
+use Rattle.slice_sweep.specs.LowerEnds.{starts_of}
+use Rattle.slice_sweep.specs.Strands.{numbers_in, AreWaiting}
+use Rattle.slice_sweep.specs.Front.{AreAll}
+use Rattle.slice_sweep.proofs.Lifted.{none_yet, none_waiting}
+use Rattle.slice_sweep.proofs.front.Front.new.Goals as goal
+
+pub returns : goal.returns
+returns c =
+    let es = c.args.edges.now in
+    let starts : List Start = starts_of c.in_ok-lower_ends.field-0.items in
+    λ at. record {
+      starts = c.in_ok-lower_ends.ensures.starts;
+      rising = c.in_ok-lower_ends.ensures.rising;
+      begun = omega arith;
+      waiting = subst (AreWaiting es at) (sym c.new.ensures.items) (none_waiting es at);
+      later = λ h d o. subst (λ (ss : List Strand). AreAll es h (numbers_in ss) starts) (sym c.new.ensures.items)
+          (none_yet es h starts c.in_ok-lower_ends.ensures.all);
+    }

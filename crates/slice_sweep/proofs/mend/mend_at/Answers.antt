@@ -1,0 +1,15 @@
+-- A strand below whose key the height lies stays as it is.
+use Rattle.std.proofs.Common.{subst, List}
+use Rattle.slice_sweep.specs.declared.strand.Strand.{Strand}
+use Rattle.slice_sweep.specs.Keys.{IsBelowKey}
+use Rattle.slice_sweep.specs.Strands.{strand_at}
+use Rattle.slice_sweep.proofs.Groups.{asleep}
+use Rattle.slice_sweep.proofs.mend.mend_at.Goals as goal
+
+pub returns-then-is_asleep-clause-mended : goal.returns-then-is_asleep-clause-mended
+returns-then-is_asleep-clause-mended c =
+    let s = c.args.step.now in
+    let L : List Strand = c.args.strands.now.items in
+    asleep s.edges.now s.lower.now s.upper.now c.requires.neighbours c.args.place L c.requires.mended c.requires.there
+    (subst (λ (xs : List Strand). IsBelowKey s.lower.now (strand_at xs c.args.place).wake) c.deref.ensures.value
+    (c.is_asleep.ensures c.if-is_asleep.true))

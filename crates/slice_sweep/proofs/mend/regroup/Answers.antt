@@ -1,0 +1,70 @@
+-- The bundles of the edges that go on stand in the place of the group.
+use Rattle.std.proofs.Common.{◌≡◌, ◌+◌, ◌-◌, ◌<◌, ◌++◌, drop, filter, sym, ap, subst, arith, rules, List, ℕ, length, All, IsPermutation}
+use Rattle.std.specs.List.{concat}
+use Rattle.slice_slab.specs.Bundles.{edge_at, reaches}
+use Rattle.slice_slab.specs.KeptOrder.{IsSamePlaceAt, AllStand}
+use Rattle.slice_sweep.specs.declared.strand.Strand.{Strand}
+use Rattle.slice_sweep.specs.Strands.{numbers_in}
+use Rattle.slice_sweep.specs.Mending.{AreMendedTo, KeepTimes}
+use Rattle.slice_sweep.proofs.Weakening.{weakened_length}
+use Rattle.slice_sweep.proofs.Groups.{group_there, group_together, regrouped_by}
+use Rattle.slice_sweep.proofs.mend.regroup.Goals as goal
+use Rattle.slice_sweep.proofs.mend.regroup.Goals.{After-drop-numbers-2}
+
+pub leaving-requires-clause-there : goal.leaving-requires-clause-there
+leaving-requires-clause-there c =
+    let s = c.args.step.now in
+    let split = subst (λ (xs : List Strand). c.in_ok-numbers.numbers.items ++ numbers_in (drop c.args.to xs)
+    ≡ numbers_in (drop c.args.from xs)) c.deref.ensures.value c.in_ok-numbers.ensures in
+    subst (All (λ k. k < length s.edges.now)) (sym c.deref-2.ensures.value)
+    (group_there s.edges.now s.lower.now s.upper.now s.lower_within c.requires.neighbours c.args.from c.args.to
+    c.args.strands.now.items c.requires.mended c.requires.group c.in_ok-numbers.numbers.items split)
+
+pub leaving-requires-clause-together : goal.leaving-requires-clause-together
+leaving-requires-clause-together c =
+    let s = c.args.step.now in
+    let split = subst (λ (xs : List Strand). c.in_ok-numbers.numbers.items ++ numbers_in (drop c.args.to xs)
+    ≡ numbers_in (drop c.args.from xs)) c.deref.ensures.value c.in_ok-numbers.ensures in
+    subst (λ (ks : List ℕ). AllStand (IsSamePlaceAt s.lower.now) s.edges.now ks ks) (sym c.deref-2.ensures.value)
+    (group_together s.edges.now s.lower.now s.upper.now s.lower_within c.requires.neighbours c.args.from c.args.to
+    c.args.strands.now.items c.requires.mended c.requires.group c.in_ok-numbers.numbers.items split)
+
+pub replace-requires-clause-to : goal.replace-requires-clause-to
+replace-requires-clause-to c =
+    let q = c.requires.group in
+    let some = q.some in
+    let within = q.within in
+    let size = weakened_length c.args.strands.now.items c.weaken.new.strands.items c.args.from
+    (omega (arith, some, within)) c.weaken.ensures in
+    omega (arith, within, size)
+
+put : (c : After-drop-numbers-2)
+    → AreMendedTo c.args.step.now.edges.now c.args.step.now.lower.now c.args.step.now.upper.now
+    (c.args.from + c.len.result) c.replace.new.strands.items
+    × KeepTimes c.args.step.now.edges.now c.args.step.now.lower.now c.args.step.now.upper.now
+    c.args.strands.now.items c.replace.new.strands.items
+    × (length c.replace.new.strands.items - (c.args.from + c.len.result)
+    < length c.args.strands.now.items - c.args.from)
+put c =
+    let s = c.args.step.now in
+    let L : List Strand = c.args.strands.now.items in
+    let split = subst (λ (xs : List Strand). c.in_ok-numbers.numbers.items ++ numbers_in (drop c.args.to xs)
+    ≡ numbers_in (drop c.args.from xs)) c.deref.ensures.value c.in_ok-numbers.ensures in
+    let same = subst (λ (ks : List ℕ). IsPermutation
+    (filter (λ k. reaches (edge_at s.edges.now k) s.lower.now s.upper.now) ks) (concat c.in_ok-bundles.bundles.items))
+    c.deref-2.ensures.value c.in_ok-bundles.ensures.members in
+    let long : c.len.result ≡ length c.in_ok-others.others.items = search rules in
+    regrouped_by s.edges.now s.lower.now s.upper.now s.lower_within c.requires.neighbours c.args.from c.args.to L
+    c.requires.mended c.requires.group c.in_ok-numbers.numbers.items split c.in_ok-bundles.bundles.items
+    c.in_ok-bundles.ensures.ranked same c.weaken.new.strands.items c.in_ok-others.others.items
+    c.replace.new.strands.items (c.args.from + c.len.result) c.weaken.ensures c.in_ok-others.ensures
+    c.in_ok-replace.ensures (ap (λ (n : ℕ). c.args.from + n) long)
+
+pub returns-clause-mended : goal.returns-clause-mended
+returns-clause-mended c = (put c).0
+
+pub returns-clause-numbers : goal.returns-clause-numbers
+returns-clause-numbers c = (put c).1
+
+pub returns-clause-fewer : goal.returns-clause-fewer
+returns-clause-fewer c = (put c).2

@@ -1,0 +1,38 @@
+-- The edge stands at the place that was found, and the strand before it has lost its key.
+use Rattle.std.proofs.Common.{arith, ◌≤◌, length, sym, subst, List}
+use Rattle.std.proofs.lemmas.Result.{on_ok_weaker}
+use Rattle.slice_sweep.specs.declared.strand.Strand.{Strand}
+use Rattle.slice_sweep.specs.Strands.{AreThere}
+use Rattle.slice_sweep.proofs.Groups.{there_of}
+use Rattle.slice_sweep.proofs.Starting.{started_by}
+use Rattle.slice_sweep.proofs.Weakening.{weakened_length}
+use Rattle.slice_sweep.proofs.start.begin_at.Goals as goal
+
+pub place-i-requires-clause-strands : goal.place-i-requires-clause-strands
+place-i-requires-clause-strands c =
+    subst (AreThere c.args.edges.now) (sym c.deref.ensures.value)
+    (there_of c.args.edges.now c.args.at.now c.args.strands.now.items c.requires.waiting.held)
+
+pub returns-clause-waiting : goal.returns-clause-waiting
+returns-clause-waiting c = on_ok_weaker c.insert.result
+    (λ e. (started_by c.args.edges.now c.args.at.now c.requires.at c.args.strands.now.items c.deref.result.now
+    c.weaken.new.strands.items c.insert.new.strands.items c.place-i.result c.args.k c.deref.ensures.value
+    c.place-i.ensures.within c.requires.reaching c.place-i.ensures.left c.place-i.ensures.right c.requires.waiting
+    c.weaken.ensures e).0)
+    c.insert.ensures
+
+pub returns-clause-numbers : goal.returns-clause-numbers
+returns-clause-numbers c = on_ok_weaker c.insert.result
+    (λ e. (started_by c.args.edges.now c.args.at.now c.requires.at c.args.strands.now.items c.deref.result.now
+    c.weaken.new.strands.items c.insert.new.strands.items c.place-i.result c.args.k c.deref.ensures.value
+    c.place-i.ensures.within c.requires.reaching c.place-i.ensures.left c.place-i.ensures.right c.requires.waiting
+    c.weaken.ensures e).1)
+    c.insert.ensures
+
+pub insert-requires : goal.insert-requires
+insert-requires c =
+    let within : c.place-i.result ≤ length c.args.strands.now.items =
+    subst (λ (xs : List Strand). c.place-i.result ≤ length xs) c.deref.ensures.value c.place-i.ensures.within in
+    let size = weakened_length c.args.strands.now.items c.weaken.new.strands.items c.place-i.result within
+    c.weaken.ensures in
+    omega (arith, within, size)

@@ -1,0 +1,11 @@
+-- One more edge has begun.
+use Rattle.slice_sweep.proofs.Starting.{started_more}
+use Rattle.slice_sweep.proofs.start.start_all.Goals as goal
+
+pub numbers-preserved : goal.numbers-preserved
+numbers-preserved c = record {
+  waiting = c.in_ok-start.ensures.waiting;
+  numbers = λ k r. started_more k c.args.strands.now.items c.numbers.strands.items c.start.new.strands.items
+      c.args.numbers.now c.numbers.k-index c.numbers-test.true (c.numbers.invariant.numbers k r)
+      (c.in_ok-start.ensures.numbers k r);
+}

@@ -1,0 +1,13 @@
+use Rattle.std.proofs.Common.{◌≡◌, ℕ, ◌+◌, true, take}
+use Rattle.slice_slab.specs.Active.{times}
+use Rattle.slice_slab.specs.Bundles.{edge_at, reaches}
+use Rattle.slice_sweep.specs.Strands.{numbers_in, AreWaiting}
+use Rattle.slice_sweep.proofs.start.start_all.Given as goal
+
+abbrev pub invariant-numbers : goal.invariant-numbers
+invariant-numbers l = record {
+  waiting : AreWaiting l.edges l.at l.strands.items;
+  numbers : (k : ℕ) → reaches (edge_at l.edges k) l.at l.at ≡ true
+      → times k (numbers_in l.strands.items)
+      ≡ times k (numbers_in l.fn.strands.items) + times k (take l.k-index l.numbers);
+}

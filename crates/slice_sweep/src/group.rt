@@ -1,0 +1,92 @@
+//! Strands that meet a height at one place.
+ghost use Rattle.std.specs.Prelude.{◌≡◌, ◌<◌, ◌≤◌, ◌+◌, ◌++◌, ◌*ℤ◌, int_le, ℕ, true, drop, length, IfOk, All};
+ghost use Rattle.std.specs.Ordering.{int_eq};
+ghost use Rattle.scad_geom.specs.Limits.{coordinate_limit};
+ghost use Rattle.scad_geom.specs.Line.{high, rise, x_at};
+ghost use Rattle.scad_geom.specs.Within.{IsEdgeWithin};
+ghost use Rattle.scad_geom.specs.Level.{IsLevelWithin};
+ghost use Rattle.slice_slab.specs.Bundles.{edge_at};
+ghost use Rattle.slice_slab.specs.KeptOrder.{IsSamePlaceAt};
+ghost use Rattle.slice_sweep.specs.Strands.{head, numbers_in, AreThere, strand_at, IsTogether};
+
+use crate::step::Step;
+use crate::strand::Strand;
+use crate::wake::head;
+use scad_geom::line::ends_from;
+use scad_geom::{LeafEdge, Level, cmp_x_at};
+use std::alloc::AllocError;
+use std::cmp::Ordering;
+
+/// The place behind the strands that lie at one place with the one at a place.
+pub(crate) fn group_end(step: &Step<'_>, strands: &[Strand], from: usize) -> usize
+    requires strands { AreThere step.now.edges.now strands.now }
+    requires there { from < length strands.now }
+    ensures some { from < result }
+    ensures within { result ≤ length strands.now }
+    ensures together { (i : ℕ) → from ≤ i → i + 1 < result
+        → IsTogether step.now.edges.now step.now.lower.now (strand_at strands.now i) (strand_at strands.now (i + 1)) }
+    ensures apart { (i : ℕ) → i + 1 ≡ result → result < length strands.now
+        → IsTogether step.now.edges.now step.now.lower.now (strand_at strands.now i) (strand_at strands.now (i + 1))
+        → ⊥ }
+{
+    let mut end = from + 1;
+    'group: while end < strands.len() && are_together(step, &strands[end - 1], &strands[end]) {
+        end += 1;
+    }
+    end
+}
+
+fn are_together(step: &Step<'_>, s: &Strand, t: &Strand) -> bool
+    requires first { All (λ k. k < length step.now.edges.now) s.now.bundle }
+    requires second { All (λ k. k < length step.now.edges.now) t.now.bundle }
+    ensures { result ≡ int_eq (x_at (head step.now.edges.now s.now.bundle) step.now.lower.now.n step.now.lower.now.d
+        *ℤ rise (head step.now.edges.now t.now.bundle))
+        (x_at (head step.now.edges.now t.now.bundle) step.now.lower.now.n step.now.lower.now.d
+        *ℤ rise (head step.now.edges.now s.now.bundle)) }
+{
+    let e = head(step.edges, &s.bundle);
+    let f = head(step.edges, &t.bundle);
+    matches!(cmp_x_at(&e, &f, step.lower), Ordering::Equal)
+}
+
+/// Whether none of a strand's edges ends below the upper height.
+pub(crate) fn goes_on(step: &Step<'_>, s: &Strand) -> bool
+    requires there { All (λ k. k < length step.now.edges.now) s.now.bundle }
+    ensures { result ≡ true → All (λ k. int_le step.now.upper.now.n
+        ((high (edge_at step.now.edges.now k)).y *ℤ step.now.upper.now.d) ≡ true) s.now.bundle }
+{
+    all_reach(step.edges, s.bundle.as_slice(), step.upper)
+}
+
+fn all_reach(edges: &[LeafEdge], numbers: &[u32], upper: &Level) -> bool
+    requires within { All (λ e. IsEdgeWithin coordinate_limit e.edge) edges.now }
+    requires there { All (λ k. k < length edges.now) numbers.now }
+    requires upper { IsLevelWithin coordinate_limit upper.now }
+    ensures { result ≡ true → All (λ k. int_le upper.now.n
+        ((high (edge_at edges.now k)).y *ℤ upper.now.d) ≡ true) numbers.now }
+{
+    'numbers: for k in numbers {
+        if !ends_from(&edges[*k as usize].edge, upper) {
+            return false;
+        }
+    }
+    true
+}
+
+/// The numbers of the edges of the strands from one place to another.
+pub(crate) fn members(
+    step: &Step<'_>,
+    strands: &[Strand],
+    from: usize,
+    to: usize,
+) -> Result<Vec<u32>, AllocError>
+    requires from { from ≤ to }
+    requires to { to ≤ length strands.now }
+    ensures { IfOk result (λ v. v.items ++ numbers_in (drop to strands.now) ≡ numbers_in (drop from strands.now)) }
+{
+    let mut numbers = Vec::new(step.alloc);
+    'strands: for i in from..to {
+        numbers.extend_from_slice(strands[i].bundle.as_slice())?;
+    }
+    Ok(numbers)
+}

@@ -1,0 +1,51 @@
+//! Where an edge has its place among strands.
+ghost use Rattle.std.specs.Prelude.{◌≡◌, ◌<◌, ◌≤◌, ◌+◌, ◌*ℤ◌, int_lt, ℕ, length, All};
+ghost use Rattle.scad_geom.specs.Limits.{coordinate_limit};
+ghost use Rattle.scad_geom.specs.Line.{rise, x_at};
+ghost use Rattle.scad_geom.specs.Within.{IsEdgeWithin};
+ghost use Rattle.scad_geom.specs.Level.{IsLevelWithin};
+ghost use Rattle.slice_slab.specs.Bundles.{edge_at};
+ghost use Rattle.slice_slab.specs.KeptOrder.{IsLeftAt, IsNotRightAt};
+ghost use Rattle.slice_sweep.specs.Strands.{head, AreThere, strand_at};
+
+use crate::strand::Strand;
+use crate::wake::head;
+use scad_geom::{LeafEdge, Level, cmp_x_at};
+
+/// A place before which a strand lies to the left of an edge at a height, and after which one doesn't.
+pub(crate) fn place(edges: &[LeafEdge], strands: &[Strand], k: u32, at: &Level) -> usize
+    requires within { All (λ e. IsEdgeWithin coordinate_limit e.edge) edges.now }
+    requires strands { AreThere edges.now strands.now }
+    requires edge { k < length edges.now }
+    requires at { IsLevelWithin coordinate_limit at.now }
+    ensures within { result ≤ length strands.now }
+    ensures left { (j : ℕ) → j + 1 ≡ result
+        → IsLeftAt at.now (head edges.now (strand_at strands.now j).bundle) (edge_at edges.now k) }
+    ensures right { result < length strands.now
+        → IsNotRightAt at.now (edge_at edges.now k) (head edges.now (strand_at strands.now result).bundle) }
+{
+    let mut low = 0;
+    let mut high = strands.len();
+    'places: while low < high {
+        let middle = low + (high - low) / 2;
+        if is_left(edges, &strands[middle], k, at) {
+            low = middle + 1;
+        } else {
+            high = middle;
+        }
+    }
+    low
+}
+
+#[tactic(auto, using(scad_geom::proofs::Casts::casts, slice_slab::proofs::Ranking::cmp_tests))]
+fn is_left(edges: &[LeafEdge], s: &Strand, k: u32, at: &Level) -> bool
+    requires within { All (λ e. IsEdgeWithin coordinate_limit e.edge) edges.now }
+    requires there { All (λ k. k < length edges.now) s.now.bundle }
+    requires edge { k < length edges.now }
+    requires at { IsLevelWithin coordinate_limit at.now }
+    ensures { result ≡ int_lt (x_at (head edges.now s.now.bundle) at.now.n at.now.d *ℤ rise (edge_at edges.now k))
+        (x_at (edge_at edges.now k) at.now.n at.now.d *ℤ rise (head edges.now s.now.bundle)) }
+{
+    let first = head(edges, &s.bundle);
+    cmp_x_at(&first, &edges[k as usize].edge, at).is_lt()
+}

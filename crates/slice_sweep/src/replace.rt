@@ -1,0 +1,52 @@
+//! Strands put in the place of others.
+ghost use Rattle.std.specs.Prelude.{◌≡◌, ◌≤◌, ◌++◌, take, drop, length, IfOk, OnOk};
+ghost use Rattle.slice_sweep.specs.Strands.{fresh, weakened};
+
+use crate::key::STALE;
+use crate::strand::Strand;
+use slice_slab::Bundle;
+use std::alloc::{AllocError, Global};
+
+/// Takes the key of the strand before a place.
+pub(crate) fn weaken(strands: &mut Vec<Strand>, place: usize)
+    requires { place ≤ length strands.old.items }
+    ensures { strands.new.items ≡ weakened (take place strands.old.items) ++ drop place strands.old.items }
+{
+    if place > 0 {
+        strands[place - 1].wake = STALE;
+    }
+}
+
+/// Bundles as strands without keys.
+pub(crate) fn without_keys(alloc: Global, bundles: Vec<Bundle>) -> Result<Vec<Strand>, AllocError>
+    ensures { IfOk result (λ v. v.items ≡ fresh bundles.items) }
+{
+    let mut out = Vec::new(alloc);
+    'bundles: for bundle in bundles {
+        out.push(Strand {
+            bundle,
+            wake: STALE,
+        })?;
+    }
+    Ok(out)
+}
+
+/// Puts strands in the place of those from one place to another.
+pub(crate) fn replace(
+    strands: &mut Vec<Strand>,
+    from: usize,
+    to: usize,
+    others: Vec<Strand>,
+) -> Result<(), AllocError>
+    requires from { from ≤ to }
+    requires to { to ≤ length strands.old.items }
+    ensures { OnOk result
+        (strands.new.items ≡ take from strands.old.items ++ (others.items ++ drop to strands.old.items)) }
+{
+    let mut new = others;
+    let mut tail = strands.split_off(to)?;
+    strands.truncate(from);
+    strands.append(&mut new)?;
+    strands.append(&mut tail)?;
+    Ok(())
+}

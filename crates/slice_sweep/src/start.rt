@@ -1,0 +1,92 @@
+//! Edges that start at a height.
+ghost use Rattle.std.specs.Prelude.{◌≡◌, ◌<◌, ◌≤◌, ◌+◌, ◌^◌, ◌++◌, ◌∷◌, [], ℕ, true, take, drop, length, OnOk, All};
+ghost use Rattle.scad_geom.specs.Limits.{coordinate_limit};
+ghost use Rattle.scad_geom.specs.Within.{IsEdgeWithin};
+ghost use Rattle.scad_geom.specs.Level.{IsLevelWithin};
+ghost use Rattle.slice_slab.specs.Active.{times};
+ghost use Rattle.slice_slab.specs.Bundles.{edge_at, reaches};
+ghost use Rattle.slice_sweep.specs.Strands.{numbers_in, fresh, AreWaiting, IsReaching};
+
+use crate::key::STALE;
+use crate::leave::reaches;
+use crate::place::place;
+use crate::replace::weaken;
+use crate::strand::Strand;
+use scad_geom::{LeafEdge, Level};
+use slice_slab::Bundle;
+use std::alloc::AllocError;
+
+/// Puts the edges of these numbers that aren't flat and reach a height to their places.
+pub(crate) fn start_all(
+    edges: &[LeafEdge],
+    strands: &mut Vec<Strand>,
+    numbers: &[u32],
+    at: &Level,
+) -> Result<(), AllocError>
+    requires within { All (λ e. IsEdgeWithin coordinate_limit e.edge) edges.now }
+    requires at { IsLevelWithin coordinate_limit at.now }
+    requires there { All (λ k. k < length edges.now) numbers.now }
+    requires waiting { AreWaiting edges.now at.now strands.old.items }
+    ensures waiting { OnOk result (AreWaiting edges.now at.now strands.new.items) }
+    ensures numbers { OnOk result ((k : ℕ) → reaches (edge_at edges.now k) at.now at.now ≡ true
+        → times k (numbers_in strands.new.items) ≡ times k (numbers_in strands.old.items) + times k numbers.now) }
+{
+    'numbers: for k in numbers {
+        start(edges, strands, *k, at)?;
+    }
+    Ok(())
+}
+
+// Puts an edge that isn't flat and reaches a height to its place.
+fn start(
+    edges: &[LeafEdge],
+    strands: &mut Vec<Strand>,
+    k: u32,
+    at: &Level,
+) -> Result<(), AllocError>
+    requires within { All (λ e. IsEdgeWithin coordinate_limit e.edge) edges.now }
+    requires at { IsLevelWithin coordinate_limit at.now }
+    requires there { k < length edges.now }
+    requires waiting { AreWaiting edges.now at.now strands.old.items }
+    ensures waiting { OnOk result (AreWaiting edges.now at.now strands.new.items) }
+    ensures numbers { OnOk result ((j : ℕ) → reaches (edge_at edges.now j) at.now at.now ≡ true
+        → times j (numbers_in strands.new.items) ≡ times j (numbers_in strands.old.items) + times j (k ∷ [])) }
+{
+    if !reaches(&edges[k as usize].edge, at, at) {
+        return Ok(());
+    }
+    begin_at(edges, strands, k, at)
+}
+
+fn begin_at(
+    edges: &[LeafEdge],
+    strands: &mut Vec<Strand>,
+    k: u32,
+    at: &Level,
+) -> Result<(), AllocError>
+    requires within { All (λ e. IsEdgeWithin coordinate_limit e.edge) edges.now }
+    requires at { IsLevelWithin coordinate_limit at.now }
+    requires reaching { IsReaching edges.now at.now at.now k }
+    requires waiting { AreWaiting edges.now at.now strands.old.items }
+    ensures waiting { OnOk result (AreWaiting edges.now at.now strands.new.items) }
+    ensures numbers { OnOk result ((j : ℕ) → times j (numbers_in strands.new.items)
+        ≡ times j (numbers_in strands.old.items) + times j (k ∷ [])) }
+{
+    let i = place(edges, strands, k, at);
+    weaken(strands, i);
+    insert(strands, k, i)
+}
+
+// Puts an edge alone to a place.
+fn insert(strands: &mut Vec<Strand>, k: u32, i: usize) -> Result<(), AllocError>
+    requires { i ≤ length strands.old.items }
+    ensures { OnOk result (strands.new.items
+        ≡ take i strands.old.items ++ (fresh ((k ∷ []) ∷ []) ++ drop i strands.old.items)) }
+{
+    let strand = Strand {
+        bundle: Bundle::of_one(k),
+        wake: STALE,
+    };
+    strands.insert(i, strand)?;
+    Ok(())
+}
