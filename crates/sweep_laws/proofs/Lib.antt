@@ -1,2 +1,5 @@
 pub mod Touches
 pub mod OnePlace
+pub mod Meeting
+pub mod Rearranged
+pub mod Away

@@ -88,13 +88,13 @@ weaker P R (q ∷ qs) f h = (f q h.0, weaker P R qs f h.1)
 -- ---- the place
 module _ (p : Point) (dp : IsPoint p) (all : List Piece) (ins outs : List Way) (others : List Piece) (is : IsPermutation all (pieces_of ins ++ (pieces_of outs ++ others)))
     (hi : AllByRecursion (ComesIn p) ins) (ho : AllByRecursion (GoesOut p) outs) (ha : AllByRecursion (LiesAway p) others) where
-  ends_here : ends_at p (ways_of all) ≡ forwards ins + (backwards outs + 0)
+  pub ends_here : ends_at p (ways_of all) ≡ forwards ins + (backwards outs + 0)
   ends_here = ends_permuted p all (pieces_of ins ++ (pieces_of outs ++ others)) is
       ∙ ends_in p (pieces_of outs ++ others) ins hi
       ∙ ap (λ (n : ℕ). forwards ins + n)
       (ends_out p others outs ho ∙ ap (λ (n : ℕ). backwards outs + n) (no_ends p others ha))
 
-  starts_here : starts_at p (ways_of all) ≡ backwards ins + (forwards outs + 0)
+  pub starts_here : starts_at p (ways_of all) ≡ backwards ins + (forwards outs + 0)
   starts_here = starts_permuted p all (pieces_of ins ++ (pieces_of outs ++ others)) is
       ∙ starts_in p (pieces_of outs ++ others) ins hi
       ∙ ap (λ (n : ℕ). backwards ins + n)
