@@ -3,3 +3,4 @@ pub mod OnePlace
 pub mod Meeting
 pub mod Rearranged
 pub mod Away
+pub mod Walking

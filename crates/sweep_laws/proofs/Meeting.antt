@@ -14,7 +14,7 @@ use Rattle.slice_snap.specs.Pieces.{ways_of}
 use Rattle.slice_snap.specs.Merging.{MeetAlone}
 use Rattle.slice_snap.proofs.Stuck.{point_alike}
 use Rattle.slice_snap.proofs.TwoPairs.{swap}
-use Rattle.sweep_laws.specs.Ways.{Way, piece_of, IsAt}
+use Rattle.sweep_laws.specs.Ways.{Way, piece_of, IsAt, IsAway}
 use Rattle.sweep_laws.specs.Visits.{IsOneCourse}
 use Rattle.sweep_laws.proofs.Touches.{ComesIn, GoesOut, LiesAway, at_to, at_from}
 use Rattle.sweep_laws.proofs.OnePlace.{ends_alike, starts_alike, ends_here, starts_here}
@@ -38,7 +38,7 @@ other_by_flags true false e = absurd (true≢false e)
 other_by_flags false true e = absurd (true≢false (sym e))
 other_by_flags false false e = refl
 
-by_end : (P : Spot → Type 0) (f : Bool) (s t : Spot) → P s → P t → P (cond f s t)
+pub by_end : (P : Spot → Type 0) (f : Bool) (s t : Spot) → P s → P t → P (cond f s t)
 by_end P true s t h k = h
 by_end P false s t h k = k
 
@@ -68,6 +68,14 @@ module _ (p : Point) (dp : IsPoint p) (all : List Piece) (v w : Way) (others : L
       by_flag : (b : Bool) → v.forward ≡ b → w.forward ≡ b → IsAt p (starting b v w).from
       by_flag true h k = at_to p w.forward w.far w.near hw.0 hw.1 ∙ k
       by_flag false h k = at_from p v.forward v.near v.far hv.0 hv.1 ∙ ap not h
+
+  -- where the second ends, the place isn't
+  pub starts_on : IsAway p (starting b v w).to
+  starts_on = by_flag b flag flag_w
+    where
+      by_flag : (b : Bool) → v.forward ≡ b → w.forward ≡ b → IsAway p (starting b v w).to
+      by_flag true h k = at_from p w.forward w.far w.near hw.0 hw.1 ∙ ap not k
+      by_flag false h k = at_to p v.forward v.near v.far hv.0 hv.1 ∙ h
 
   pub ending_point : IsPoint (point_of (ending b v w).to)
   ending_point = by_flag b
