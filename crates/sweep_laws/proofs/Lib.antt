@@ -4,3 +4,5 @@ pub mod Meeting
 pub mod Rearranged
 pub mod Away
 pub mod Walking
+pub mod Spots
+pub mod Strands

@@ -1,2 +1,5 @@
 pub mod Ways
 pub mod Visits
+pub mod Fronts
+pub mod Crossing
+pub mod Sweeps

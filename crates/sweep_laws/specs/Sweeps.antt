@@ -1,0 +1,56 @@
+-- A sweep over all heights, and what it gives.
+use Rattle.std.specs.Prelude.{◌≡◌, List, [], ◌∷◌, ◌++◌}
+use Rattle.std.specs.List.Sorted.{IsPermutation}
+use Rattle.scad_geom.specs.declared.point.Pt.{Pt}
+use Rattle.scad_geom.specs.declared.point.Edge.{Edge}
+use Rattle.scad_geom.specs.declared.level.Level.{Level}
+use Rattle.scad_geom.specs.declared.level.LeafEdge.{LeafEdge}
+use Rattle.scad_geom.specs.declared.shape.Shape.{Shape}
+use Rattle.slice_events.specs.Levels.{AreLevels}
+use Rattle.slice_snap.specs.declared.piece.Piece.{Piece}
+use Rattle.slice_snap.specs.Merging.{AreMerged}
+use Rattle.slice_snap.specs.Rounding.{rounded_edges}
+use Rattle.slice_snap.specs.Cancelling.{AreCancelled}
+use Rattle.slice_loops.specs.Outlines.{AreOutlines}
+use Rattle.slice_bool.specs.Pieces.{ArePieces}
+use Rattle.slice_bool.specs.Outlines.{AreOutlinesOf}
+use Rattle.sweep_laws.specs.Ways.{Way, pieces_of}
+use Rattle.sweep_laws.specs.Fronts.{Strand, IsFront}
+use Rattle.sweep_laws.specs.Crossing.{Place, all_above, all_closed, IsCrossing}
+
+-- from the front below the first of some heights over all of them, a list of places for each
+abbrev pub Sweeps : List LeafEdge → Shape → List Strand → List Level → List (List Place) → Type 0
+Sweeps es shape below [] [] = below ≡ []
+Sweeps es shape below [] (c ∷ cs) = ⊥
+Sweeps es shape below (l ∷ ls) [] = ⊥
+Sweeps es shape below (l ∷ []) (c ∷ cs) = IsCrossing es l l below [] c × (cs ≡ [])
+Sweeps es shape below (l ∷ (u ∷ ls)) (c ∷ cs) = IsCrossing es l u below (all_above c) c × IsFront es shape l u (all_above c)
+    × Sweeps es shape (all_above c) (u ∷ ls) cs
+
+-- the ways that end at some place
+abbrev pub closed_in : List (List Place) → List Way
+closed_in [] = []
+closed_in (c ∷ cs) = all_closed c ++ closed_in cs
+
+-- edges are those of merged pieces of a border, in any order
+pub record AreMergedEdges (es : List LeafEdge) (shape : Shape) (given : List Edge) : Type 0 where
+  pub pieces : List Piece
+  pub merged : List Piece
+  pub are_pieces : ArePieces es shape pieces
+  pub are_merged : AreMerged pieces merged
+  pub are_given : IsPermutation (rounded_edges merged) given
+
+-- ---- the laws
+-- What ends in the course of a sweep over the levels of an edge list makes, with rounded ends, the edges of merged pieces.
+abbrev pub SweepsMerge : Type 0
+SweepsMerge =
+    (es : List LeafEdge) (shape : Shape) (levels : List Level) (crossings : List (List Place)) (given : List Edge)
+    → AreLevels es levels → Sweeps es shape [] levels crossings
+    → IsPermutation (rounded_edges (pieces_of (closed_in crossings))) given → AreMergedEdges es shape given
+
+-- From such edges, in whatever order, cancelling and joining make the outlines.
+abbrev pub MergedEdgesMakeOutlines : Type 0
+MergedEdgesMakeOutlines =
+    (es : List LeafEdge) (shape : Shape) (given left : List Edge) (outlines : List (List Pt))
+    → AreMergedEdges es shape given → AreCancelled given left → AreOutlines left outlines
+    → AreOutlinesOf es shape outlines
