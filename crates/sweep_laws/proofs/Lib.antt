@@ -6,3 +6,4 @@ pub mod Away
 pub mod Walking
 pub mod Spots
 pub mod Strands
+pub mod Levels

@@ -36,3 +36,20 @@ module _ {X : Type 0} (d i k o r : List X) where
       (IsPermutation-trans (d ++ (i ++ (o ++ (k ++ r)))) (i ++ (d ++ (o ++ (k ++ r))))
       (i ++ (o ++ (d ++ (k ++ r)))) (second_first d i (o ++ (k ++ r)))
       (IsPermutation-append_right i (d ++ (o ++ (k ++ r))) (o ++ (d ++ (k ++ r))) (second_first d o (k ++ r)))))
+
+module _ {X : Type 0} (i l f u : List X) where
+  -- the third beside the first
+  pub crossed_lists : IsPermutation ((i ++ l) ++ (f ++ u)) ((i ++ f) ++ (l ++ u))
+  crossed_lists =
+      subst (λ us. IsPermutation us ((i ++ f) ++ (l ++ u))) (sym (append_assoc i l (f ++ u)))
+      (subst (IsPermutation (i ++ (l ++ (f ++ u)))) (sym (append_assoc i f (l ++ u)))
+      (IsPermutation-append_right i (l ++ (f ++ u)) (f ++ (l ++ u)) (second_first l f u)))
+
+  -- the third, the second, the first
+  pub turned_lists : IsPermutation ((i ++ f) ++ (l ++ u)) (l ++ (f ++ (i ++ u)))
+  turned_lists =
+      subst (λ us. IsPermutation us (l ++ (f ++ (i ++ u)))) (sym (append_assoc i f (l ++ u)))
+      (IsPermutation-trans (i ++ (f ++ (l ++ u))) (f ++ (i ++ (l ++ u))) (l ++ (f ++ (i ++ u)))
+      (second_first i f (l ++ u))
+      (IsPermutation-trans (f ++ (i ++ (l ++ u))) (f ++ (l ++ (i ++ u))) (l ++ (f ++ (i ++ u)))
+      (IsPermutation-append_right f (i ++ (l ++ u)) (l ++ (i ++ u)) (second_first i l u)) (second_first f l (i ++ u))))
