@@ -7,3 +7,4 @@ pub mod Walking
 pub mod Spots
 pub mod Strands
 pub mod Levels
+pub mod LevelPieces
