@@ -39,7 +39,7 @@ use Rattle.sweep_laws.proofs.Rearranged.{crossed_lists}
 use Rattle.sweep_laws.proofs.Strands.{froms_append}
 
 -- ---- the pieces of ways
-between_pieces : (v w : Bool) (s t : Spot) (name : ℕ) → pieces_of (way_between v w s t name) ≡ piece_between v w s t name
+pub between_pieces : (v w : Bool) (s t : Spot) (name : ℕ) → pieces_of (way_between v w s t name) ≡ piece_between v w s t name
 between_pieces true true s t name = refl
 between_pieces true false s t name = refl
 between_pieces false true s t name = refl
@@ -130,7 +130,7 @@ module _ (es : List LeafEdge) (l : Level) where
       (same_at_least (across w) (across t) m) o in
       lies_by s k hs r ∙ sym (omega (arith, ints))
 
-  pass_strands : (s t : Spot) (ss : List Strand) (rest : List (List ℕ)) → IsSpotAt l s → IsSpotAt l t
+  pub pass_strands : (s t : Spot) (ss : List Strand) (rest : List (List ℕ)) → IsSpotAt l s → IsSpotAt l t
       → IsAtMost (across t) (across s) → AllByRecursion (λ x. RisesFirst es x.bundle) ss
       → AllByRecursion (λ x. MeetsAt es l t x.bundle) ss
       → passing es true (point_of s) (bundles_of ss ++ rest) ≡ passing es true (point_of s) rest

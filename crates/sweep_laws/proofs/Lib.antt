@@ -8,3 +8,4 @@ pub mod Spots
 pub mod Strands
 pub mod Levels
 pub mod LevelPieces
+pub mod FlatPieces
