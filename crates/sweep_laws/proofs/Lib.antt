@@ -9,3 +9,4 @@ pub mod Strands
 pub mod Levels
 pub mod LevelPieces
 pub mod FlatPieces
+pub mod Lifting
