@@ -10,3 +10,4 @@ pub mod Levels
 pub mod LevelPieces
 pub mod FlatPieces
 pub mod Lifting
+pub mod Sweeping
