@@ -11,3 +11,5 @@ pub mod LevelPieces
 pub mod FlatPieces
 pub mod Lifting
 pub mod Sweeping
+pub mod Counted
+pub mod Balance

@@ -3,3 +3,4 @@ pub mod Visits
 pub mod Fronts
 pub mod Crossing
 pub mod Sweeps
+pub mod Balance
