@@ -13,3 +13,5 @@ pub mod Lifting
 pub mod Sweeping
 pub mod Counted
 pub mod Balance
+pub mod HeightByHeight
+pub mod Staying

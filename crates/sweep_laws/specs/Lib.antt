@@ -4,3 +4,4 @@ pub mod Fronts
 pub mod Crossing
 pub mod Sweeps
 pub mod Balance
+pub mod Staying

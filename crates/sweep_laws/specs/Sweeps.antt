@@ -32,6 +32,14 @@ abbrev pub closed_in : List (List Place) → List Way
 closed_in [] = []
 closed_in (c ∷ cs) = all_closed c ++ closed_in cs
 
+-- a sweep over some levels has come to a front below those that are left, and so far these ways have ended: in whatever way
+-- it goes on over those, it's one over all
+abbrev pub HasSweptTo : List LeafEdge → Shape → List Level → List Level → List Strand → List Way → Type 0
+HasSweptTo es shape levels left front closed =
+    (later : List (List Place)) → Sweeps es shape front left later
+    → (crossings : List (List Place)) × Sweeps es shape [] levels crossings
+    × (closed_in crossings ≡ closed ++ closed_in later)
+
 -- edges are those of merged pieces of a border, in any order
 pub record AreMergedEdges (es : List LeafEdge) (shape : Shape) (given : List Edge) : Type 0 where
   pub pieces : List Piece
@@ -54,3 +62,26 @@ MergedEdgesMakeOutlines =
     (es : List LeafEdge) (shape : Shape) (given left : List Edge) (outlines : List (List Pt))
     → AreMergedEdges es shape given → AreCancelled given left → AreOutlines left outlines
     → AreOutlinesOf es shape outlines
+
+-- ---- height by height
+-- A sweep begins below all levels,
+abbrev pub SweepsBegin : Type 0
+SweepsBegin = (es : List LeafEdge) (shape : Shape) (levels : List Level) → HasSweptTo es shape levels levels [] []
+
+-- is lifted over a height that isn't the last,
+abbrev pub SweepsGoOn : Type 0
+SweepsGoOn =
+    (es : List LeafEdge) (shape : Shape) (levels : List Level) (l u : Level) (ls : List Level) (below : List Strand)
+    (closed : List Way) (places : List Place)
+    → HasSweptTo es shape levels (l ∷ (u ∷ ls)) below closed → IsCrossing es l u below (all_above places) places
+    → IsFront es shape l u (all_above places)
+    → HasSweptTo es shape levels (u ∷ ls) (all_above places) (closed ++ all_closed places)
+
+-- and ends with the last; where there are no levels it ends at once.
+pub record SweepsEnd : Type 0 where
+  pub last : (es : List LeafEdge) (shape : Shape) (levels : List Level) (l : Level) (below : List Strand)
+      (closed : List Way) (places : List Place) (given : List Edge) → AreLevels es levels
+      → HasSweptTo es shape levels (l ∷ []) below closed → IsCrossing es l l below [] places
+      → IsPermutation (rounded_edges (pieces_of (closed ++ all_closed places))) given → AreMergedEdges es shape given
+  pub none : (es : List LeafEdge) (shape : Shape) (given : List Edge) → AreLevels es [] → IsPermutation [] given
+      → AreMergedEdges es shape given
