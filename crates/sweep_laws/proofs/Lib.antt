@@ -15,3 +15,4 @@ pub mod Counted
 pub mod Balance
 pub mod HeightByHeight
 pub mod Staying
+pub mod Stops

@@ -5,3 +5,4 @@ pub mod Crossing
 pub mod Sweeps
 pub mod Balance
 pub mod Staying
+pub mod Stops
