@@ -34,6 +34,7 @@ use Rattle.slice_snap.specs.declared.piece.Spot.{Spot}
 use Rattle.slice_snap.specs.Spots.{point_of}
 use Rattle.slice_bool.specs.Beside.{passing}
 use Rattle.slice_bool.specs.Tally.{headings}
+use Rattle.slice_bool.proofs.BalanceEdges.{IsAside}
 use Rattle.slice_bool.proofs.BalanceTurns.{gap, is_right, is_level, ahead, step_up, step_down}
 use Rattle.slice_bool.proofs.Middle.{scaled, lower_scaled, at_most_scaled, scaled_below, scaled_at_most}
 use Rattle.slice_bool.proofs.Passing.{Around}
@@ -112,7 +113,7 @@ none : (x y : ℤ) → x ≡ y → pos 0 -ℤ pos 0 ≡ x -ℤ y
 none x y h = omega (arith, ints)
 
 -- hard above the point's height and hard below it an edge turns alike, but for its ends to the right
-edge_step : (p : Point) → IsPoint p → (e : LeafEdge) → StaysAside p e
+edge_step : (p : Point) → IsPoint p → (e : LeafEdge) → IsAside true p e
     → turn true true p (whole e.edge.a) (whole e.edge.b) -ℤ turn false true p (whole e.edge.a) (whole e.edge.b)
     ≡ ahead true p (whole e.edge.a) -ℤ ahead true p (whole e.edge.b)
 edge_step p dp e h =
@@ -126,14 +127,14 @@ edge_step p dp e h =
         → turn true true p (whole e.edge.a) (whole e.edge.b) -ℤ turn false true p (whole e.edge.a) (whole e.edge.b)
         ≡ ahead true p (whole e.edge.a) -ℤ ahead true p (whole e.edge.b)
     flat level = ap₂ (λ (y z : ℤ). y -ℤ z) (level_turn true true p e.edge level) (level_turn false true p e.edge level)
-        ∙ none (ahead true p (whole e.edge.a)) (ahead true p (whole e.edge.b)) (both_ahead p e h level)
+        ∙ none (ahead true p (whole e.edge.a)) (ahead true p (whole e.edge.b)) (h level)
 
 -- ---- the edges of a leaf
 abbrev Step : Point → Edge → Type 0
 Step p e = turn true true p (whole e.a) (whole e.b) -ℤ turn false true p (whole e.a) (whole e.b)
     ≡ ahead true p (whole e.a) -ℤ ahead true p (whole e.b)
 
-leaf_steps : (p : Point) → IsPoint p → (leaf : ℕ) (es : List LeafEdge) → AllByRecursion (StaysAside p) es
+leaf_steps : (p : Point) → IsPoint p → (leaf : ℕ) (es : List LeafEdge) → AllByRecursion (IsAside true p) es
     → AllByRecursion (Step p) (edges_of leaf es)
 leaf_steps p dp leaf [] h = tt
 leaf_steps p dp leaf (e ∷ es) h = by_test (e.leaf == leaf) (leaf_steps p dp leaf es h.1)
@@ -159,7 +160,7 @@ whole_proper [] = tt
 whole_proper (f ∷ fs) = (record { from = one; to = one }, whole_proper fs)
 
 -- so its winding numbers hard above and hard below are one
-pub leaf_alike : (p : Point) → IsPoint p → (es : List LeafEdge) → AreLeavesBalanced es → AllByRecursion (StaysAside p) es
+leaf_alike : (p : Point) → IsPoint p → (es : List LeafEdge) → AreLeavesBalanced es → AllByRecursion (IsAside true p) es
     → (leaf : ℕ) → wind_leaf false true p leaf es ≡ wind_leaf true true p leaf es
 leaf_alike p dp es balanced h leaf =
     let fs : List Edge = edges_of leaf es in
@@ -198,11 +199,23 @@ module _ (es : List LeafEdge) (l m u : Level) (lm : AreNeighbours es l m) (mu : 
       (scaled_below u m (pos s.run) (runs_up s.run r) mu.in_order) in
       record { neighbours = mu; divisor = divides; spans = (from, to) }
 
-pub headings_are_balanced : HeadingsAreBalanced
-headings_are_balanced es balanced l m u lm mu below above b a s e r h leaf =
+pub headings_beside : (es : List LeafEdge) → AreLeavesBalanced es → (l m u : Level) → AreNeighbours es l m
+    → AreNeighbours es m u → (below above : List (List ℕ)) → AreBundles es l m below → AreBundles es m u above
+    → (s : Spot) → s.at ≡ m → 0 < s.run → AllByRecursion (IsAside true (point_of s)) es → (leaf : ℕ)
+    → headings es leaf (concat (passing es true (point_of s) below))
+    ≡ headings es leaf (concat (passing es true (point_of s) above))
+headings_beside es balanced l m u lm mu below above b a s e r h leaf =
     sym (counted_right es false true (point_of s) l m (around_below es l m u lm mu s e r) leaf below b)
     ∙ leaf_alike (point_of s) (divides es l m u lm mu s e r) es balanced h leaf
     ∙ counted_right es true true (point_of s) m u (around_above es l m u lm mu s e r) leaf above a
+
+all_aside : (p : Point) (es : List LeafEdge) → AllByRecursion (StaysAside p) es → AllByRecursion (IsAside true p) es
+all_aside p [] h = tt
+all_aside p (e ∷ es) h = (both_ahead p e h.0, all_aside p es h.1)
+
+pub headings_are_balanced : HeadingsAreBalanced
+headings_are_balanced es balanced l m u lm mu below above b a s e r h leaf =
+    headings_beside es balanced l m u lm mu below above b a s e r (all_aside (point_of s) es h) leaf
 
 pub values_are_kept : ValuesAreKept
 values_are_kept es shape balanced l m u lm mu below above b a s e r h =

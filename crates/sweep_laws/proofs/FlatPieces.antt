@@ -45,8 +45,8 @@ itself s = omega (arith, ints)
 runs_up : (n : ℕ) → pos 0 <ℤ pos n → 0 < n
 runs_up n h = omega (arith, ints)
 
--- ---- the value hard by a place, on one side of the height
-module _ (es : List LeafEdge) (shape : Shape) (l : Level) (above : Bool) (side : Place → List Strand) (bundles : List (List ℕ)) (tell : TellBeside above es shape l bundles) where
+-- ---- the bundles to the right of a place, on one side of the height
+module _ (es : List LeafEdge) (l : Level) (side : Place → List Strand) (bundles : List (List ℕ)) where
   -- the bundles before some places lie to the left of each spot that isn't to the left of the first
   abbrev pub ArePast : List Place → Type 0
   ArePast [] = Unit {0}
@@ -72,19 +72,42 @@ module _ (es : List LeafEdge) (shape : Shape) (l : Level) (above : Bool) (side :
       (lower_weak (across p.at) (across q.at) g.0) o in
       h s hs more ∙ past_place p (q ∷ ps) s hp.0 r m hs more
 
-  pub value_at : (p : Place) (ps : List Place) → AllByRecursion (IsSpotAt l) (spots_of (p ∷ ps))
+  pub passed_at : (p : Place) (ps : List Place) → AllByRecursion (IsSpotAt l) (spots_of (p ∷ ps))
       → GoRight (spots_of (p ∷ ps)) → AllRise es l side (p ∷ ps) → AllMeet es l side (p ∷ ps) → ArePast (p ∷ ps)
-      → is_in_by above true es shape (point_of p.at) ≡ left_value es shape (bundles_of (gathered side ps))
-  value_at p ps hp g r m h =
-      tell p.at hp.0.at (runs_up p.at.run hp.0.runs)
-      ∙ ap (left_value es shape) (h p.at hp.0 (itself p.at)
+      → passing es true (point_of p.at) bundles ≡ bundles_of (gathered side ps)
+  passed_at p ps hp g r m h =
+      h p.at hp.0 (itself p.at)
       ∙ past_place p ps p.at hp.0 r m hp.0 (itself p.at)
       ∙ stop_places es l side p.at ps hp.0 hp.1 (all_left l p.at ps hp.0 hp.1 g)
-      (back (λ s. RisesFirst es s.bundle) (side p) (gathered side ps) r) m.1)
+      (back (λ s. RisesFirst es s.bundle) (side p) (gathered side ps) r) m.1
 
   pub past_all : (ps : List Place) → bundles ≡ bundles_of (gathered side ps) → ArePast ps
   past_all [] e = tt
   past_all (p ∷ ps) e = λ s hs o. ap (passing es true (point_of s)) e
+
+-- what is known of the strands of some places on one side
+pub record HasSide (es : List LeafEdge) (l : Level) (side : Place → List Strand) (bundles : List (List ℕ)) (ps : List Place) : Type 0 where
+  pub rise : AllRise es l side ps
+  pub meet : AllMeet es l side ps
+  pub past : ArePast es l side bundles ps
+
+pub next_side : (es : List LeafEdge) (l : Level) (side : Place → List Strand) (bundles : List (List ℕ)) (p : Place)
+    (ps : List Place) → AllByRecursion (IsSpotAt l) (spots_of (p ∷ ps)) → GoRight (spots_of (p ∷ ps))
+    → HasSide es l side bundles (p ∷ ps) → HasSide es l side bundles ps
+next_side es l side bundles p ps hp g h = record {
+  rise = back (λ s. RisesFirst es s.bundle) (side p) (gathered side ps) h.rise;
+  meet = h.meet.1;
+  past = past_next es l side bundles p ps hp g h.rise h.meet h.past;
+}
+
+-- ---- the value hard by a place, on one side of the height
+value_at : (es : List LeafEdge) (shape : Shape) (l : Level) (above : Bool) (side : Place → List Strand)
+    (bundles : List (List ℕ)) → TellBeside above es shape l bundles → (p : Place) (ps : List Place)
+    → AllByRecursion (IsSpotAt l) (spots_of (p ∷ ps)) → GoRight (spots_of (p ∷ ps)) → HasSide es l side bundles (p ∷ ps)
+    → is_in_by above true es shape (point_of p.at) ≡ left_value es shape (bundles_of (gathered side ps))
+value_at es shape l above side bundles tell p ps hp g h =
+    tell p.at hp.0.at (runs_up p.at.run hp.0.runs)
+    ∙ ap (left_value es shape) (passed_at es l side bundles p ps hp g h.rise h.meet h.past)
 
 -- ---- the ways along the height
 along_pieces : (es : List LeafEdge) (shape : Shape) (v w : Bool) (s t : Spot) (name : Option ℕ)
@@ -94,18 +117,12 @@ along_pieces es shape v w s t None hv hw = refl
 along_pieces es shape v w s t (Some k) hv hw =
     between_pieces v w s t k ∙ ap₂ (λ (x y : Bool). piece_between x y s t k) hv hw
 
--- what is known of the strands of some places on one side
-pub record HasSide (es : List LeafEdge) (shape : Shape) (l : Level) (above : Bool) (side : Place → List Strand) (bundles : List (List ℕ)) (tell : TellBeside above es shape l bundles) (ps : List Place) : Type 0 where
-  pub rise : AllRise es l side ps
-  pub meet : AllMeet es l side ps
-  pub past : ArePast es shape l above side bundles tell ps
-
 module _ (es : List LeafEdge) (shape : Shape) (l : Level) (under over : List (List ℕ)) (tell_under : TellBeside false es shape l under) (tell_over : TellBeside true es shape l over) where
   abbrev Under : List Place → Type 0
-  Under = HasSide es shape l false (λ p. p.below) under tell_under
+  Under = HasSide es l (λ p. p.below) under
 
   abbrev Over : List Place → Type 0
-  Over = HasSide es shape l true (λ p. p.above) over tell_over
+  Over = HasSide es l (λ p. p.above) over
 
   stretch_is : (p q : Place) (ps : List Place) → AllByRecursion (IsSpotAt l) (spots_of (p ∷ (q ∷ ps)))
       → GoRight (spots_of (p ∷ (q ∷ ps))) → Under (p ∷ (q ∷ ps)) → Over (p ∷ (q ∷ ps))
@@ -115,17 +132,8 @@ module _ (es : List LeafEdge) (shape : Shape) (l : Level) (under over : List (Li
   stretch_is p q ps hp g a b x y =
       along_pieces es shape (value_before (all_above (q ∷ ps)) false) (value_before (all_below (q ∷ ps)) false) p.at q.at
       (position (covers p.at q.at) es)
-      (y ∙ sym (value_at es shape l true (λ p. p.above) over tell_over p (q ∷ ps) hp g b.rise b.meet b.past))
-      (x ∙ sym (value_at es shape l false (λ p. p.below) under tell_under p (q ∷ ps) hp g a.rise a.meet a.past))
-
-  next_side : (above : Bool) (side : Place → List Strand) (bundles : List (List ℕ)) (tell : TellBeside above es shape l bundles)
-      (p : Place) (ps : List Place) → AllByRecursion (IsSpotAt l) (spots_of (p ∷ ps)) → GoRight (spots_of (p ∷ ps))
-      → HasSide es shape l above side bundles tell (p ∷ ps) → HasSide es shape l above side bundles tell ps
-  next_side above side bundles tell p ps hp g h = record {
-    rise = back (λ s. RisesFirst es s.bundle) (side p) (gathered side ps) h.rise;
-    meet = h.meet.1;
-    past = past_next es shape l above side bundles tell p ps hp g h.rise h.meet h.past;
-  }
+      (y ∙ sym (value_at es shape l true (λ p. p.above) over tell_over p (q ∷ ps) hp g b))
+      (x ∙ sym (value_at es shape l false (λ p. p.below) under tell_under p (q ∷ ps) hp g a))
 
   -- the values of both sides to the right of each place
   abbrev pub AreBothValued : List Place → Type 0
@@ -136,13 +144,12 @@ module _ (es : List LeafEdge) (shape : Shape) (l : Level) (under over : List (Li
       × AreBothValued ps
 
   pub flats_are : (ps : List Place) → AllByRecursion (IsSpotAt l) (spots_of ps) → GoRight (spots_of ps)
-      → HasSide es shape l false (λ p. p.below) under tell_under ps
-      → HasSide es shape l true (λ p. p.above) over tell_over ps → AreBothValued ps
+      → HasSide es l (λ p. p.below) under ps → HasSide es l (λ p. p.above) over ps → AreBothValued ps
       → pieces_of (flats_from es ps) ≡ flat_pieces es shape (spots_of ps)
   flats_are [] hp g a b v = refl
   flats_are (p ∷ []) hp g a b v = refl
   flats_are (p ∷ (q ∷ ps)) hp g a b v =
       map-append piece_of (flat_way es p.at p (q ∷ ps)) (flats_from es (q ∷ ps))
       ∙ ap₂ (λ (xs ys : List Piece). xs ++ ys) (stretch_is p q ps hp g a b v.0 v.1)
-      (flats_are (q ∷ ps) hp.1 g.1 (next_side false (λ p. p.below) under tell_under p (q ∷ ps) hp g a)
-      (next_side true (λ p. p.above) over tell_over p (q ∷ ps) hp g b) v.2)
+      (flats_are (q ∷ ps) hp.1 g.1 (next_side es l (λ p. p.below) under p (q ∷ ps) hp g a)
+      (next_side es l (λ p. p.above) over p (q ∷ ps) hp g b) v.2)

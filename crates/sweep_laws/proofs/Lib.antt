@@ -16,3 +16,4 @@ pub mod Balance
 pub mod HeightByHeight
 pub mod Staying
 pub mod Stops
+pub mod Boundaries

@@ -50,7 +50,7 @@ pub record IsSide (above : Bool) (es : List LeafEdge) (shape : Shape) (l : Level
   pub tell : TellBeside above es shape l (bundles_of ss)
   pub values : AreValued es shape ss
 
-firsts : (es : List LeafEdge) (l u : Level) (ss : List Strand) → AllByRecursion (IsLive es l u) (concat (bundles_of ss))
+pub firsts : (es : List LeafEdge) (l u : Level) (ss : List Strand) → AllByRecursion (IsLive es l u) (concat (bundles_of ss))
     → AllByRecursion (λ s. RisesFirst es s.bundle) ss
 firsts es l u [] h = tt
 firsts es l u (s ∷ ss) h = (
@@ -196,13 +196,13 @@ module _ (es : List LeafEdge) (shape : Shape) (l u : Level) (dl : pos 0 <ℤ l.d
       (record {
         rise = gathered_rise_below;
         meet = c.meet_below;
-        past = past_all es shape l false (λ p. p.below) (bundles_of below) under.tell places
+        past = past_all es l (λ p. p.below) (bundles_of below) places
             (ap bundles_of (c.below_is ∙ sym (gathered_below places)));
       })
       (record {
         rise = gathered_rise_above;
         meet = c.meet_above;
-        past = past_all es shape l true (λ p. p.above) (bundles_of above) over.tell places
+        past = past_all es l (λ p. p.above) (bundles_of above) places
             (ap bundles_of (c.above_is ∙ sym (gathered_above places)));
       })
       (both_valued es shape l (bundles_of below) (bundles_of above) under.tell over.tell places
