@@ -17,3 +17,6 @@ pub mod HeightByHeight
 pub mod Staying
 pub mod Stops
 pub mod Boundaries
+pub mod Values
+pub mod Groups
+pub mod Edges

@@ -6,3 +6,5 @@ pub mod Sweeps
 pub mod Balance
 pub mod Staying
 pub mod Stops
+pub mod Values
+pub mod Edges
