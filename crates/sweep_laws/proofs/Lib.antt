@@ -20,3 +20,4 @@ pub mod Boundaries
 pub mod Values
 pub mod Groups
 pub mod Edges
+pub mod ClosedEdges

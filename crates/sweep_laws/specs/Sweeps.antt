@@ -6,6 +6,9 @@ use Rattle.scad_geom.specs.declared.point.Edge.{Edge}
 use Rattle.scad_geom.specs.declared.level.Level.{Level}
 use Rattle.scad_geom.specs.declared.level.LeafEdge.{LeafEdge}
 use Rattle.scad_geom.specs.declared.shape.Shape.{Shape}
+use Rattle.scad_geom.specs.Segment.{segments}
+use Rattle.scad_geom.specs.Balance.{IsBalanced}
+use Rattle.scad_geom.specs.Leaves.{AreLeavesBalanced}
 use Rattle.slice_events.specs.Levels.{AreLevels}
 use Rattle.slice_snap.specs.declared.piece.Piece.{Piece}
 use Rattle.slice_snap.specs.Merging.{AreMerged}
@@ -62,6 +65,12 @@ MergedEdgesMakeOutlines =
     (es : List LeafEdge) (shape : Shape) (given left : List Edge) (outlines : List (List Pt))
     → AreMergedEdges es shape given → AreCancelled given left → AreOutlines left outlines
     → AreOutlinesOf es shape outlines
+
+-- Where the edges of each leaf are balanced, as many of them start at each point as end there.
+abbrev pub MergedEdgesAreBalanced : Type 0
+MergedEdgesAreBalanced =
+    (es : List LeafEdge) (shape : Shape) (given : List Edge) → AreLeavesBalanced es → AreMergedEdges es shape given
+    → IsBalanced (segments given)
 
 -- ---- height by height
 -- A sweep begins below all levels,
