@@ -1,9 +1,9 @@
 -- Balance at a height: where no flat edge leads to the right of a spot, what lies to its right sums up alike below and above.
-use Rattle.std.proofs.Common.{◌≡◌, ℕ, ◌<◌, Bool, true, false, not, cond, List, [], ◌∷◌, map, refl, sym, ap, ap₂, ◌∙◌, subst, arith}
+use Rattle.std.proofs.Common.{◌≡◌, ℕ, zero, suc, ◌<◌, Bool, true, false, not, cond, List, [], ◌∷◌, length, map, refl, sym, ap, ap₂, ◌∙◌, subst, arith}
 use mathlib.Core.Path.{fun_ext}
 use lib.IntN.{ℤ, pos, ◌+ℤ◌, ◌-ℤ◌, ◌*ℤ◌, zero-*ℤ}
 use lib.Signed.{◌<ℤ◌}
-use Rattle.std.specs.Prelude.{int_lt, ◌&&◌, ◌==◌, filter}
+use Rattle.std.specs.Prelude.{int_lt, ◌&&◌, ◌==◌, filter, if◌then◌else◌, slice_index_or}
 use Rattle.std.specs.Ordering.{int_eq}
 use Rattle.std.specs.List.{AllByRecursion, concat}
 use Rattle.std.specs.Cmp.{signed_Decides, both_ways}
@@ -20,16 +20,18 @@ use Rattle.scad_geom.specs.Point.{Point, whole, is_same_point}
 use Rattle.scad_geom.specs.Segment.{segments}
 use Rattle.scad_geom.specs.Shape.{shape_holds}
 use Rattle.scad_geom.specs.Sign.{is_zero}
-use Rattle.scad_geom.specs.Heights.{AreNeighbours}
+use Rattle.scad_geom.specs.Heights.{heights, AreNeighbours}
 use Rattle.scad_geom.specs.Winding.{counted, is_beyond, turn, wind_by}
 use Rattle.scad_geom.proofs.Leaves.{wind_leaf, wind_leaf-is}
 use Rattle.scad_geom.proofs.Signs.{mul-one}
 use Rattle.scad_geom.proofs.Sums.{sum_z}
-use Rattle.scad_geom.proofs.Turns.{beyond_mul, level_turn, level_at}
+use Rattle.scad_geom.proofs.Heights.{heights_positive, at_most_chain}
+use Rattle.scad_geom.proofs.Order.{all_ends}
+use Rattle.scad_geom.proofs.Turns.{beyond_mul, level_turn, level_at, Over, over_turn}
 use Rattle.winding_laws.specs.Nearness.{IsPoint, IsProper}
 use Rattle.winding_laws.proofs.Sameness.{AreSame, are_same, are_same_turned, cancel_mul, one_axis}
 use Rattle.winding_laws.proofs.Totals.{starts, ends, sums_apart, equal_by_gaps, balanced_totals}
-use Rattle.slice_slab.specs.Bundles.{AreBundles}
+use Rattle.slice_slab.specs.Bundles.{no_edge, AreBundles}
 use Rattle.slice_snap.specs.declared.piece.Spot.{Spot}
 use Rattle.slice_snap.specs.Spots.{point_of}
 use Rattle.slice_bool.specs.Beside.{passing}
@@ -178,36 +180,79 @@ runs_up n h = omega (arith, ints)
 itself : (l : Level) → IsAtMost l l
 itself l = omega (arith, ints)
 
-module _ (es : List LeafEdge) (l m u : Level) (lm : AreNeighbours es l m) (mu : AreNeighbours es m u) (s : Spot) (e : s.at ≡ m) (r : 0 < s.run) where
-  divides : IsPoint (point_of s)
-  divides = positive_product s.at.d (pos s.run) (subst (λ (at : Level). pos 0 <ℤ at.d) (sym e) mu.lower_divisor)
-      (runs_up s.run r)
+divides : (m : Level) (s : Spot) → pos 0 <ℤ m.d → s.at ≡ m → 0 < s.run → IsPoint (point_of s)
+divides m s dm e r = positive_product s.at.d (pos s.run) (subst (λ (at : Level). pos 0 <ℤ at.d) (sym e) dm) (runs_up s.run r)
 
-  around_below : Around es false true (point_of s) l m
-  around_below =
-      let from : IsLower l (scaled s.at (pos s.run)) = subst (λ (at : Level). IsLower l (scaled at (pos s.run))) (sym e)
-      (lower_scaled l m (pos s.run) (runs_up s.run r) lm.in_order) in
-      let to : IsAtMost (scaled s.at (pos s.run)) m = subst (λ (at : Level). IsAtMost (scaled at (pos s.run)) m) (sym e)
-      (scaled_at_most m m (pos s.run) (runs_up s.run r) (itself m)) in
-      record { neighbours = lm; divisor = divides; spans = (from, to) }
+around_below : (es : List LeafEdge) (l m : Level) → AreNeighbours es l m → (s : Spot) → s.at ≡ m → 0 < s.run
+    → Around es false true (point_of s) l m
+around_below es l m lm s e r =
+    let from : IsLower l (scaled s.at (pos s.run)) = subst (λ (at : Level). IsLower l (scaled at (pos s.run))) (sym e)
+    (lower_scaled l m (pos s.run) (runs_up s.run r) lm.in_order) in
+    let to : IsAtMost (scaled s.at (pos s.run)) m = subst (λ (at : Level). IsAtMost (scaled at (pos s.run)) m) (sym e)
+    (scaled_at_most m m (pos s.run) (runs_up s.run r) (itself m)) in
+    record { neighbours = lm; divisor = divides m s lm.upper_divisor e r; spans = (from, to) }
 
-  around_above : Around es true true (point_of s) m u
-  around_above =
-      let from : IsAtMost m (scaled s.at (pos s.run)) = subst (λ (at : Level). IsAtMost m (scaled at (pos s.run))) (sym e)
-      (at_most_scaled m m (pos s.run) (runs_up s.run r) (itself m)) in
-      let to : IsLower (scaled s.at (pos s.run)) u = subst (λ (at : Level). IsLower (scaled at (pos s.run)) u) (sym e)
-      (scaled_below u m (pos s.run) (runs_up s.run r) mu.in_order) in
-      record { neighbours = mu; divisor = divides; spans = (from, to) }
+around_above : (es : List LeafEdge) (m u : Level) → AreNeighbours es m u → (s : Spot) → s.at ≡ m → 0 < s.run
+    → Around es true true (point_of s) m u
+around_above es m u mu s e r =
+    let from : IsAtMost m (scaled s.at (pos s.run)) = subst (λ (at : Level). IsAtMost m (scaled at (pos s.run))) (sym e)
+    (at_most_scaled m m (pos s.run) (runs_up s.run r) (itself m)) in
+    let to : IsLower (scaled s.at (pos s.run)) u = subst (λ (at : Level). IsLower (scaled at (pos s.run)) u) (sym e)
+    (scaled_below u m (pos s.run) (runs_up s.run r) mu.in_order) in
+    record { neighbours = mu; divisor = divides m s mu.lower_divisor e r; spans = (from, to) }
 
-pub headings_beside : (es : List LeafEdge) → AreLeavesBalanced es → (l m u : Level) → AreNeighbours es l m
-    → AreNeighbours es m u → (below above : List (List ℕ)) → AreBundles es l m below → AreBundles es m u above
+-- on one side of a height, the winding number of each leaf hard by a spot is the sum of headings to its right
+abbrev pub CountsBeside : Bool → List LeafEdge → Level → List (List ℕ) → Type 0
+CountsBeside above es m bundles = (s : Spot) → s.at ≡ m → 0 < s.run → (leaf : ℕ)
+    → wind_leaf above true (point_of s) leaf es ≡ headings es leaf (concat (passing es true (point_of s) bundles))
+
+pub counts_below : (es : List LeafEdge) (l m : Level) → AreNeighbours es l m → (below : List (List ℕ))
+    → AreBundles es l m below → CountsBeside false es m below
+counts_below es l m lm below b s e r leaf = counted_right es false true (point_of s) l m (around_below es l m lm s e r) leaf below b
+
+pub counts_above : (es : List LeafEdge) (m u : Level) → AreNeighbours es m u → (above : List (List ℕ))
+    → AreBundles es m u above → CountsBeside true es m above
+counts_above es m u mu above a s e r leaf = counted_right es true true (point_of s) m u (around_above es m u mu s e r) leaf above a
+
+-- nothing lies below the first height
+none_turns : (p : Point) (leaf : ℕ) (es : List LeafEdge)
+    → ((i : ℕ) → i < length es → turn false true p (whole (slice_index_or es i no_edge).edge.a)
+    (whole (slice_index_or es i no_edge).edge.b) ≡ pos 0) → wind_leaf false true p leaf es ≡ pos 0
+none_turns p leaf [] h = refl
+none_turns p leaf (e ∷ es) h =
+    ap₂ (λ (y z : ℤ). (if e.leaf == leaf then y else pos 0) +ℤ z) (h zero (omega arith))
+    (none_turns p leaf es (λ i o. h (suc i) (omega arith)))
+    ∙ by_test (e.leaf == leaf)
+  where
+    by_test : (t : Bool) → (if t then pos 0 else pos 0) +ℤ pos 0 ≡ pos 0
+    by_test true = refl
+    by_test false = refl
+
+over_all : (p m : Level) (hs : List Level) → pos 0 <ℤ p.d → pos 0 <ℤ m.d → AllByRecursion (λ (h : Level). pos 0 <ℤ h.d) hs
+    → IsAtMost p m → AllByRecursion (IsAtMost m) hs → AllByRecursion (Over false p) hs
+over_all p m [] dp dm d o h = tt
+over_all p m (g ∷ hs) dp dm d o h = (at_most_chain p m g dp dm d.0 o h.0, over_all p m hs dp dm d.1 o h.1)
+
+pub counts_first : (es : List LeafEdge) (m : Level) → pos 0 <ℤ m.d → AllByRecursion (IsAtMost m) (heights es)
+    → CountsBeside false es m []
+counts_first es m dm h s e r leaf =
+    let p : Point = point_of s in
+    let dp : IsPoint p = positive_product s.at.d (pos s.run) (subst (λ (at : Level). pos 0 <ℤ at.d) (sym e) dm) (runs_up s.run r) in
+    let o : IsAtMost (scaled s.at (pos s.run)) m = subst (λ (at : Level). IsAtMost (scaled at (pos s.run)) m) (sym e)
+    (scaled_at_most m m (pos s.run) (runs_up s.run r) (itself m)) in
+    let all : AllByRecursion (Over false (level_at p)) (heights es) = over_all (level_at p) m (heights es) dp dm (heights_positive es) o h in
+    none_turns p leaf es (λ i l. let t = all_ends (Over false (level_at p)) es i no_edge all l in
+    over_turn false true p (slice_index_or es i no_edge).edge t.0 t.1)
+
+pub headings_beside : (es : List LeafEdge) → AreLeavesBalanced es → (m : Level) → pos 0 <ℤ m.d
+    → (below above : List (List ℕ)) → CountsBeside false es m below → CountsBeside true es m above
     → (s : Spot) → s.at ≡ m → 0 < s.run → AllByRecursion (IsAside true (point_of s)) es → (leaf : ℕ)
     → headings es leaf (concat (passing es true (point_of s) below))
     ≡ headings es leaf (concat (passing es true (point_of s) above))
-headings_beside es balanced l m u lm mu below above b a s e r h leaf =
-    sym (counted_right es false true (point_of s) l m (around_below es l m u lm mu s e r) leaf below b)
-    ∙ leaf_alike (point_of s) (divides es l m u lm mu s e r) es balanced h leaf
-    ∙ counted_right es true true (point_of s) m u (around_above es l m u lm mu s e r) leaf above a
+headings_beside es balanced m dm below above b a s e r h leaf =
+    sym (b s e r leaf)
+    ∙ leaf_alike (point_of s) (divides m s dm e r) es balanced h leaf
+    ∙ a s e r leaf
 
 all_aside : (p : Point) (es : List LeafEdge) → AllByRecursion (StaysAside p) es → AllByRecursion (IsAside true p) es
 all_aside p [] h = tt
@@ -215,7 +260,8 @@ all_aside p (e ∷ es) h = (both_ahead p e h.0, all_aside p es h.1)
 
 pub headings_are_balanced : HeadingsAreBalanced
 headings_are_balanced es balanced l m u lm mu below above b a s e r h leaf =
-    headings_beside es balanced l m u lm mu below above b a s e r (all_aside (point_of s) es h) leaf
+    headings_beside es balanced m mu.lower_divisor below above (counts_below es l m lm below b)
+    (counts_above es m u mu above a) s e r (all_aside (point_of s) es h) leaf
 
 pub values_are_kept : ValuesAreKept
 values_are_kept es shape balanced l m u lm mu below above b a s e r h =

@@ -33,7 +33,7 @@ use Rattle.sweep_laws.specs.Crossing.{Place, spots_of, all_below, all_above}
 use Rattle.sweep_laws.specs.Staying.{IsUncovered}
 use Rattle.sweep_laws.specs.Stops.{AreMet}
 use Rattle.sweep_laws.specs.Balance.{AreBoundariesBalanced, BoundariesAreBalanced, StayingValues}
-use Rattle.sweep_laws.proofs.Balance.{headings_beside}
+use Rattle.sweep_laws.proofs.Balance.{CountsBeside, counts_below, counts_above, headings_beside}
 use Rattle.sweep_laws.proofs.Counted.{headings_are}
 use Rattle.sweep_laws.proofs.FlatPieces.{HasSide, next_side, passed_at, past_all}
 use Rattle.sweep_laws.proofs.LevelPieces.{gathered, gathered_below, gathered_above}
@@ -71,8 +71,8 @@ module _ (es : List LeafEdge) (m : Level) (dm : pos 0 <ℤ m.d) where
       (beside m p.at q.at (spots_of ps) (spots_at es m) hp.1 (spots_are_at es m) g.1 up)
       (none_covers (covers p.at q.at) es c))
 
-module _ (es : List LeafEdge) (balanced : AreLeavesBalanced es) (l m u : Level) (lm : AreNeighbours es l m) (mu : AreNeighbours es m u)
-    (below above : List (List ℕ)) (b : AreBundles es l m below) (a : AreBundles es m u above) where
+module _ (es : List LeafEdge) (balanced : AreLeavesBalanced es) (m : Level) (dm : pos 0 <ℤ m.d) (below above : List (List ℕ))
+    (b : CountsBeside false es m below) (a : CountsBeside true es m above) where
   here : (p : Place) (ps : List Place) → AllByRecursion (IsSpotAt m) (spots_of (p ∷ ps)) → GoRight (spots_of (p ∷ ps))
       → HasSide es m (λ p. p.below) below (p ∷ ps) → HasSide es m (λ p. p.above) above (p ∷ ps)
       → AllByRecursion (IsUpTo p.at (spots_of ps)) (spots_at es m) → IsUncovered es p ps → (leaf : ℕ)
@@ -81,8 +81,8 @@ module _ (es : List LeafEdge) (balanced : AreLeavesBalanced es) (l m u : Level) 
       ap (λ (ss : List Strand). headings es leaf (concat (bundles_of ss))) (sym (gathered_below ps))
       ∙ ap (λ (bs : List (List ℕ)). headings es leaf (concat bs))
       (sym (passed_at es m (λ p. p.below) below p ps hp g x.rise x.meet x.past))
-      ∙ headings_beside es balanced l m u lm mu below above b a p.at hp.0.at (runs_up p.at.run hp.0.runs)
-      (flats_aside es m mu.lower_divisor p ps hp g up c) leaf
+      ∙ headings_beside es balanced m dm below above b a p.at hp.0.at (runs_up p.at.run hp.0.runs)
+      (flats_aside es m dm p ps hp g up c) leaf
       ∙ ap (λ (bs : List (List ℕ)). headings es leaf (concat bs))
       (passed_at es m (λ p. p.above) above p ps hp g y.rise y.meet y.past)
       ∙ ap (λ (ss : List Strand). headings es leaf (concat (bundles_of ss))) (gathered_above ps)
@@ -98,27 +98,38 @@ module _ (es : List LeafEdge) (balanced : AreLeavesBalanced es) (l m u : Level) 
         (next_up_to m p.at q.at (spots_of ps) (spots_at es m) hp.0 hp.1.0 (spots_are_at es m) g.0 up),
   )
 
-pub boundaries_are_balanced : BoundariesAreBalanced
-boundaries_are_balanced es balanced l m u lm mu [] b a met stops = tt
-boundaries_are_balanced es balanced l m u lm mu (p ∷ ps) b a met stops =
+-- by what is known of both sides
+pub boundaries_by : (es : List LeafEdge) → AreLeavesBalanced es → (m : Level) → pos 0 <ℤ m.d → (places : List Place)
+    → AllByRecursion (λ s. RisesFirst es s.bundle) (all_below places)
+    → AllByRecursion (λ s. RisesFirst es s.bundle) (all_above places)
+    → CountsBeside false es m (bundles_of (all_below places)) → CountsBeside true es m (bundles_of (all_above places))
+    → AreMet es m places → AreStops es m (spots_of places) → AreBoundariesBalanced es places
+boundaries_by es balanced m dm [] rb ra b a met stops = tt
+boundaries_by es balanced m dm (p ∷ ps) rb ra b a met stops =
     let places : List Place = p ∷ ps in
-    from_place es balanced l m u lm mu (bundles_of (all_below places)) (bundles_of (all_above places)) b a p ps
+    from_place es balanced m dm (bundles_of (all_below places)) (bundles_of (all_above places)) b a p ps
     (stops_at es m (spots_of places) stops) stops.rightwards
     (record {
-      rise = subst (AllByRecursion (λ s. RisesFirst es s.bundle)) (sym (gathered_below places))
-          (firsts es l m (all_below places) (live_bundles es l m (bundles_of (all_below places)) b));
+      rise = subst (AllByRecursion (λ s. RisesFirst es s.bundle)) (sym (gathered_below places)) rb;
       meet = met.below;
       past = past_all es m (λ p. p.below) (bundles_of (all_below places)) places
           (ap bundles_of (sym (gathered_below places)));
     })
     (record {
-      rise = subst (AllByRecursion (λ s. RisesFirst es s.bundle)) (sym (gathered_above places))
-          (firsts es m u (all_above places) (live_bundles es m u (bundles_of (all_above places)) a));
+      rise = subst (AllByRecursion (λ s. RisesFirst es s.bundle)) (sym (gathered_above places)) ra;
       meet = met.above;
       past = past_all es m (λ p. p.above) (bundles_of (all_above places)) places
           (ap bundles_of (sym (gathered_above places)));
     })
     (first_up_to p.at (spots_of ps) (spots_at es m) stops.complete)
+
+pub boundaries_are_balanced : BoundariesAreBalanced
+boundaries_are_balanced es balanced l m u lm mu places b a met stops =
+    boundaries_by es balanced m mu.lower_divisor places
+    (firsts es l m (all_below places) (live_bundles es l m (bundles_of (all_below places)) b))
+    (firsts es m u (all_above places) (live_bundles es m u (bundles_of (all_above places)) a))
+    (counts_below es l m lm (bundles_of (all_below places)) b) (counts_above es m u mu (bundles_of (all_above places)) a) met
+    stops
 
 -- ---- a bundle that stays
 headings_both : (es : List LeafEdge) (leaf : ℕ) (xs ys : List ℕ)

@@ -21,3 +21,4 @@ pub mod Values
 pub mod Groups
 pub mod Edges
 pub mod ClosedEdges
+pub mod Plain

@@ -8,3 +8,4 @@ pub mod Staying
 pub mod Stops
 pub mod Values
 pub mod Edges
+pub mod Plain
