@@ -21,4 +21,5 @@ pub mod Values
 pub mod Groups
 pub mod Edges
 pub mod ClosedEdges
+pub mod Steps
 pub mod Plain

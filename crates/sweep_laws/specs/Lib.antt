@@ -8,4 +8,5 @@ pub mod Staying
 pub mod Stops
 pub mod Values
 pub mod Edges
+pub mod Steps
 pub mod Plain

@@ -6,6 +6,8 @@ ghost use Rattle.sweep_laws.specs.Staying.{PlainPlacesPass, StrandsStay, GroupsE
 ghost use Rattle.sweep_laws.specs.Stops.{PlacesAreStops, SpotsAreThere};
 ghost use Rattle.sweep_laws.specs.Balance.{HeadingsAreBalanced, ValuesAreKept, BoundariesAreBalanced, StayingValues};
 ghost use Rattle.sweep_laws.specs.Values.{ValuesGoOn};
+ghost use Rattle.sweep_laws.specs.Steps.{StepsLift};
+ghost use Rattle.sweep_laws.specs.Plain.{PlainHeightsPass, LastHeightsPass};
 ghost use Rattle.sweep_laws.specs.Edges.{WaysGiveEdges, SameSpotsRoundAlike};
 
 /// A sweep that visits each place once, and there lets a way go on where one comes in and one goes out, of one name and
@@ -60,6 +62,14 @@ pub fn headings_are_balanced()
 pub fn values_go_on()
     ensures kept { StayingValues }
     ensures all { ValuesGoOn }
+{}
+
+/// A front is lifted over a height by places that its edges meet, with new strands that have their values, if the ways pass
+/// at each place; where nothing leads from place to place, it's enough that the strands' ways pass.
+pub fn steps_lift()
+    ensures lift { StepsLift }
+    ensures plain { PlainHeightsPass }
+    ensures last { LastHeightsPass }
 {}
 
 /// The edges of ways are those between their rounded ends, one way after another, and a place rounds to one point.
