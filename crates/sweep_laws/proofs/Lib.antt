@@ -3,6 +3,7 @@ pub mod OnePlace
 pub mod Meeting
 pub mod Rearranged
 pub mod Away
+pub mod Between
 pub mod Walking
 pub mod Spots
 pub mod Strands
