@@ -8,6 +8,7 @@ pub mod Walking
 pub mod Spots
 pub mod Strands
 pub mod Levels
+pub mod LevelPlan
 pub mod LevelPieces
 pub mod FlatPieces
 pub mod Lifting
@@ -16,6 +17,8 @@ pub mod Counted
 pub mod Balance
 pub mod HeightByHeight
 pub mod Staying
+pub mod StrandSpots
+pub mod BelowOrAbove
 pub mod Stops
 pub mod Boundaries
 pub mod Values

@@ -35,7 +35,8 @@ use Rattle.sweep_laws.specs.Crossing.{Place, spots_of, all_below, all_above, all
 use Rattle.sweep_laws.specs.Sweeps.{Sweeps, closed_in, AreMergedEdges, SweepsMerge, MergedEdgesMakeOutlines}
 use Rattle.sweep_laws.proofs.Rearranged.{same_lists}
 use Rattle.sweep_laws.proofs.Walking.{walks_merge}
-use Rattle.sweep_laws.proofs.Levels.{IsHigher, IsLevel, IsAlong, EndsAtOne, level_walk, level_plan}
+use Rattle.sweep_laws.proofs.Levels.{IsHigher, IsLevel, IsAlong, level_walk}
+use Rattle.sweep_laws.proofs.LevelPlan.{EndsAtOne, level_plan}
 use Rattle.sweep_laws.proofs.LevelPieces.{slab_is}
 use Rattle.sweep_laws.proofs.Lifting.{IsSide, above_side, below_side, no_side, tell_top, is_level, meets_place, level_pieces, all_end}
 
