@@ -1,5 +1,5 @@
 -- Spots at one place lie away from the others.
-use Rattle.std.proofs.Common.{◌≡◌, ◌⊎◌, inl, inr, Bool, true, false, cond, true≢false, List, [], ◌∷◌, ◌++◌, refl, sym, ◌∙◌}
+use Rattle.std.proofs.Common.{◌≡◌, inl, inr, Bool, true, false, cond, true≢false, List, [], ◌∷◌, sym, ◌∙◌}
 use Rattle.std.specs.List.{AllByRecursion}
 use Rattle.std.specs.Cmp.{both_ways}
 use Rattle.scad_base.proofs.Lists.{AllByRecursion-append}
@@ -7,7 +7,6 @@ use Rattle.scad_geom.specs.Point.{Point, is_same_point}
 use Rattle.winding_laws.specs.Nearness.{IsPoint}
 use Rattle.winding_laws.proofs.Sameness.{same_through}
 use Rattle.slice_snap.specs.declared.piece.Spot.{Spot}
-use Rattle.slice_snap.specs.declared.piece.Piece.{Piece}
 use Rattle.slice_snap.specs.Spots.{point_of}
 use Rattle.slice_snap.proofs.Courses.{turn_same}
 use Rattle.sweep_laws.specs.Ways.{Way, piece_of, pieces_of, IsAt, IsAway}

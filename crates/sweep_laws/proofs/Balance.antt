@@ -1,4 +1,5 @@
--- Balance at a height: where no flat edge leads to the right of a spot, what lies to its right sums up alike below and above.
+-- Balance at a height: where no flat edge leads to the right of a spot, what lies to its right sums up alike below and
+-- above.
 use Rattle.std.proofs.Common.{◌≡◌, ℕ, zero, suc, ◌<◌, Bool, true, false, not, cond, List, [], ◌∷◌, length, map, refl, sym, ap, ap₂, ◌∙◌, subst, arith}
 use mathlib.Core.Path.{fun_ext}
 use lib.IntN.{ℤ, pos, ◌+ℤ◌, ◌-ℤ◌, ◌*ℤ◌, zero-*ℤ}
@@ -13,7 +14,6 @@ use Rattle.scad_base.proofs.Tests.{int_eq-true}
 use Rattle.scad_geom.specs.declared.point.Edge.{Edge}
 use Rattle.scad_geom.specs.declared.level.Level.{Level}
 use Rattle.scad_geom.specs.declared.level.LeafEdge.{LeafEdge}
-use Rattle.scad_geom.specs.declared.shape.Shape.{Shape}
 use Rattle.scad_geom.specs.Level.{IsLower, IsAtMost}
 use Rattle.scad_geom.specs.Leaves.{edges_of, AreLeavesBalanced}
 use Rattle.scad_geom.specs.Point.{Point, whole, is_same_point}
@@ -64,7 +64,8 @@ level_alike p b c db dc h = both_ways (is_level p b) (is_level p c)
     (λ e. (signed_Decides (p.y *ℤ b.d) (b.y *ℤ p.d)).1
     (level_too p c b dc (are_same_turned b c h) (int_eq-true (p.y *ℤ c.d) (c.y *ℤ p.d) e)))
 
-right_alike : (right : Bool) (p b c : Point) → IsPoint b → IsPoint c → AreSame b c → is_right right p b ≡ is_right right p c
+right_alike : (right : Bool) (p b c : Point) → IsPoint b → IsPoint c → AreSame b c → is_right right p b
+    ≡ is_right right p c
 right_alike right p b c db dc h =
     sym (beyond_mul right c.d (gap p b) dc)
     ∙ ap (is_beyond right) (one_axis b.x b.d c.x c.d p.x p.d h.x)
@@ -181,7 +182,8 @@ itself : (l : Level) → IsAtMost l l
 itself l = omega (arith, ints)
 
 divides : (m : Level) (s : Spot) → pos 0 <ℤ m.d → s.at ≡ m → 0 < s.run → IsPoint (point_of s)
-divides m s dm e r = positive_product s.at.d (pos s.run) (subst (λ (at : Level). pos 0 <ℤ at.d) (sym e) dm) (runs_up s.run r)
+divides m s dm e r = positive_product s.at.d (pos s.run) (subst (λ (at : Level). pos 0 <ℤ at.d) (sym e) dm)
+    (runs_up s.run r)
 
 around_below : (es : List LeafEdge) (l m : Level) → AreNeighbours es l m → (s : Spot) → s.at ≡ m → 0 < s.run
     → Around es false true (point_of s) l m
@@ -208,11 +210,13 @@ CountsBeside above es m bundles = (s : Spot) → s.at ≡ m → 0 < s.run → (l
 
 pub counts_below : (es : List LeafEdge) (l m : Level) → AreNeighbours es l m → (below : List (List ℕ))
     → AreBundles es l m below → CountsBeside false es m below
-counts_below es l m lm below b s e r leaf = counted_right es false true (point_of s) l m (around_below es l m lm s e r) leaf below b
+counts_below es l m lm below b s e r leaf = counted_right es false true (point_of s) l m
+    (around_below es l m lm s e r) leaf below b
 
 pub counts_above : (es : List LeafEdge) (m u : Level) → AreNeighbours es m u → (above : List (List ℕ))
     → AreBundles es m u above → CountsBeside true es m above
-counts_above es m u mu above a s e r leaf = counted_right es true true (point_of s) m u (around_above es m u mu s e r) leaf above a
+counts_above es m u mu above a s e r leaf = counted_right es true true (point_of s) m u
+    (around_above es m u mu s e r) leaf above a
 
 -- nothing lies below the first height
 none_turns : (p : Point) (leaf : ℕ) (es : List LeafEdge)
@@ -228,7 +232,8 @@ none_turns p leaf (e ∷ es) h =
     by_test true = refl
     by_test false = refl
 
-over_all : (p m : Level) (hs : List Level) → pos 0 <ℤ p.d → pos 0 <ℤ m.d → AllByRecursion (λ (h : Level). pos 0 <ℤ h.d) hs
+over_all : (p m : Level) (hs : List Level) → pos 0 <ℤ p.d → pos 0 <ℤ m.d
+    → AllByRecursion (λ (h : Level). pos 0 <ℤ h.d) hs
     → IsAtMost p m → AllByRecursion (IsAtMost m) hs → AllByRecursion (Over false p) hs
 over_all p m [] dp dm d o h = tt
 over_all p m (g ∷ hs) dp dm d o h = (at_most_chain p m g dp dm d.0 o h.0, over_all p m hs dp dm d.1 o h.1)
@@ -237,10 +242,12 @@ pub counts_first : (es : List LeafEdge) (m : Level) → pos 0 <ℤ m.d → AllBy
     → CountsBeside false es m []
 counts_first es m dm h s e r leaf =
     let p : Point = point_of s in
-    let dp : IsPoint p = positive_product s.at.d (pos s.run) (subst (λ (at : Level). pos 0 <ℤ at.d) (sym e) dm) (runs_up s.run r) in
+    let dp : IsPoint p = positive_product s.at.d (pos s.run) (subst (λ (at : Level). pos 0 <ℤ at.d) (sym e) dm)
+    (runs_up s.run r) in
     let o : IsAtMost (scaled s.at (pos s.run)) m = subst (λ (at : Level). IsAtMost (scaled at (pos s.run)) m) (sym e)
     (scaled_at_most m m (pos s.run) (runs_up s.run r) (itself m)) in
-    let all : AllByRecursion (Over false (level_at p)) (heights es) = over_all (level_at p) m (heights es) dp dm (heights_positive es) o h in
+    let all : AllByRecursion (Over false (level_at p)) (heights es) = over_all (level_at p) m (heights es) dp dm
+    (heights_positive es) o h in
     none_turns p leaf es (λ i l. let t = all_ends (Over false (level_at p)) es i no_edge all l in
     over_turn false true p (slice_index_or es i no_edge).edge t.0 t.1)
 

@@ -1,37 +1,22 @@
 -- Each edge that meets a height comes from below it or goes on above it.
-use Rattle.std.proofs.Common.{◌≡◌, ℕ, zero, suc, ◌+◌, ◌<◌, ◌⊎◌, inl, inr, Bool, true, false, cond, List, [], ◌∷◌, ◌++◌, length, refl, sym, ap, ap₂, ◌∙◌, subst, arith}
-use lib.IntN.{ℤ, pos, negsuc, ◌*ℤ◌, ◌-ℤ◌}
+use Rattle.std.proofs.Common.{◌≡◌, ℕ, ◌<◌, ◌⊎◌, inl, inr, Bool, true, false, cond, List, length, sym, arith}
+use lib.IntN.{pos, ◌*ℤ◌}
 use lib.Signed.{◌<ℤ◌}
-use Rattle.std.specs.Prelude.{int_lt, int_le, ◌&&◌, if◌then◌else◌}
-use Rattle.std.specs.List.{AllByRecursion, concat}
-use Rattle.std.specs.Ordering.{int_eq}
-use Rattle.std.specs.List.Sorted.{IsPermutation}
-use Rattle.std.proofs.lemmas.Bool.{and_parts, true≢false}
+use Rattle.std.specs.Prelude.{int_lt, int_le, ◌&&◌}
+use Rattle.std.specs.List.{AllByRecursion}
+use Rattle.std.proofs.lemmas.Bool.{and_parts}
 use Rattle.std.proofs.lemmas.Int.{ints}
-use Rattle.std.proofs.lemmas.List.Elements.{All-from_recursion, recursion_from_All}
-use Rattle.std.proofs.lemmas.List.Sorted.{All-permutation, IsPermutation-sym}
-use Rattle.scad_base.proofs.Lists.{AllByRecursion-append}
+use Rattle.std.proofs.lemmas.List.Elements.{recursion_from_All}
 use Rattle.scad_geom.specs.declared.point.Edge.{Edge}
 use Rattle.scad_geom.specs.declared.level.Level.{Level}
 use Rattle.scad_geom.specs.declared.level.LeafEdge.{LeafEdge}
-use Rattle.scad_geom.specs.Line.{low, high, rise, x_at}
+use Rattle.scad_geom.specs.Line.{low, high, rise}
 use Rattle.scad_geom.specs.Level.{level_of, IsLower, IsAtMost}
 use Rattle.scad_geom.specs.Heights.{heights, AreNeighbours}
-use Rattle.scad_geom.specs.Sign.{is_zero}
-use Rattle.scad_geom.specs.EdgeOrder.{AreAligned}
-use Rattle.scad_geom.proofs.Heights.{same_chain, lower_then_at_most, at_most_chain}
-use Rattle.scad_geom.proofs.Order.{front, back, all_ends, aligned_all}
-use Rattle.slice_slab.specs.Bundles.{no_edge, edge_at, reaches, reaching, IsBundle, AreRanked, AreBundles}
-use Rattle.slice_slab.proofs.Live.{IsLive, live_bundles}
-use Rattle.slice_snap.specs.declared.piece.Spot.{Spot}
-use Rattle.slice_bool.specs.Pieces.{spot_on, whole_spot, across, is_flat_at, passes_at, edge_spots, spots_at, IsSameAcross, HasSpot, IsOneOf, AreStops}
-use Rattle.slice_bool.proofs.Middle.{size_of}
-use Rattle.slice_bool.proofs.Winding.{IsSpotAt, of_stops, spots_are_at, passes_rises}
-use Rattle.sweep_laws.specs.Fronts.{Strand, bundles_of}
-use Rattle.sweep_laws.specs.Crossing.{Place, spots_of, all_below, all_above, MeetsAt}
-use Rattle.sweep_laws.specs.Stops.{AreMet, PlacesAreStops, SpotsAreThere}
-use Rattle.sweep_laws.proofs.Spots.{spot_at}
-use Rattle.sweep_laws.proofs.LevelPieces.{gathered, gathered_below, gathered_above}
+use Rattle.scad_geom.proofs.Heights.{at_most_chain}
+use Rattle.scad_geom.proofs.Order.{all_ends}
+use Rattle.slice_slab.specs.Bundles.{no_edge, edge_at, reaches}
+use Rattle.slice_bool.specs.Pieces.{passes_at}
 
 -- ---- each edge that meets the height comes from below or goes on above
 lower_end : (P : Level → Type 0) (e : Edge) → P (level_of e.a.y) × P (level_of e.b.y) → P (level_of (low e).y)
@@ -62,7 +47,8 @@ passes_is e m h =
     let p0 = p.0 in let q0 = q.0 in let q1 = q.1 in
     record { rises = omega (arith, ints); from = omega (arith, ints); to = omega (arith, ints) }
 
-reaches_by : (e : Edge) (l u : Level) → pos 0 <ℤ rise e → IsAtMost (level_of (low e).y) l → IsAtMost u (level_of (high e).y)
+reaches_by : (e : Edge) (l u : Level) → pos 0 <ℤ rise e → IsAtMost (level_of (low e).y) l
+    → IsAtMost u (level_of (high e).y)
     → reaches e l u ≡ true
 unfolding reaches
 reaches_by e l u r a b =
@@ -81,7 +67,8 @@ apart_levels p q h k = omega (arith, ints)
 one : pos 0 <ℤ pos 1
 one = omega (arith, ints)
 
-module _ (es : List LeafEdge) (m : Level) (dm : pos 0 <ℤ m.d) (k : ℕ) (o : k < length es) (t : Passes (edge_at es k) m) where
+module _ (es : List LeafEdge) (m : Level) (dm : pos 0 <ℤ m.d) (k : ℕ) (o : k < length es)
+    (t : Passes (edge_at es k) m) where
   abbrev e : Edge
   e = edge_at es k
 
@@ -109,7 +96,8 @@ module _ (es : List LeafEdge) (m : Level) (dm : pos 0 <ℤ m.d) (k : ℕ) (o : k
       by_case : IsAtMost (level_of (low e).y) l ⊎ IsAtMost m (level_of (low e).y)
           → (reaches e l m ≡ true) ⊎ (reaches e m u ≡ true)
       by_case (inl a) = inl (from_below l a)
-      by_case (inr a) = inr (on_above u (recursion_from_All (λ h. IsAtMost h m ⊎ IsAtMost u h) (heights es) mu.between) a)
+      by_case (inr a) = inr (on_above u (recursion_from_All (λ h. IsAtMost h m ⊎ IsAtMost u h)
+          (heights es) mu.between) a)
 
   pub only_above : (u : Level) → AreNeighbours es m u → AllByRecursion (IsAtMost m) (heights es) → reaches e m u ≡ true
   only_above u mu h = on_above u (recursion_from_All (λ h. IsAtMost h m ⊎ IsAtMost u h) (heights es) mu.between)

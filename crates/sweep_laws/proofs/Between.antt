@@ -1,28 +1,25 @@
 -- Between two places of a sweep: open ways, pieces that have ended, and what one visit does where all that come in end.
-use Rattle.std.proofs.Common.{◌≡◌, ◌⊎◌, inl, inr, Bool, true, false, cond, true≢false, List, [], ◌∷◌, ◌++◌, All, refl, sym, ap, ap₂, ◌∙◌, subst, append_assoc}
+use Rattle.std.proofs.Common.{◌⊎◌, inl, inr, List, [], ◌∷◌, ◌++◌, All, sym, ◌∙◌, subst}
 use Rattle.std.specs.List.{AllByRecursion}
 use Rattle.std.specs.List.Sorted.{IsPermutation}
-use Rattle.std.proofs.lemmas.List.{append-nil, map-append}
-use Rattle.std.proofs.lemmas.List.Elements.{All-cons, All-head, All-tail, All-weaker, All-from_recursion, recursion_from_All}
-use Rattle.std.proofs.lemmas.List.Sorted.{All-permutation, IsPermutation-refl, IsPermutation-sym, IsPermutation-trans, IsPermutation-map, IsPermutation-append_left, IsPermutation-append_right, IsPermutation-middle}
+use Rattle.std.proofs.lemmas.List.{map-append}
+use Rattle.std.proofs.lemmas.List.Elements.{All-from_recursion, recursion_from_All}
+use Rattle.std.proofs.lemmas.List.Sorted.{All-permutation, IsPermutation-sym, IsPermutation-trans, IsPermutation-map, IsPermutation-append_left, IsPermutation-append_right}
 use Rattle.scad_base.proofs.Lists.{AllByRecursion-append}
-use Rattle.scad_geom.specs.Point.{Point, is_same_point}
+use Rattle.scad_geom.specs.Point.{Point}
 use Rattle.scad_geom.proofs.Order.{front, back}
 use Rattle.winding_laws.specs.Nearness.{IsPoint}
-use Rattle.slice_snap.specs.declared.piece.Spot.{Spot}
 use Rattle.slice_snap.specs.declared.piece.Piece.{Piece}
 use Rattle.slice_snap.specs.Spots.{point_of}
-use Rattle.slice_snap.specs.Merging.{joined, MeetAlone, AreMerged, all_joined, two_join}
-use Rattle.slice_snap.specs.Joining.{GoesOn, IsPassedOnce, IsStuck}
-use Rattle.slice_snap.proofs.Pairs.{permuted_merged}
-use Rattle.slice_snap.proofs.Stuck.{starts_permuted, ends_permuted, stays_stuck, none_meet_alone}
+use Rattle.slice_snap.specs.Joining.{GoesOn, IsStuck}
+use Rattle.slice_snap.proofs.Stuck.{starts_permuted, ends_permuted}
 use Rattle.sweep_laws.specs.Ways.{Way, piece_of, pieces_of, IsAt, IsAway, AreOfDifferentNames}
-use Rattle.sweep_laws.specs.Visits.{grown, IsOneCourse, OneGoesOn, Pass, goes_on, all_end, Visit, outs_of, IsAtOne, Leads, IsPlan, Walk, over, visit, WalksMerge}
+use Rattle.sweep_laws.specs.Visits.{OneGoesOn, Visit, outs_of, IsAtOne, Leads, IsPlan}
 use Rattle.sweep_laws.proofs.Touches.{ComesIn, GoesOut, LiesAway}
-use Rattle.sweep_laws.proofs.OnePlace.{is_joined, stuck_here}
-use Rattle.sweep_laws.proofs.Meeting.{ending, starting, meet_alone, ending_point, starting_point, starts_on, by_end}
-use Rattle.sweep_laws.proofs.Rearranged.{same_lists, parted, parted_ended}
-use Rattle.sweep_laws.proofs.Away.{AwayFromAll, AreElsewhere, all_away, points, away_at_one, not_first, piece_away, outs_away, pieces_away}
+use Rattle.sweep_laws.proofs.OnePlace.{stuck_here}
+use Rattle.sweep_laws.proofs.Meeting.{by_end}
+use Rattle.sweep_laws.proofs.Rearranged.{parted, parted_ended}
+use Rattle.sweep_laws.proofs.Away.{AwayFromAll, AreElsewhere, all_away, points, away_at_one, not_first, outs_away, pieces_away}
 
 -- ---- between two places
 -- the pieces that have ended, those of open ways, and those to come
@@ -77,8 +74,10 @@ all_two P Q R [] f h k = tt
 all_two P Q R (x ∷ xs) f h k = (f x h.0 k.0, all_two P Q R xs f h.1 k.1)
 
 -- ---- one visit
-module _ (done : List Piece) (opens ins kept : List Way) (v : Visit) (vs : List Visit) (is : IsPermutation opens (ins ++ kept))
-    (at : AllByRecursion (λ w. IsAt (point_of v.at) w.far) ins) (away : AllByRecursion (λ w. IsAway (point_of v.at) w.far) kept)
+module _ (done : List Piece) (opens ins kept : List Way) (v : Visit) (vs : List Visit)
+    (is : IsPermutation opens (ins ++ kept))
+    (at : AllByRecursion (λ w. IsAt (point_of v.at) w.far) ins)
+    (away : AllByRecursion (λ w. IsAway (point_of v.at) w.far) kept)
     (different : AreOfDifferentNames ins) (now : IsBetween done opens (v ∷ vs)) where
   abbrev p : Point
   p = point_of v.at
@@ -125,7 +124,12 @@ module _ (done : List Piece) (opens ins kept : List Way) (v : Visit) (vs : List 
 
   pub go_out : AllByRecursion (GoesOut p) v.outs
   go_out = all_weaker (Leads v.at vs) (GoesOut p) v.outs
-      (λ w l. (l.near, away_at_one p w.far l.far_point vs (points vs now.plan.4) elsewhere l.far, l.near_point, l.far_point))
+      (λ w l. (
+        l.near,
+        away_at_one p w.far l.far_point vs (points vs now.plan.4) elsewhere l.far,
+        l.near_point,
+        l.far_point,
+      ))
       now.plan.2
 
   pub lie_away : AllByRecursion (LiesAway p) others
@@ -138,7 +142,13 @@ module _ (done : List Piece) (opens ins kept : List Way) (v : Visit) (vs : List 
 
   pub still_open : AllByRecursion (IsOpen vs) kept
   still_open = all_two (IsOpen (v ∷ vs)) (λ w. IsAway p w.far) (IsOpen vs) kept
-      (λ w o a. record { near_point = o.near_point; far_point = o.far_point; near = o.near.1; far = not_first v vs w.far a o.far; })
+      (λ w o a. record {
+        near_point = o.near_point;
+        far_point = o.far_point;
+        near = o.near.1;
+        far =
+            not_first v vs w.far a o.far;
+      })
       opened_kept away
 
   pub still_gone : AllByRecursion (IsGone vs) done
@@ -199,4 +209,3 @@ module _ (done : List Piece) (opens ins kept : List Way) (v : Visit) (vs : List 
         quiet = All-permutation (IsQuiet vs ended) all ended ended_are
             (λ k d l. quiet_permuted vs all ended _ ended_are (stuck_or_later _ (now.quiet k d l) (stuck k d l)));
       }
-

@@ -1,24 +1,21 @@
 -- Balance at the places of a height.
-use Rattle.std.proofs.Common.{◌≡◌, ℕ, ◌<◌, ◌⊎◌, inl, inr, Bool, true, false, not, List, [], ◌∷◌, ◌++◌, refl, sym, ap, ap₂, ◌∙◌, subst, arith}
+use Rattle.std.proofs.Common.{◌≡◌, ℕ, ◌<◌, inl, inr, Bool, true, false, not, List, [], ◌∷◌, ◌++◌, sym, ap, ap₂, ◌∙◌, subst, arith}
 use mathlib.Core.Path.{fun_ext}
-use lib.IntN.{ℤ, pos, ◌+ℤ◌, ◌*ℤ◌}
+use lib.IntN.{ℤ, pos, ◌+ℤ◌}
 use lib.Signed.{◌<ℤ◌}
-use Rattle.std.specs.Prelude.{None}
-use Rattle.std.specs.List.{AllByRecursion, concat, position}
+use Rattle.std.specs.List.{AllByRecursion, concat}
 use Rattle.std.proofs.lemmas.Int.{ints}
 use Rattle.scad_geom.specs.declared.level.Level.{Level}
 use Rattle.scad_geom.specs.declared.level.LeafEdge.{LeafEdge}
-use Rattle.scad_geom.specs.Heights.{AreNeighbours}
 use Rattle.scad_geom.specs.Leaves.{AreLeavesBalanced}
 use Rattle.scad_geom.specs.Level.{IsAtMost}
 use Rattle.scad_geom.specs.Shape.{shape_holds}
 use Rattle.scad_geom.specs.Sign.{is_zero}
 use Rattle.scad_geom.proofs.Sums.{sum_z-append}
-use Rattle.slice_slab.specs.Bundles.{AreBundles}
 use Rattle.slice_slab.proofs.Live.{live_bundles}
 use Rattle.slice_snap.specs.declared.piece.Spot.{Spot}
 use Rattle.slice_snap.specs.Spots.{point_of}
-use Rattle.slice_bool.specs.Pieces.{across, spots_at, GoRight, HasSpot, covers, AreStops}
+use Rattle.slice_bool.specs.Pieces.{across, spots_at, GoRight, covers, AreStops}
 use Rattle.slice_bool.specs.Beside.{RisesFirst}
 use Rattle.slice_bool.specs.Tally.{headings}
 use Rattle.slice_bool.proofs.BalanceEdges.{IsAside}
@@ -36,7 +33,7 @@ use Rattle.sweep_laws.specs.Balance.{AreBoundariesBalanced, BoundariesAreBalance
 use Rattle.sweep_laws.proofs.Balance.{CountsBeside, counts_below, counts_above, headings_beside}
 use Rattle.sweep_laws.proofs.Counted.{headings_are}
 use Rattle.sweep_laws.proofs.FlatPieces.{HasSide, next_side, passed_at, past_all}
-use Rattle.sweep_laws.proofs.LevelPieces.{gathered, gathered_below, gathered_above}
+use Rattle.sweep_laws.proofs.LevelPieces.{gathered_below, gathered_above}
 use Rattle.sweep_laws.proofs.Lifting.{firsts}
 
 not_past : (s : Spot) → IsAtMost (across s) (across s)
@@ -71,7 +68,8 @@ module _ (es : List LeafEdge) (m : Level) (dm : pos 0 <ℤ m.d) where
       (beside m p.at q.at (spots_of ps) (spots_at es m) hp.1 (spots_are_at es m) g.1 up)
       (none_covers (covers p.at q.at) es c))
 
-module _ (es : List LeafEdge) (balanced : AreLeavesBalanced es) (m : Level) (dm : pos 0 <ℤ m.d) (below above : List (List ℕ))
+module _ (es : List LeafEdge) (balanced : AreLeavesBalanced es) (m : Level) (dm : pos 0 <ℤ m.d)
+    (below above : List (List ℕ))
     (b : CountsBeside false es m below) (a : CountsBeside true es m above) where
   here : (p : Place) (ps : List Place) → AllByRecursion (IsSpotAt m) (spots_of (p ∷ ps)) → GoRight (spots_of (p ∷ ps))
       → HasSide es m (λ p. p.below) below (p ∷ ps) → HasSide es m (λ p. p.above) above (p ∷ ps)
@@ -87,7 +85,8 @@ module _ (es : List LeafEdge) (balanced : AreLeavesBalanced es) (m : Level) (dm 
       (passed_at es m (λ p. p.above) above p ps hp g y.rise y.meet y.past)
       ∙ ap (λ (ss : List Strand). headings es leaf (concat (bundles_of ss))) (gathered_above ps)
 
-  from_place : (p : Place) (ps : List Place) → AllByRecursion (IsSpotAt m) (spots_of (p ∷ ps)) → GoRight (spots_of (p ∷ ps))
+  from_place : (p : Place) (ps : List Place) → AllByRecursion (IsSpotAt m) (spots_of (p ∷ ps))
+      → GoRight (spots_of (p ∷ ps))
       → HasSide es m (λ p. p.below) below (p ∷ ps) → HasSide es m (λ p. p.above) above (p ∷ ps)
       → AllByRecursion (IsUpTo p.at (spots_of ps)) (spots_at es m) → AreBoundariesBalanced es (p ∷ ps)
   from_place p [] hp g x y up = (here p [] hp g x y up, tt)
@@ -128,7 +127,8 @@ boundaries_are_balanced es balanced l m u lm mu places b a met stops =
     boundaries_by es balanced m mu.lower_divisor places
     (firsts es l m (all_below places) (live_bundles es l m (bundles_of (all_below places)) b))
     (firsts es m u (all_above places) (live_bundles es m u (bundles_of (all_above places)) a))
-    (counts_below es l m lm (bundles_of (all_below places)) b) (counts_above es m u mu (bundles_of (all_above places)) a) met
+    (counts_below es l m lm (bundles_of (all_below places)) b)
+    (counts_above es m u mu (bundles_of (all_above places)) a) met
     stops
 
 -- ---- a bundle that stays

@@ -1,8 +1,8 @@
--- Between two neighbouring heights, a leaf's winding number is the sum of the headings of its edges in the bundles that lie
+-- Between two neighbouring heights, a leaf's winding number is the sum of the headings of its edges in the bundles that
+-- lie
 -- to the right.
 use Rattle.std.proofs.Common.{◌≡◌, ℕ, Bool, true, false, List, [], ◌∷◌, ◌++◌, refl, sym, ap, ap₂, ◌∙◌}
 use lib.IntN.{ℤ, pos, ◌+ℤ◌, +ℤ_idl}
-use lib.Signed.{◌<ℤ◌}
 use Rattle.std.specs.Prelude.{if◌then◌else◌, ◌==◌, slice_index_or}
 use Rattle.std.specs.List.{AllByRecursion, concat}
 use Rattle.scad_geom.specs.declared.level.Level.{Level}
@@ -41,7 +41,8 @@ module _ (es : List LeafEdge) (above right : Bool) (p : Point) (l u : Level) (a 
       → AllByRecursion (λ j. lies_left es right p j ≡ b) ks
   with_first k b lk e [] ls h = tt
   with_first k b lk e (j ∷ js) ls h = (
-    same_side l a.neighbours.lower_divisor right p (edge_at es k) (edge_at es j) lk.reaches.rises ls.0.reaches.rises h.0 ∙ e,
+    same_side l a.neighbours.lower_divisor right p (edge_at es k) (edge_at es j) lk.reaches.rises ls.0.reaches.rises h.0
+        ∙ e,
     with_first k b lk e js ls.1 h.1,
   )
 
@@ -62,21 +63,24 @@ module _ (es : List LeafEdge) (above right : Bool) (p : Point) (l u : Level) (a 
       ∙ sym (sum_z-append (heading_for es leaf) (k ∷ ks) (concat bs))
 
   right_ones : (leaf : ℕ) (bs : List (List ℕ)) → AreRanked es l bs → AllByRecursion (IsLive es l u) (concat bs)
-      → sum_z (heading_beyond es right p leaf) (concat bs) ≡ sum_z (heading_for es leaf) (concat (passing es right p bs))
+      → sum_z (heading_beyond es right p leaf) (concat bs) ≡ sum_z (heading_for es leaf)
+      (concat (passing es right p bs))
   right_ones leaf [] r ls = refl
   right_ones leaf ([] ∷ bs) r ls = absurd r.0
   right_ones leaf ((k ∷ ks) ∷ bs) r ls = by_test (lies_left es right p k) refl
       (right_ones leaf bs r.2 (back (IsLive es l u) (k ∷ ks) (concat bs) ls))
     where
       by_test : (t : Bool) → lies_left es right p k ≡ t
-          → sum_z (heading_beyond es right p leaf) (concat bs) ≡ sum_z (heading_for es leaf) (concat (passing es right p bs))
+          → sum_z (heading_beyond es right p leaf) (concat bs)
+          ≡ sum_z (heading_for es leaf) (concat (passing es right p bs))
           → sum_z (heading_beyond es right p leaf) ((k ∷ ks) ++ concat bs)
           ≡ sum_z (heading_for es leaf) (concat (if t then (k ∷ ks) ∷ bs else passing es right p bs))
       by_test true e i = all_right leaf ((k ∷ ks) ∷ bs) r ls
           (e, all_pass es above right p l u a k ks bs ls.0 r.1 (back (IsLive es l u) (k ∷ ks) (concat bs) ls) e)
       by_test false e i =
           sum_z-append (heading_beyond es right p leaf) (k ∷ ks) (concat bs)
-          ∙ ap₂ (λ (y z : ℤ). y +ℤ z) (one_bundle leaf k ks false r.0 (front (IsLive es l u) (k ∷ ks) (concat bs) ls) e) i
+          ∙ ap₂ (λ (y z : ℤ). y +ℤ z) (one_bundle leaf k ks false r.0
+          (front (IsLive es l u) (k ∷ ks) (concat bs) ls) e) i
           ∙ +ℤ_idl (sum_z (heading_for es leaf) (concat (passing es right p bs)))
 
   pub counted_right : (leaf : ℕ) (bs : List (List ℕ)) → AreBundles es l u bs

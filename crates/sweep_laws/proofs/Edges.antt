@@ -1,5 +1,5 @@
 -- The edges that ways give.
-use Rattle.std.proofs.Common.{◌≡◌, Bool, true, false, cond, List, [], ◌∷◌, ◌++◌, map, refl, sym, ap, ◌∙◌}
+use Rattle.std.proofs.Common.{◌≡◌, Bool, true, false, cond, [], ◌∷◌, map, refl, sym, ap, ◌∙◌}
 use Rattle.std.specs.Prelude.{filter}
 use Rattle.std.proofs.lemmas.List.{map-append}
 use Rattle.std.proofs.lemmas.List.Elements.{filter-append}
@@ -10,9 +10,8 @@ use Rattle.winding_laws.proofs.Rounding.{rounded_same}
 use Rattle.slice_snap.specs.declared.piece.Spot.{Spot}
 use Rattle.slice_snap.specs.Spots.{point_of}
 use Rattle.slice_snap.specs.Pieces.{way_of, ways_of}
-use Rattle.slice_snap.specs.Rounding.{rounded_edges}
 use Rattle.sweep_laws.specs.Ways.{Way, piece_of, pieces_of}
-use Rattle.sweep_laws.specs.Edges.{edge_between, edges_between, WaysGiveEdges, SameSpotsRoundAlike}
+use Rattle.sweep_laws.specs.Edges.{edge_between, WaysGiveEdges, SameSpotsRoundAlike}
 
 one_edge : (w : Way) → rounded_edge (way_of (piece_of w))
     ≡ edge_between w.forward (rounded (point_of w.near)) (rounded (point_of w.far))
@@ -32,7 +31,8 @@ ways_give_edges = record {
       ap (λ ps. filter has_length (map rounded_edge (ways_of ps))) (map-append piece_of vs ws)
       ∙ ap (λ ss. filter has_length (map rounded_edge ss)) (map-append way_of (pieces_of vs) (pieces_of ws))
       ∙ ap (filter has_length) (map-append rounded_edge (ways_of (pieces_of vs)) (ways_of (pieces_of ws)))
-      ∙ filter-append has_length (map rounded_edge (ways_of (pieces_of vs))) (map rounded_edge (ways_of (pieces_of ws)));
+      ∙ filter-append has_length (map rounded_edge (ways_of (pieces_of vs)))
+      (map rounded_edge (ways_of (pieces_of ws)));
 }
 
 pub same_spots_round_alike : SameSpotsRoundAlike

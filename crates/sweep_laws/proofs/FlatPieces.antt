@@ -1,15 +1,16 @@
--- Along a height: the values above and below are those of the strands, so the ways along it are the pieces of the definition.
-use Rattle.std.proofs.Common.{◌≡◌, ℕ, ◌<◌, Bool, true, false, List, [], ◌∷◌, ◌++◌, refl, sym, ap, ap₂, ◌∙◌, subst, arith}
-use lib.IntN.{ℤ, pos, ◌*ℤ◌}
+-- Along a height: the values above and below are those of the strands, so the ways along it are the pieces of the
+-- definition.
+use Rattle.std.proofs.Common.{◌≡◌, ℕ, ◌<◌, Bool, true, false, List, [], ◌∷◌, ◌++◌, refl, sym, ap, ap₂, ◌∙◌, arith}
+use lib.IntN.{pos}
 use lib.Signed.{◌<ℤ◌}
 use Rattle.std.specs.Prelude.{Option, None, Some}
 use Rattle.std.specs.List.{AllByRecursion, position}
 use Rattle.std.proofs.lemmas.Int.{ints}
-use Rattle.std.proofs.lemmas.List.{append-nil, map-append}
+use Rattle.std.proofs.lemmas.List.{map-append}
 use Rattle.scad_geom.specs.declared.level.Level.{Level}
 use Rattle.scad_geom.specs.declared.level.LeafEdge.{LeafEdge}
 use Rattle.scad_geom.specs.declared.shape.Shape.{Shape}
-use Rattle.scad_geom.specs.Level.{IsLower, IsAtMost}
+use Rattle.scad_geom.specs.Level.{IsAtMost}
 use Rattle.scad_geom.specs.Shape.{is_in_by}
 use Rattle.scad_geom.proofs.Heights.{lower_chain, lower_weak, at_most_chain}
 use Rattle.scad_geom.proofs.Order.{front, back}
@@ -20,10 +21,10 @@ use Rattle.slice_bool.specs.Pieces.{across, IsLeft, GoRight, piece_between, cove
 use Rattle.slice_bool.specs.Beside.{left_value, RisesFirst, passing}
 use Rattle.slice_bool.specs.BothSides.{TellBeside}
 use Rattle.slice_bool.proofs.Winding.{IsSpotAt}
-use Rattle.sweep_laws.specs.Ways.{Way, pieces_of, piece_of}
-use Rattle.sweep_laws.specs.Fronts.{Strand, bundles_of, value_before, AreValued}
+use Rattle.sweep_laws.specs.Ways.{pieces_of, piece_of}
+use Rattle.sweep_laws.specs.Fronts.{Strand, bundles_of, value_before}
 use Rattle.sweep_laws.specs.Crossing.{Place, spots_of, all_below, all_above, way_along, flat_way}
-use Rattle.sweep_laws.proofs.LevelPieces.{between_pieces, first_is, gathered, pass_strands, stop_places, bundles_append, AllRise, AllMeet, flats_from}
+use Rattle.sweep_laws.proofs.LevelPieces.{between_pieces, gathered, pass_strands, stop_places, bundles_append, AllRise, AllMeet, flats_from}
 
 -- ---- places from left to right
 pub all_left : (l : Level) (s : Spot) (ps : List Place) → IsSpotAt l s → AllByRecursion (IsSpotAt l) (spots_of ps)
@@ -68,7 +69,8 @@ module _ (es : List LeafEdge) (l : Level) (side : Place → List Strand) (bundle
       → ArePast ps
   past_next p [] hp g r m h = tt
   past_next p (q ∷ ps) hp g r m h = λ s hs o.
-      let more : IsAtMost (across p.at) (across s) = at_most_chain (across p.at) (across q.at) (across s) hp.0.runs hp.1.0.runs hs.runs
+      let more : IsAtMost (across p.at) (across s) = at_most_chain (across p.at) (across q.at)
+      (across s) hp.0.runs hp.1.0.runs hs.runs
       (lower_weak (across p.at) (across q.at) g.0) o in
       h s hs more ∙ past_place p (q ∷ ps) s hp.0 r m hs more
 
@@ -86,7 +88,8 @@ module _ (es : List LeafEdge) (l : Level) (side : Place → List Strand) (bundle
   past_all (p ∷ ps) e = λ s hs o. ap (passing es true (point_of s)) e
 
 -- what is known of the strands of some places on one side
-pub record HasSide (es : List LeafEdge) (l : Level) (side : Place → List Strand) (bundles : List (List ℕ)) (ps : List Place) : Type 0 where
+pub record HasSide (es : List LeafEdge) (l : Level) (side : Place → List Strand) (bundles : List (List ℕ))
+    (ps : List Place) : Type 0 where
   pub rise : AllRise es l side ps
   pub meet : AllMeet es l side ps
   pub past : ArePast es l side bundles ps
@@ -117,7 +120,8 @@ along_pieces es shape v w s t None hv hw = refl
 along_pieces es shape v w s t (Some k) hv hw =
     between_pieces v w s t k ∙ ap₂ (λ (x y : Bool). piece_between x y s t k) hv hw
 
-module _ (es : List LeafEdge) (shape : Shape) (l : Level) (under over : List (List ℕ)) (tell_under : TellBeside false es shape l under) (tell_over : TellBeside true es shape l over) where
+module _ (es : List LeafEdge) (shape : Shape) (l : Level) (under over : List (List ℕ))
+    (tell_under : TellBeside false es shape l under) (tell_over : TellBeside true es shape l over) where
   abbrev Under : List Place → Type 0
   Under = HasSide es l (λ p. p.below) under
 
@@ -130,7 +134,8 @@ module _ (es : List LeafEdge) (shape : Shape) (l : Level) (under over : List (Li
       → value_before (all_above (q ∷ ps)) false ≡ left_value es shape (bundles_of (gathered (λ p. p.above) (q ∷ ps)))
       → pieces_of (flat_way es p.at p (q ∷ ps)) ≡ stretch_piece es shape p.at q.at (position (covers p.at q.at) es)
   stretch_is p q ps hp g a b x y =
-      along_pieces es shape (value_before (all_above (q ∷ ps)) false) (value_before (all_below (q ∷ ps)) false) p.at q.at
+      along_pieces es shape (value_before (all_above (q ∷ ps)) false)
+      (value_before (all_below (q ∷ ps)) false) p.at q.at
       (position (covers p.at q.at) es)
       (y ∙ sym (value_at es shape l true (λ p. p.above) over tell_over p (q ∷ ps) hp g b))
       (x ∙ sym (value_at es shape l false (λ p. p.below) under tell_under p (q ∷ ps) hp g a))

@@ -1,8 +1,7 @@
 -- A sweep height by height.
-use Rattle.std.proofs.Common.{◌≡◌, List, [], ◌∷◌, ◌++◌, refl, sym, ap, ◌∙◌, subst, append_assoc}
+use Rattle.std.proofs.Common.{List, [], ◌∷◌, ◌++◌, refl, sym, ap, ◌∙◌, subst, append_assoc}
 use Rattle.std.specs.List.Sorted.{IsPermutation}
 use Rattle.std.proofs.lemmas.List.{append-nil}
-use Rattle.scad_geom.specs.declared.point.Edge.{Edge}
 use Rattle.slice_snap.specs.Rounding.{rounded_edges}
 use Rattle.sweep_laws.specs.Ways.{Way, pieces_of}
 use Rattle.sweep_laws.specs.Crossing.{all_closed}

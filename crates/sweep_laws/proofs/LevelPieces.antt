@@ -1,31 +1,29 @@
--- One height: the ways that go out from its places are the pieces of the definition, along the height and up to the next.
-use Rattle.std.proofs.Common.{◌≡◌, ℕ, ◌<◌, Bool, true, false, List, [], ◌∷◌, ◌++◌, refl, sym, ap, ap₂, ◌∙◌, subst, arith, append_assoc}
+-- One height: the ways that go out from its places are the pieces of the definition, along the height and up to the
+-- next.
+use Rattle.std.proofs.Common.{◌≡◌, ℕ, Bool, true, false, List, [], ◌∷◌, ◌++◌, refl, sym, ap, ap₂, ◌∙◌, subst, arith, append_assoc}
 use lib.IntN.{ℤ, pos, ◌*ℤ◌}
 use lib.Signed.{◌<ℤ◌}
-use Rattle.std.specs.Prelude.{Option, None, Some, int_lt, if◌then◌else◌}
-use Rattle.std.specs.List.{AllByRecursion, concat, position}
+use Rattle.std.specs.Prelude.{int_lt, if◌then◌else◌}
+use Rattle.std.specs.List.{AllByRecursion, concat}
 use Rattle.std.specs.List.Sorted.{IsPermutation}
 use Rattle.std.proofs.lemmas.Int.{ints}
 use Rattle.std.proofs.lemmas.List.{map-append}
-use Rattle.std.proofs.lemmas.List.Sorted.{IsPermutation-refl, IsPermutation-trans, IsPermutation-map, IsPermutation-append_left, IsPermutation-append_right, IsPermutation-append_comm}
-use Rattle.scad_geom.specs.declared.point.Edge.{Edge}
+use Rattle.std.proofs.lemmas.List.Sorted.{IsPermutation-refl, IsPermutation-trans, IsPermutation-append_left, IsPermutation-append_right, IsPermutation-append_comm}
 use Rattle.scad_geom.specs.declared.level.Level.{Level}
 use Rattle.scad_geom.specs.declared.level.LeafEdge.{LeafEdge}
 use Rattle.scad_geom.specs.declared.shape.Shape.{Shape}
 use Rattle.scad_geom.specs.Line.{rise, x_at}
-use Rattle.scad_geom.specs.Level.{IsLower, IsAtMost}
+use Rattle.scad_geom.specs.Level.{IsAtMost}
 use Rattle.scad_geom.specs.Heights.{AreNeighbours}
-use Rattle.scad_geom.specs.Shape.{is_in_by}
-use Rattle.scad_geom.proofs.Heights.{lower_then_at_most, at_most_then_lower, lower_weak, at_most_chain, same_at_least, same_at_most}
+use Rattle.scad_geom.proofs.Heights.{lower_then_at_most, at_most_chain, same_at_least, same_at_most}
 use Rattle.scad_geom.proofs.Order.{front, back}
 use Rattle.slice_slab.specs.Bundles.{edge_at, AreBundles}
 use Rattle.slice_slab.proofs.Live.{IsLive, live_bundles}
 use Rattle.slice_snap.specs.declared.piece.Spot.{Spot}
 use Rattle.slice_snap.specs.declared.piece.Piece.{Piece}
 use Rattle.slice_snap.specs.Spots.{point_of}
-use Rattle.slice_bool.specs.Pieces.{spot_on, across, IsLeft, GoRight, piece_between, bundle_piece, slab_pieces, covers, stretch_piece, flat_pieces}
+use Rattle.slice_bool.specs.Pieces.{spot_on, across, IsLeft, piece_between, bundle_piece, slab_pieces}
 use Rattle.slice_bool.specs.Beside.{left_value, RisesFirst, passing, lies_left}
-use Rattle.slice_bool.specs.BothSides.{TellBeside}
 use Rattle.slice_bool.proofs.Middle.{size_of, value_left, value_right}
 use Rattle.slice_bool.proofs.Bundled.{left_is, outside_right}
 use Rattle.slice_bool.proofs.RightOf.{right_of}
@@ -33,13 +31,14 @@ use Rattle.slice_bool.proofs.Winding.{IsSpotAt}
 use Rattle.sweep_laws.specs.Ways.{Way, pieces_of, way_between, piece_of}
 use Rattle.sweep_laws.specs.Visits.{outs_of}
 use Rattle.sweep_laws.specs.Fronts.{Strand, bundles_of, value_before, way_from, ways_from, AreValued}
-use Rattle.sweep_laws.specs.Crossing.{Place, spots_of, all_below, all_above, way_along, flat_way, visits_at, MeetsAt}
+use Rattle.sweep_laws.specs.Crossing.{Place, spots_of, all_below, all_above, flat_way, visits_at, MeetsAt}
 use Rattle.sweep_laws.proofs.Spots.{spot_at}
 use Rattle.sweep_laws.proofs.Rearranged.{crossed_lists}
 use Rattle.sweep_laws.proofs.Strands.{froms_append}
 
 -- ---- the pieces of ways
-pub between_pieces : (v w : Bool) (s t : Spot) (name : ℕ) → pieces_of (way_between v w s t name) ≡ piece_between v w s t name
+pub between_pieces : (v w : Bool) (s t : Spot) (name : ℕ) → pieces_of (way_between v w s t name)
+    ≡ piece_between v w s t name
 between_pieces true true s t name = refl
 between_pieces true false s t name = refl
 between_pieces false true s t name = refl
@@ -106,7 +105,8 @@ gathered_above (p ∷ ps) = ap (λ (ss : List Strand). p.above ++ ss) (gathered_
 module _ (es : List LeafEdge) (l : Level) where
   -- the test of a bundle's first edge says whether it meets the height to the right of a spot
   lies_by : (s : Spot) (k : ℕ) → IsSpotAt l s → pos 0 <ℤ rise (edge_at es k)
-      → lies_left es true (point_of s) k ≡ int_lt (s.x *ℤ pos (spot_on (edge_at es k) l).run) ((spot_on (edge_at es k) l).x *ℤ pos s.run)
+      → lies_left es true (point_of s) k ≡ int_lt (s.x *ℤ pos (spot_on (edge_at es k) l).run)
+      ((spot_on (edge_at es k) l).x *ℤ pos s.run)
   lies_by s k hs r =
       sym (right_of (edge_at es k) s.x s.at.n s.at.d (pos s.run))
       ∙ ap₂ (λ (z : ℤ) (m : Level). int_lt (s.x *ℤ z) (x_at (edge_at es k) m.n m.d *ℤ pos s.run))
@@ -138,7 +138,8 @@ module _ (es : List LeafEdge) (l : Level) where
   pass_strands s t (x ∷ ss) rest hs ht o r m = by_bundle x.bundle r.0 m.0 ∙ pass_strands s t ss rest hs ht o r.1 m.1
     where
       by_bundle : (b : List ℕ) → RisesFirst es b → MeetsAt es l t b
-          → passing es true (point_of s) (b ∷ (bundles_of ss ++ rest)) ≡ passing es true (point_of s) (bundles_of ss ++ rest)
+          → passing es true (point_of s) (b ∷ (bundles_of ss ++ rest))
+          ≡ passing es true (point_of s) (bundles_of ss ++ rest)
       by_bundle [] r m = refl
       by_bundle (k ∷ ks) r m = ap (λ (c : Bool). if c then (k ∷ ks)
           ∷ (bundles_of ss ++ rest) else passing es true (point_of s) (bundles_of ss ++ rest))
@@ -169,12 +170,14 @@ module _ (es : List LeafEdge) (l : Level) where
     abbrev pub AllMeet : List Place → Type 0
     AllMeet ps = AllByRecursion (λ p. AllByRecursion (λ s. MeetsAt es l p.at s.bundle) (side p)) ps
 
-    pub pass_places : (s : Spot) (ps : List Place) (rest : List (List ℕ)) → IsSpotAt l s → AllByRecursion (IsSpotAt l) (spots_of ps)
+    pub pass_places : (s : Spot) (ps : List Place) (rest : List (List ℕ)) → IsSpotAt l s
+        → AllByRecursion (IsSpotAt l) (spots_of ps)
         → AllByRecursion (λ p. IsAtMost (across p.at) (across s)) ps → AllRise ps → AllMeet ps
         → passing es true (point_of s) (bundles_of (gathered side ps) ++ rest) ≡ passing es true (point_of s) rest
     pass_places s [] rest hs hp o r m = refl
     pass_places s (p ∷ ps) rest hs hp o r m =
-        ap (λ (bs : List (List ℕ)). passing es true (point_of s) (bs ++ rest)) (bundles_append (side p) (gathered side ps))
+        ap (λ (bs : List (List ℕ)). passing es true (point_of s) (bs ++ rest))
+        (bundles_append (side p) (gathered side ps))
         ∙ ap (passing es true (point_of s)) (append_assoc (bundles_of (side p)) (bundles_of (gathered side ps)) rest)
         ∙ pass_strands s p.at (side p) (bundles_of (gathered side ps) ++ rest) hs hp.0 o.0
         (front (λ s. RisesFirst es s.bundle) (side p) (gathered side ps) r) m.0

@@ -1,41 +1,28 @@
 -- One height: its places are a plan.
-use Rattle.std.proofs.Common.{◌≡◌, ℕ, zero, suc, ◌<◌, ◌⊎◌, inl, inr, Bool, true, false, List, [], ◌∷◌, ◌++◌, refl, sym, ap, ◌∙◌, subst, arith, append_assoc}
-use lib.IntN.{ℤ, pos, negsuc, ◌*ℤ◌}
+use Rattle.std.proofs.Common.{ℕ, inl, inr, false, List, [], ◌∷◌, ◌++◌}
+use lib.IntN.{pos}
 use lib.Signed.{◌<ℤ◌}
-use Rattle.std.specs.Prelude.{Option, None, Some, ◌&&◌, slice_index_or}
-use Rattle.std.specs.Ordering.{int_eq}
-use Rattle.std.specs.List.{AllByRecursion, position}
-use Rattle.std.specs.List.Sorted.{IsPermutation}
-use Rattle.std.proofs.lemmas.Int.{ints}
-use Rattle.std.proofs.lemmas.Bool.{and_parts}
-use Rattle.std.proofs.lemmas.List.Sorted.{IsPermutation-trans, IsPermutation-sym, length_permutation}
+use Rattle.std.specs.List.{AllByRecursion}
 use Rattle.scad_base.proofs.Lists.{AllByRecursion-append}
-use Rattle.scad_geom.specs.declared.point.Edge.{Edge}
 use Rattle.scad_geom.specs.declared.level.Level.{Level}
 use Rattle.scad_geom.specs.declared.level.LeafEdge.{LeafEdge}
-use Rattle.scad_geom.specs.Line.{rise}
 use Rattle.scad_geom.specs.Level.{IsLower}
-use Rattle.scad_geom.specs.Point.{Point, is_same_point}
-use Rattle.scad_geom.specs.Sign.{is_zero}
 use Rattle.scad_geom.proofs.Order.{front, back}
-use Rattle.winding_laws.specs.Nearness.{IsPoint}
-use Rattle.winding_laws.proofs.Sameness.{same_itself, same_through}
-use Rattle.slice_slab.specs.Bundles.{no_edge, edge_at}
+use Rattle.winding_laws.proofs.Sameness.{same_itself}
+use Rattle.slice_slab.specs.Bundles.{edge_at}
 use Rattle.slice_snap.specs.declared.piece.Spot.{Spot}
 use Rattle.slice_snap.specs.Spots.{point_of}
-use Rattle.slice_bool.specs.Pieces.{spot_on, is_flat_at, covers}
+use Rattle.slice_bool.specs.Pieces.{spot_on}
 use Rattle.slice_bool.specs.Beside.{RisesFirst}
 use Rattle.slice_bool.proofs.Winding.{IsSpotAt}
 use Rattle.slice_bool.proofs.BalanceFlat.{spot_divisor}
-use Rattle.slice_bool.proofs.Named.{found}
-use Rattle.sweep_laws.specs.Ways.{Way, IsAt, IsAway, AreOfDifferentNames}
-use Rattle.sweep_laws.specs.Visits.{Visit, IsAtOne, Leads, IsPlan, Walk, over, visit}
-use Rattle.sweep_laws.specs.Fronts.{Strand, value_before, ways_up, ways_from}
-use Rattle.sweep_laws.specs.Crossing.{Place, spots_of, all_below, all_above, all_closed, flat_way, ins_to, outs_from, opens_after, visits_at, ArePassed, MeetsAt}
-use Rattle.sweep_laws.proofs.Spots.{spot_at, same_place, lower_away}
-use Rattle.sweep_laws.proofs.Rearranged.{second_first, crossed_lists, turned_lists}
-use Rattle.sweep_laws.proofs.Strands.{UpHas, of_ways_up, FromHas, of_ways_from, AlongHas, of_flat_way, ups_append, HeadsDiffer, differ_front, differ_back, names_up, names_from, IsRisingWay, IsFlatWay, with_flat, flat_names}
-use Rattle.sweep_laws.proofs.Levels.{IsHigher, LiesAt, IsLevel, each, each_two, next_level, rising_from, flat_ways}
+use Rattle.sweep_laws.specs.Ways.{IsAway}
+use Rattle.sweep_laws.specs.Visits.{Visit, IsAtOne, Leads, IsPlan}
+use Rattle.sweep_laws.specs.Fronts.{Strand, value_before, ways_from}
+use Rattle.sweep_laws.specs.Crossing.{Place, all_above, flat_way, visits_at}
+use Rattle.sweep_laws.proofs.Spots.{spot_at, lower_away}
+use Rattle.sweep_laws.proofs.Strands.{FromHas, of_ways_from, AlongHas, of_flat_way, differ_front, names_from, IsRisingWay, with_flat, flat_names}
+use Rattle.sweep_laws.proofs.Levels.{IsHigher, LiesAt, IsLevel, each, next_level, rising_from, flat_ways}
 
 module _ (es : List LeafEdge) (l u : Level) where
   higher_spots : (s : Spot) (vs : List Visit) → IsSpotAt l s → AllByRecursion (λ v. IsHigher l v.at) vs
@@ -57,7 +44,8 @@ module _ (es : List LeafEdge) (l u : Level) where
   EndsAtOne vs [] = Unit {0}
   EndsAtOne vs (k ∷ ks) = IsAtOne vs (spot_on (edge_at es k) u)
 
-  strand_leads : (p : Spot) (ps : List Place) (vs : List Visit) (b : List ℕ) → pos 0 <ℤ l.d → pos 0 <ℤ u.d → RisesFirst es b
+  strand_leads : (p : Spot) (ps : List Place) (vs : List Visit) (b : List ℕ) → pos 0 <ℤ l.d → pos 0 <ℤ u.d
+      → RisesFirst es b
       → LiesAt es l p b → EndsAtOne vs b → FromHas (Leads p (visits_at es l u ps ++ vs)) es l u b
   strand_leads p ps vs [] dl du r h o = tt
   strand_leads p ps vs (k ∷ ks) dl du r h o = λ b. record {
@@ -85,12 +73,14 @@ module _ (es : List LeafEdge) (l u : Level) where
     spot_divisor l p.at h.divisor h.spots.0,
     AllByRecursion-append (λ v. IsAway (point_of p.at) v.at) (visits_at es l u ps) vs (places_away p.at ps h.apart.0)
         (higher_spots p.at vs h.spots.0 o),
-    AllByRecursion-append (Leads p.at (visits_at es l u ps ++ vs)) (ways_from es l u (value_before (all_above ps) false) p.above)
+    AllByRecursion-append (Leads p.at (visits_at es l u ps ++ vs))
+        (ways_from es l u (value_before (all_above ps) false) p.above)
         (flat_way es p.at p ps)
         (of_ways_from (Leads p.at (visits_at es l u ps ++ vs)) es l u (value_before (all_above ps) false) p.above leads)
         (of_flat_way (Leads p.at (visits_at es l u ps ++ vs)) es p.at p ps (flat_leads p ps vs h)),
     with_flat es (ways_from es l u (value_before (all_above ps) false) p.above) (flat_way es p.at p ps)
-        (names_from es l u (value_before (all_above ps) false) p.above (differ_front p.above (all_above ps) h.heads_above))
+        (names_from es l u (value_before (all_above ps) false) p.above
+        (differ_front p.above (all_above ps) h.heads_above))
         (flat_names es p.at p ps)
         (of_ways_from (IsRisingWay es) es l u (value_before (all_above ps) false) p.above
         (each (λ s. RisesFirst es s.bundle) (λ s. FromHas (IsRisingWay es) es l u s.bundle) p.above

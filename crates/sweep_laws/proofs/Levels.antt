@@ -1,21 +1,19 @@
 -- One height: passing its places is a walk.
-use Rattle.std.proofs.Common.{◌≡◌, ℕ, zero, suc, ◌<◌, ◌⊎◌, inl, inr, Bool, true, false, List, [], ◌∷◌, ◌++◌, refl, sym, ap, ◌∙◌, subst, arith, append_assoc}
+use Rattle.std.proofs.Common.{◌≡◌, ℕ, zero, suc, true, false, List, [], ◌∷◌, ◌++◌, refl, sym, ◌∙◌, subst, arith, append_assoc}
 use lib.IntN.{ℤ, pos, negsuc, ◌*ℤ◌}
 use lib.Signed.{◌<ℤ◌}
-use Rattle.std.specs.Prelude.{Option, None, Some, ◌&&◌, slice_index_or}
+use Rattle.std.specs.Prelude.{Some, slice_index_or}
 use Rattle.std.specs.Ordering.{int_eq}
 use Rattle.std.specs.List.{AllByRecursion, position}
 use Rattle.std.specs.List.Sorted.{IsPermutation}
 use Rattle.std.proofs.lemmas.Int.{ints}
 use Rattle.std.proofs.lemmas.Bool.{and_parts}
-use Rattle.std.proofs.lemmas.List.Sorted.{IsPermutation-trans, IsPermutation-sym, length_permutation}
+use Rattle.std.proofs.lemmas.List.Sorted.{IsPermutation-trans, length_permutation}
 use Rattle.scad_base.proofs.Lists.{AllByRecursion-append}
-use Rattle.scad_geom.specs.declared.point.Edge.{Edge}
 use Rattle.scad_geom.specs.declared.level.Level.{Level}
 use Rattle.scad_geom.specs.declared.level.LeafEdge.{LeafEdge}
 use Rattle.scad_geom.specs.Line.{rise}
 use Rattle.scad_geom.specs.Level.{IsLower}
-use Rattle.scad_geom.specs.Point.{Point, is_same_point}
 use Rattle.scad_geom.specs.Sign.{is_zero}
 use Rattle.scad_geom.proofs.Order.{front, back}
 use Rattle.winding_laws.specs.Nearness.{IsPoint}
@@ -29,12 +27,12 @@ use Rattle.slice_bool.proofs.Winding.{IsSpotAt}
 use Rattle.slice_bool.proofs.BalanceFlat.{spot_divisor}
 use Rattle.slice_bool.proofs.Named.{found}
 use Rattle.sweep_laws.specs.Ways.{Way, IsAt, IsAway, AreOfDifferentNames}
-use Rattle.sweep_laws.specs.Visits.{Visit, IsAtOne, Leads, IsPlan, Walk, over, visit}
-use Rattle.sweep_laws.specs.Fronts.{Strand, value_before, ways_up, ways_from}
-use Rattle.sweep_laws.specs.Crossing.{Place, spots_of, all_below, all_above, all_closed, flat_way, ins_to, outs_from, opens_after, visits_at, ArePassed, MeetsAt}
+use Rattle.sweep_laws.specs.Visits.{Visit, Walk, over, visit}
+use Rattle.sweep_laws.specs.Fronts.{value_before, ways_up}
+use Rattle.sweep_laws.specs.Crossing.{Place, spots_of, all_below, all_above, all_closed, flat_way, outs_from, visits_at, ArePassed, MeetsAt}
 use Rattle.sweep_laws.proofs.Spots.{spot_at, same_place, lower_away}
 use Rattle.sweep_laws.proofs.Rearranged.{second_first, crossed_lists, turned_lists}
-use Rattle.sweep_laws.proofs.Strands.{UpHas, of_ways_up, FromHas, of_ways_from, AlongHas, of_flat_way, ups_append, HeadsDiffer, differ_front, differ_back, names_up, names_from, IsRisingWay, IsFlatWay, with_flat, flat_names}
+use Rattle.sweep_laws.proofs.Strands.{UpHas, of_ways_up, FromHas, AlongHas, of_flat_way, ups_append, HeadsDiffer, differ_front, differ_back, names_up, IsRisingWay, IsFlatWay, with_flat, flat_names}
 
 -- ---- walks over the same ways in another order
 nothing_permuted : (ws : List Way) → IsPermutation ws [] → ws ≡ []
@@ -45,7 +43,8 @@ pub walk_permuted : (opens others : List Way) (vs : List Visit) (closed : List W
     → Walk opens vs closed → Walk others vs closed
 walk_permuted _ others _ _ p over = subst (λ (ws : List Way). Walk ws [] []) (sym (nothing_permuted others p)) over
 walk_permuted _ others _ _ p (visit opens ins kept news closed more v vs is at away different pass walk) =
-    visit others ins kept news closed more v vs (IsPermutation-trans others opens (ins ++ kept) p is) at away different pass
+    visit others ins kept news closed more v vs (IsPermutation-trans others opens
+    (ins ++ kept) p is) at away different pass
     walk
 
 -- ---- a height
@@ -54,7 +53,8 @@ abbrev pub LiesAt : List LeafEdge → Level → Spot → List ℕ → Type 0
 LiesAt es l s [] = Unit {0}
 LiesAt es l s (k ∷ ks) = IsAt (point_of s) (spot_on (edge_at es k) l)
 
-pub lies_at : (es : List LeafEdge) (l : Level) (s : Spot) (b : List ℕ) → IsSpotAt l s → RisesFirst es b → MeetsAt es l s b
+pub lies_at : (es : List LeafEdge) (l : Level) (s : Spot) (b : List ℕ) → IsSpotAt l s → RisesFirst es b
+    → MeetsAt es l s b
     → LiesAt es l s b
 lies_at es l s [] hs r m = absurd m
 lies_at es l s (k ∷ ks) hs r m = same_place l s (spot_on (edge_at es k) l) hs (spot_at (edge_at es k) l r.1) m
@@ -87,7 +87,8 @@ pub each_two : {X : Type 0} (P Q R : X → Type 0) (xs : List X) → ((x : X) �
 each_two P Q R [] f h k = tt
 each_two P Q R (x ∷ xs) f h k = (f x h.0 k.0, each_two P Q R xs f h.1 k.1)
 
-pub each : {X : Type 0} (P R : X → Type 0) (xs : List X) → ((x : X) → P x → R x) → AllByRecursion P xs → AllByRecursion R xs
+pub each : {X : Type 0} (P R : X → Type 0) (xs : List X) → ((x : X) → P x → R x) → AllByRecursion P xs
+    → AllByRecursion R xs
 each P R [] f h = tt
 each P R (x ∷ xs) f h = (f x h.0, each P R xs f h.1)
 
@@ -100,7 +101,8 @@ not_above_zero z h k = absurd (by_zero z h k)
     by_zero (negsuc n) h k = cc
 
 -- what covers a stretch is flat
-flat_name : (es : List LeafEdge) (s t : Spot) (k : ℕ) → position (covers s t) es ≡ Some k → pos 0 <ℤ rise (edge_at es k) → ⊥
+flat_name : (es : List LeafEdge) (s t : Spot) (k : ℕ) → position (covers s t) es ≡ Some k → pos 0 <ℤ rise (edge_at es k)
+    → ⊥
 flat_name es s t k h r =
     let f = found (covers s t) es k h in
     let e : LeafEdge = slice_index_or es k no_edge in
@@ -126,7 +128,8 @@ module _ (es : List LeafEdge) (l u : Level) where
   place_point s d h = spot_divisor l s d h
 
   -- ---- what comes to a place
-  strand_comes : (s : Spot) (start : Spot) (b : List ℕ) → LiesAt es l s b → UpHas (λ w. IsAt (point_of s) w.far) es l start b
+  strand_comes : (s : Spot) (start : Spot) (b : List ℕ) → LiesAt es l s b
+      → UpHas (λ w. IsAt (point_of s) w.far) es l start b
   strand_comes s start [] h = tt
   strand_comes s start (k ∷ ks) h = λ b. h
 
@@ -156,7 +159,8 @@ module _ (es : List LeafEdge) (l u : Level) where
       (front (λ s. RisesFirst es s.bundle) q.below (all_below ps) h.rise_below) h.below.0)
       (later_away p ps a.1 (next_level q ps h))
 
-  strand_higher : (start : Spot) (b : List ℕ) → IsLower l u → RisesFirst es b → UpHas (λ w. IsHigher l w.far) es u start b
+  strand_higher : (start : Spot) (b : List ℕ) → IsLower l u → RisesFirst es b
+      → UpHas (λ w. IsHigher l w.far) es u start b
   strand_higher start [] o r = tt
   strand_higher start (k ∷ ks) o r = λ b. record { level = u; at = spot_at (edge_at es k) u r.1; over = o }
 
@@ -190,7 +194,8 @@ module _ (es : List LeafEdge) (l u : Level) where
           (λ k e b. same_itself (point_of q.at))
 
   -- ---- one place
-  module _ (p : Place) (ps : List Place) (flat up : List Way) (h : IsLevel es l u (p ∷ ps)) (a : IsAlong flat (p ∷ ps)) (o : AllByRecursion (λ w. IsHigher l w.far) up) where
+  module _ (p : Place) (ps : List Place) (flat up : List Way) (h : IsLevel es l u (p ∷ ps)) (a : IsAlong flat (p ∷ ps))
+      (o : AllByRecursion (λ w. IsHigher l w.far) up) where
     abbrev ins : List Way
     ins = ways_up es l (value_before (all_below ps) false) p.below
 
@@ -249,7 +254,8 @@ module _ (es : List LeafEdge) (l u : Level) where
         (front (λ s. RisesFirst es s.bundle) p.above (all_above ps) h.rise_above))) o
 
   -- ---- all places
-  pub level_walk : (places : List Place) (flat up : List Way) (vs : List Visit) (more : List Way) → IsLevel es l u places
+  pub level_walk : (places : List Place) (flat up : List Way) (vs : List Visit) (more : List Way)
+      → IsLevel es l u places
       → IsAlong flat places → AllByRecursion (λ w. IsHigher l w.far) up → ArePassed es l u flat places
       → Walk (ways_up es u false (all_above places) ++ up) vs more
       → Walk (ways_up es l false (all_below places) ++ (flat ++ up)) (visits_at es l u places ++ vs)

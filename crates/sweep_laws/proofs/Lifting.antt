@@ -1,8 +1,8 @@
 -- A front lifted over a height: what is known below it, above it, and of its places.
-use Rattle.std.proofs.Common.{◌≡◌, ℕ, zero, suc, ◌<◌, inl, inr, Bool, true, false, List, [], ◌∷◌, ◌++◌, length, refl, sym, ap, ap₂, ◌∙◌, subst, arith}
-use lib.IntN.{ℤ, pos, ◌*ℤ◌}
+use Rattle.std.proofs.Common.{◌≡◌, ℕ, zero, suc, ◌<◌, inl, inr, Bool, true, false, List, [], ◌∷◌, ◌++◌, length, sym, ap, ap₂, ◌∙◌, subst, arith}
+use lib.IntN.{pos, ◌*ℤ◌}
 use lib.Signed.{◌<ℤ◌}
-use Rattle.std.specs.Prelude.{int_lt, int_le, ◌&&◌, slice_index_or}
+use Rattle.std.specs.Prelude.{int_lt, int_le}
 use Rattle.std.specs.List.{AllByRecursion, concat}
 use Rattle.std.specs.List.Sorted.{IsPermutation}
 use Rattle.std.proofs.lemmas.Int.{ints}
@@ -18,12 +18,12 @@ use Rattle.scad_geom.specs.Heights.{heights, AreNeighbours}
 use Rattle.scad_geom.specs.Point.{Point}
 use Rattle.scad_geom.proofs.Heights.{Reaches, heights_positive, at_most_then_lower, lower_weak}
 use Rattle.scad_geom.proofs.Order.{front, back}
-use Rattle.slice_slab.specs.Bundles.{no_edge, edge_at, AreBundles}
+use Rattle.slice_slab.specs.Bundles.{edge_at}
 use Rattle.slice_slab.proofs.Live.{IsLive, live_bundles}
 use Rattle.slice_snap.specs.declared.piece.Spot.{Spot}
 use Rattle.slice_snap.specs.declared.piece.Piece.{Piece}
 use Rattle.slice_snap.specs.Spots.{point_of}
-use Rattle.slice_bool.specs.Pieces.{spot_on, passes_at, spots_at, IsLeft, GoRight, HasSpot, slab_pieces, flat_pieces}
+use Rattle.slice_bool.specs.Pieces.{spot_on, passes_at, spots_at, IsLeft, GoRight, HasSpot, flat_pieces}
 use Rattle.slice_bool.specs.Beside.{left_value, RisesFirst}
 use Rattle.slice_bool.specs.BothSides.{TellBeside}
 use Rattle.slice_bool.proofs.Bundled.{outside_right, rises_first}
@@ -35,7 +35,7 @@ use Rattle.slice_bool.proofs.Winding.{IsSpotAt, stops_at, outside_above}
 use Rattle.scad_base.proofs.Products.{positive_product}
 use Rattle.sweep_laws.specs.Ways.{Way, pieces_of, piece_of, IsAway}
 use Rattle.sweep_laws.specs.Visits.{Visit, outs_of, IsAtOne}
-use Rattle.sweep_laws.specs.Fronts.{Strand, bundles_of, value_before, ways_from, AreValued, IsFront}
+use Rattle.sweep_laws.specs.Fronts.{Strand, bundles_of, ways_from, AreValued, IsFront}
 use Rattle.sweep_laws.specs.Crossing.{Place, spots_of, all_below, all_above, visits_at, MeetsAt, IsCrossing}
 use Rattle.sweep_laws.proofs.Spots.{spot_at, same_place, left_away}
 use Rattle.sweep_laws.proofs.Strands.{HeadsDiffer, heads_differ}
@@ -51,7 +51,8 @@ pub record IsSide (above : Bool) (es : List LeafEdge) (shape : Shape) (l : Level
   pub tell : TellBeside above es shape l (bundles_of ss)
   pub values : AreValued es shape ss
 
-pub firsts : (es : List LeafEdge) (l u : Level) (ss : List Strand) → AllByRecursion (IsLive es l u) (concat (bundles_of ss))
+pub firsts : (es : List LeafEdge) (l u : Level) (ss : List Strand)
+    → AllByRecursion (IsLive es l u) (concat (bundles_of ss))
     → AllByRecursion (λ s. RisesFirst es s.bundle) ss
 firsts es l u [] h = tt
 firsts es l u (s ∷ ss) h = (
@@ -59,7 +60,8 @@ firsts es l u (s ∷ ss) h = (
   firsts es l u ss (back (IsLive es l u) s.bundle (concat (bundles_of ss)) h),
 )
 
-module _ (es : List LeafEdge) (shape : Shape) (l u : Level) (n : AreNeighbours es l u) (ss : List Strand) (f : IsFront es shape l u ss) where
+module _ (es : List LeafEdge) (shape : Shape) (l u : Level) (n : AreNeighbours es l u) (ss : List Strand)
+    (f : IsFront es shape l u ss) where
   pub above_side : IsSide true es shape l ss
   above_side = record {
     heads = heads_differ es l ss f.bundles.ranked;
@@ -91,7 +93,8 @@ pub tell_top : (es : List LeafEdge) (shape : Shape) (l : Level) → pos 0 <ℤ l
     → TellBeside true es shape l []
 tell_top es shape l dl m s e r =
     let p : Point = point_of s in
-    let dp : pos 0 <ℤ p.d = positive_product s.at.d (pos s.run) (subst (λ (at : Level). pos 0 <ℤ at.d) (sym e) dl) (runs_up s.run r) in
+    let dp : pos 0 <ℤ p.d = positive_product s.at.d (pos s.run) (subst (λ (at : Level). pos 0 <ℤ at.d) (sym e) dl)
+    (runs_up s.run r) in
     let o : IsAtMost l (scaled s.at (pos s.run)) = subst (λ (t : Level). IsAtMost l (scaled t (pos s.run))) (sym e)
     (at_most_scaled l l (pos s.run) (runs_up s.run r) (itself l)) in
     outside_above es shape true true p (ended es shape true true p dp l (heights es) dl (heights_positive es) o m)
@@ -116,7 +119,11 @@ lie es l side (p ∷ ps) hp r m = (
 places_apart : (l : Level) (ps : List Place) → pos 0 <ℤ l.d → AllByRecursion (IsSpotAt l) (spots_of ps)
     → GoRight (spots_of ps) → ArePlacesApart ps
 places_apart l [] dl hp g = tt
-places_apart l (p ∷ ps) dl hp g = (apart ps hp.1 (all_left l p.at ps hp.0 hp.1 g), places_apart l ps dl hp.1 (tail ps g))
+places_apart l (p ∷ ps) dl hp g = (
+  apart ps hp.1 (all_left l p.at ps hp.0 hp.1 g),
+  places_apart l ps dl hp.1
+      (tail ps g),
+)
   where
     apart : (qs : List Place) → AllByRecursion (IsSpotAt l) (spots_of qs)
         → AllByRecursion (λ q. IsLeft p.at q.at) qs
@@ -156,8 +163,10 @@ both_valued es shape l under over tu to (p ∷ ps) a b =
       both_valued es shape l under over tu to ps a' b',
     )
 
-module _ (es : List LeafEdge) (shape : Shape) (l u : Level) (dl : pos 0 <ℤ l.d) (below above : List Strand) (places : List Place) (c : IsCrossing es l u below above places)
-    (under : IsSide false es shape l below) (over : IsSide true es shape l above) (climb : AllByRecursion (λ s. IsLower l u × (pos 0 <ℤ u.d)) above) where
+module _ (es : List LeafEdge) (shape : Shape) (l u : Level) (dl : pos 0 <ℤ l.d) (below above : List Strand)
+    (places : List Place) (c : IsCrossing es l u below above places)
+    (under : IsSide false es shape l below) (over : IsSide true es shape l above)
+    (climb : AllByRecursion (λ s. IsLower l u × (pos 0 <ℤ u.d)) above) where
   spots : AllByRecursion (IsSpotAt l) (spots_of places)
   spots = stops_at es l (spots_of places) c.stops
 
@@ -193,7 +202,8 @@ module _ (es : List LeafEdge) (shape : Shape) (l u : Level) (dl : pos 0 <ℤ l.d
       (pick (HasSpot (spots_of places)) es l k o c.stops.complete t)
 
   flats : pieces_of (flats_from es places) ≡ flat_pieces es shape (spots_of places)
-  flats = flats_are es shape l (bundles_of below) (bundles_of above) under.tell over.tell places spots c.stops.rightwards
+  flats = flats_are es shape l (bundles_of below) (bundles_of above) under.tell over.tell places spots
+      c.stops.rightwards
       (record {
         rise = gathered_rise_below;
         meet = c.meet_below;
@@ -217,7 +227,8 @@ module _ (es : List LeafEdge) (shape : Shape) (l u : Level) (dl : pos 0 <ℤ l.d
       (map-append piece_of (flats_from es places) froms
       ∙ ap₂ (λ (xs ys : List Piece). xs ++ ys) flats
       (ap (λ (ss : List Strand). pieces_of (ways_from es l u false ss)) (sym c.above_is) ∙ e))
-      (IsPermutation-map piece_of (outs_of (visits_at es l u places)) (flats_from es places ++ froms) (outs_are es l u places))
+      (IsPermutation-map piece_of (outs_of (visits_at es l u places)) (flats_from es places ++ froms)
+      (outs_are es l u places))
 
 -- ---- where the edges of a front meet the next height
 passes : (e : Edge) (l u : Level) → pos 0 <ℤ l.d → pos 0 <ℤ u.d → IsLower l u → Reaches e l u → passes_at e u ≡ true

@@ -1,15 +1,15 @@
--- Where one way comes in and one goes out, of one name and direction, and no other piece has an end, the two meet alone.
-use Rattle.std.proofs.Common.{◌≡◌, ℕ, ◌+◌, Bool, true, false, not, cond, true≢false, List, [], ◌∷◌, ◌++◌, refl, sym, ap, ◌∙◌, subst, arith}
+-- Where one way comes in and one goes out, of one name and direction, and no other piece has an end, the two meet
+-- alone.
+use Rattle.std.proofs.Common.{◌≡◌, ◌+◌, Bool, true, false, not, cond, true≢false, List, [], ◌∷◌, refl, sym, ap, ◌∙◌}
 use Rattle.std.specs.List.{AllByRecursion}
 use Rattle.std.specs.List.Sorted.{IsPermutation}
 use Rattle.std.proofs.lemmas.List.Sorted.{IsPermutation-trans}
-use Rattle.scad_geom.specs.Point.{Point, is_same_point}
-use Rattle.scad_geom.specs.Balance.{starts_at, ends_at}
+use Rattle.scad_geom.specs.Point.{Point}
 use Rattle.scad_geom.proofs.Balanced.{once}
 use Rattle.winding_laws.specs.Nearness.{IsPoint}
 use Rattle.slice_snap.specs.declared.piece.Spot.{Spot}
 use Rattle.slice_snap.specs.declared.piece.Piece.{Piece}
-use Rattle.slice_snap.specs.Spots.{point_of, is_same_spot}
+use Rattle.slice_snap.specs.Spots.{point_of}
 use Rattle.slice_snap.specs.Pieces.{ways_of}
 use Rattle.slice_snap.specs.Merging.{MeetAlone}
 use Rattle.slice_snap.proofs.Stuck.{point_alike}
@@ -42,8 +42,10 @@ pub by_end : (P : Spot → Type 0) (f : Bool) (s t : Spot) → P s → P t → P
 by_end P true s t h k = h
 by_end P false s t h k = k
 
-module _ (p : Point) (dp : IsPoint p) (all : List Piece) (v w : Way) (others : List Piece) (is : IsPermutation all (piece_of v ∷ (piece_of w ∷ others)))
-    (hv : ComesIn p v) (hw : GoesOut p w) (ha : AllByRecursion (LiesAway p) others) (course : IsOneCourse v w) (b : Bool) (flag : v.forward ≡ b) where
+module _ (p : Point) (dp : IsPoint p) (all : List Piece) (v w : Way) (others : List Piece)
+    (is : IsPermutation all (piece_of v ∷ (piece_of w ∷ others)))
+    (hv : ComesIn p v) (hw : GoesOut p w) (ha : AllByRecursion (LiesAway p) others) (course : IsOneCourse v w)
+    (b : Bool) (flag : v.forward ≡ b) where
   flag_w : w.forward ≡ b
   flag_w = sym course.forward ∙ flag
 
@@ -52,7 +54,8 @@ module _ (p : Point) (dp : IsPoint p) (all : List Piece) (v w : Way) (others : L
     where
       by_flag : (b : Bool) → IsPermutation all (ending b v w ∷ (starting b v w ∷ others))
       by_flag true = is
-      by_flag false = IsPermutation-trans all (piece_of v ∷ (piece_of w ∷ others)) (piece_of w ∷ (piece_of v ∷ others)) is
+      by_flag false = IsPermutation-trans all (piece_of v ∷ (piece_of w ∷ others))
+          (piece_of w ∷ (piece_of v ∷ others)) is
           (swap (piece_of v) (piece_of w) others)
 
   pub ends_there : IsAt p (ending b v w).to

@@ -1,11 +1,11 @@
--- One place merged: where ways come in and others go out and no other piece has an end, one that comes in and one that goes
+-- One place merged: where ways come in and others go out and no other piece has an end, one that comes in and one that
+-- goes
 -- out of one name and direction meet alone; else no piece that ends there goes on.
-use Rattle.std.proofs.Common.{◌≡◌, ℕ, zero, suc, ◌+◌, Bool, true, false, not, cond, true≢false, List, [], ◌∷◌, ◌++◌, length, All, refl, sym, ap, ap₂, ◌∙◌, subst, arith}
+use Rattle.std.proofs.Common.{◌≡◌, ℕ, suc, ◌+◌, Bool, true, false, not, cond, true≢false, List, [], ◌∷◌, ◌++◌, length, All, refl, sym, ap, ap₂, ◌∙◌, arith}
 use Rattle.std.specs.List.{AllByRecursion}
 use Rattle.std.specs.List.Sorted.{IsPermutation}
-use Rattle.std.proofs.lemmas.List.Elements.{All-from_recursion, recursion_from_All}
-use Rattle.std.proofs.lemmas.List.Sorted.{All-permutation, IsPermutation-sym, IsPermutation-trans, IsPermutation-middle}
-use Rattle.scad_base.proofs.Lists.{AllByRecursion-append}
+use Rattle.std.proofs.lemmas.List.Elements.{All-from_recursion}
+use Rattle.std.proofs.lemmas.List.Sorted.{All-permutation, IsPermutation-sym}
 use Rattle.scad_geom.specs.Point.{Point, is_same_point}
 use Rattle.scad_geom.specs.Segment.{Segment}
 use Rattle.scad_geom.specs.Balance.{starts_at, ends_at}
@@ -13,12 +13,12 @@ use Rattle.scad_geom.proofs.Balanced.{once, starts-cons, ends-cons}
 use Rattle.winding_laws.specs.Nearness.{IsPoint}
 use Rattle.slice_snap.specs.declared.piece.Spot.{Spot}
 use Rattle.slice_snap.specs.declared.piece.Piece.{Piece}
-use Rattle.slice_snap.specs.Spots.{point_of, is_same_spot}
+use Rattle.slice_snap.specs.Spots.{point_of}
 use Rattle.slice_snap.specs.Pieces.{ways_of}
-use Rattle.slice_snap.specs.Merging.{joined, MeetAlone}
-use Rattle.slice_snap.specs.Joining.{GoesOn, IsPassedOnce, IsStuck}
+use Rattle.slice_snap.specs.Merging.{joined}
+use Rattle.slice_snap.specs.Joining.{GoesOn, IsStuck}
 use Rattle.slice_snap.proofs.Stuck.{starts_permuted, ends_permuted, point_alike}
-use Rattle.sweep_laws.specs.Ways.{Way, piece_of, pieces_of, IsAt, IsAway, AreOfDifferentNames}
+use Rattle.sweep_laws.specs.Ways.{Way, piece_of, pieces_of, IsAt, AreOfDifferentNames}
 use Rattle.sweep_laws.specs.Visits.{grown, IsOneCourse, OneGoesOn}
 use Rattle.sweep_laws.proofs.Touches.{ComesIn, GoesOut, LiesAway, forwards, backwards, at_to, at_from, ends_in, starts_in, ends_out, starts_out, no_ends, no_starts}
 
@@ -42,7 +42,8 @@ starts_alike p q dp dq h (x ∷ ss) =
 -- ---- two ways as one piece
 pub is_joined : (v w : Way) → IsOneCourse v w → (b : Bool) → v.forward ≡ b
     → joined (cond b (piece_of v) (piece_of w)) (cond b (piece_of w) (piece_of v)) ≡ piece_of (grown v w)
-is_joined v w c b h = by_flags v.near v.far w.near w.far v.edge w.edge v.forward w.forward b c.edge h (sym c.forward ∙ h)
+is_joined v w c b h = by_flags v.near v.far w.near w.far v.edge w.edge v.forward w.forward b c.edge h
+    (sym c.forward ∙ h)
   where
     by_flags : (s t x y : Spot) (m n : ℕ) (f g b : Bool) → m ≡ n → f ≡ b → g ≡ b
         → joined (cond b (record { from = cond f s t; to = cond f t s; edge = m })
@@ -86,8 +87,10 @@ weaker P R [] f h = tt
 weaker P R (q ∷ qs) f h = (f q h.0, weaker P R qs f h.1)
 
 -- ---- the place
-module _ (p : Point) (dp : IsPoint p) (all : List Piece) (ins outs : List Way) (others : List Piece) (is : IsPermutation all (pieces_of ins ++ (pieces_of outs ++ others)))
-    (hi : AllByRecursion (ComesIn p) ins) (ho : AllByRecursion (GoesOut p) outs) (ha : AllByRecursion (LiesAway p) others) where
+module _ (p : Point) (dp : IsPoint p) (all : List Piece) (ins outs : List Way) (others : List Piece)
+    (is : IsPermutation all (pieces_of ins ++ (pieces_of outs ++ others)))
+    (hi : AllByRecursion (ComesIn p) ins) (ho : AllByRecursion (GoesOut p) outs)
+    (ha : AllByRecursion (LiesAway p) others) where
   pub ends_here : ends_at p (ways_of all) ≡ forwards ins + (backwards outs + 0)
   ends_here = ends_permuted p all (pieces_of ins ++ (pieces_of outs ++ others)) is
       ∙ ends_in p (pieces_of outs ++ others) ins hi
@@ -161,7 +164,8 @@ module _ (p : Point) (dp : IsPoint p) (all : List Piece) (ins outs : List Way) (
     ((x, (y, others_start_away b others ha)), others_end_away (a ∷ (b ∷ others)) others ha),
   )
 
-  all_clash : (is os : List Way) → AllByRecursion (ComesIn p) is → AllByRecursion (GoesOut p) os → AreOfDifferentNames is
+  all_clash : (is os : List Way) → AllByRecursion (ComesIn p) is → AllByRecursion (GoesOut p) os
+      → AreOfDifferentNames is
       → AreOfDifferentNames os → (OneGoesOn is os → ⊥) → length is + length os ≡ 2
       → AllClash (pieces_of is ++ (pieces_of os ++ others))
   all_clash [] [] hi ho di do' g l = absurd (omega arith)
@@ -210,7 +214,8 @@ module _ (p : Point) (dp : IsPoint p) (all : List Piece) (ins outs : List Way) (
       (All-from_recursion (λ x. IsAt p x.to → IsPoint (point_of x.to) → IsStuck all x)
       (pieces_of ins ++ (pieces_of outs ++ others))
       (weaker (λ x. Once → AllByRecursion (Clash x) (pieces_of ins ++ (pieces_of outs ++ others)))
-      (λ x. IsAt p x.to → IsPoint (point_of x.to) → IsStuck all x) (pieces_of ins ++ (pieces_of outs ++ others)) stuck_by
+      (λ x. IsAt p x.to → IsPoint (point_of x.to) → IsStuck all x)
+      (pieces_of ins ++ (pieces_of outs ++ others)) stuck_by
       (under Once (λ x. AllByRecursion (Clash x) (pieces_of ins ++ (pieces_of outs ++ others)))
       (pieces_of ins ++ (pieces_of outs ++ others))
       (λ o. all_clash ins outs hi ho di do' g

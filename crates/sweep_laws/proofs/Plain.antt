@@ -34,7 +34,8 @@ last_heights_pass es m (p ∷ ps) e c pass =
     ap (ways_up es m v) none.0 ∙ sym (ap (ways_up es m w) none.0) in (
       plain_places_pass es m m p ps c.0
           (subst (λ (os : List Way). Pass (ways_up es m v p.below) os (ways_up es m w p.above) p.closed) outs
-          (subst (λ (as' : List Way). Pass (ways_up es m v p.below) (ways_from es m m v p.above) as' p.closed) after pass.0)),
+          (subst (λ (as' : List Way). Pass (ways_up es m v p.below)
+          (ways_from es m m v p.above) as' p.closed) after pass.0)),
       subst (λ (flat : List Way). ArePassed es m m flat ps) (sym (no_flat_way es p.start p ps c.0))
           (last_heights_pass es m ps none.1 c.1 pass.1),
     )

@@ -1,19 +1,16 @@
 -- Spots of one height and of two heights: which are the same point.
-use Rattle.std.proofs.Common.{◌≡◌, ℕ, Bool, true, false, [], ◌∷◌, refl, sym, ap, ap₂, ◌∙◌, subst, arith}
+use Rattle.std.proofs.Common.{◌≡◌, refl, sym, ap, ap₂, ◌∙◌, subst, arith}
 use lib.IntN.{ℤ, pos, ◌*ℤ◌}
 use lib.Signed.{◌<ℤ◌}
-use Rattle.std.specs.Prelude.{◌&&◌, unsigned_abs}
 use Rattle.std.specs.Ordering.{int_eq}
 use Rattle.std.proofs.lemmas.Int.{ints}
 use Rattle.std.proofs.lemmas.Bool.{and_from, false_from_ne_true}
 use Rattle.scad_geom.specs.declared.point.Edge.{Edge}
 use Rattle.scad_geom.specs.declared.level.Level.{Level}
-use Rattle.scad_geom.specs.declared.level.LeafEdge.{LeafEdge}
 use Rattle.scad_geom.specs.Line.{rise}
 use Rattle.scad_geom.specs.Level.{IsLower}
-use Rattle.scad_geom.specs.Point.{Point, is_same_point}
+use Rattle.scad_geom.specs.Point.{is_same_point}
 use Rattle.scad_geom.proofs.Points.{same_height, same_across}
-use Rattle.scad_geom.proofs.Turns.{level_at}
 use Rattle.slice_snap.specs.declared.piece.Spot.{Spot}
 use Rattle.slice_snap.specs.Spots.{point_of}
 use Rattle.slice_snap.proofs.SameSpots.{to_eq, crossed_back, mul_beside}
@@ -60,9 +57,11 @@ left_away l s t dl hs ht o =
 -- of two heights
 pub lower_away : (l u : Level) (s t : Spot) → IsSpotAt l s → IsSpotAt u t → IsLower l u → IsAway (point_of s) t
 lower_away l u s t hs ht o =
-    let from : IsLower (scaled s.at (pos s.run)) u = scaled_below u s.at (pos s.run) hs.runs (subst (λ (m : Level). IsLower m u) (sym hs.at) o) in
+    let from : IsLower (scaled s.at (pos s.run)) u = scaled_below u s.at (pos s.run) hs.runs
+    (subst (λ (m : Level). IsLower m u) (sym hs.at) o) in
     let to : IsLower (scaled s.at (pos s.run)) (scaled t.at (pos t.run)) =
-    lower_scaled (scaled s.at (pos s.run)) t.at (pos t.run) ht.runs (subst (IsLower (scaled s.at (pos s.run))) (sym ht.at) from) in
+    lower_scaled (scaled s.at (pos s.run)) t.at (pos t.run) ht.runs
+    (subst (IsLower (scaled s.at (pos s.run))) (sym ht.at) from) in
     false_from_ne_true (is_same_point (point_of s) (point_of t))
     (λ e. less_not_equal ((point_of s).y *ℤ (point_of t).d) ((point_of t).y *ℤ (point_of s).d) to
     (same_height (point_of s) (point_of t) e))

@@ -1,17 +1,15 @@
 -- A strand that stays, and places with nothing along the height.
-use Rattle.std.proofs.Common.{◌≡◌, ℕ, Bool, true, false, List, [], ◌∷◌, ◌++◌, refl, sym, ap, ap₂, ◌∙◌, subst}
-use Rattle.std.specs.Prelude.{Option, None, Some}
-use Rattle.std.specs.List.{position}
+use Rattle.std.proofs.Common.{◌≡◌, ℕ, Bool, true, false, List, [], ◌∷◌, ◌++◌, refl, sym, ap, ◌∙◌, subst}
 use Rattle.std.proofs.lemmas.List.{append-nil}
 use Rattle.scad_geom.specs.declared.level.Level.{Level}
 use Rattle.scad_geom.specs.declared.level.LeafEdge.{LeafEdge}
 use Rattle.slice_slab.specs.Bundles.{edge_at}
 use Rattle.slice_snap.specs.declared.piece.Spot.{Spot}
-use Rattle.slice_bool.specs.Pieces.{spot_on, covers}
+use Rattle.slice_bool.specs.Pieces.{spot_on}
 use Rattle.sweep_laws.specs.Ways.{Way, way_between}
 use Rattle.sweep_laws.specs.Visits.{Pass, goes_on, all_end}
-use Rattle.sweep_laws.specs.Fronts.{Strand, value_before, way_up, ways_up, way_from, ways_from}
-use Rattle.sweep_laws.specs.Crossing.{Place, all_below, all_above, way_along, flat_way, ins_to, outs_from, opens_after}
+use Rattle.sweep_laws.specs.Fronts.{value_before, way_up, ways_up, way_from, ways_from}
+use Rattle.sweep_laws.specs.Crossing.{Place, all_below, all_above, way_along, flat_way, outs_from, opens_after}
 use Rattle.sweep_laws.specs.Staying.{IsUncovered, staying, PlainPlacesPass, StrandsStay}
 
 pub no_flat_way : (es : List LeafEdge) (start : Spot) (p : Place) (ps : List Place) → IsUncovered es p ps

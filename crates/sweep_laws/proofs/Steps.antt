@@ -1,5 +1,5 @@
 -- One step of a sweep.
-use Rattle.std.proofs.Common.{◌≡◌, ℕ, Bool, true, false, not, List, [], ◌∷◌, ◌++◌, refl, sym, ap, ◌∙◌, subst}
+use Rattle.std.proofs.Common.{◌≡◌, ℕ, Bool, false, not, List, [], ◌∷◌, refl, sym, ap, ◌∙◌, subst}
 use mathlib.Core.Path.{fun_ext}
 use lib.IntN.{ℤ}
 use Rattle.std.specs.List.{AllByRecursion, concat}
@@ -80,11 +80,11 @@ steps_lift = record {
         record { bundles = a; values = values },
       );
   last = λ es l m lm h places b none met pass. record {
-      stops = places_are_stops.last es l m places lm h b met;
-      below_is = refl;
-      above_is = sym none;
-      meet_below = met.below;
-      meet_above = met.above;
-      passed = pass;
-    };
+    stops = places_are_stops.last es l m places lm h b met;
+    below_is = refl;
+    above_is = sym none;
+    meet_below = met.below;
+    meet_above = met.above;
+    passed = pass;
+  };
 }

@@ -1,36 +1,28 @@
 -- Places that edges meet are the stops of a height.
-use Rattle.std.proofs.Common.{◌≡◌, ℕ, zero, suc, ◌+◌, ◌<◌, ◌⊎◌, inl, inr, Bool, true, false, cond, List, [], ◌∷◌, ◌++◌, length, refl, sym, ap, ap₂, ◌∙◌, subst, arith}
-use lib.IntN.{ℤ, pos, negsuc, ◌*ℤ◌, ◌-ℤ◌}
+use Rattle.std.proofs.Common.{◌≡◌, ℕ, zero, suc, ◌<◌, inl, inr, Bool, true, false, List, [], ◌∷◌, ◌++◌, length, refl, sym, ap, subst, arith}
+use lib.IntN.{ℤ, pos, negsuc, ◌*ℤ◌}
 use lib.Signed.{◌<ℤ◌}
-use Rattle.std.specs.Prelude.{int_lt, int_le, ◌&&◌, if◌then◌else◌}
-use Rattle.std.specs.List.{AllByRecursion, concat}
+use Rattle.std.specs.Prelude.{◌&&◌, if◌then◌else◌}
+use Rattle.std.specs.List.{AllByRecursion}
 use Rattle.std.specs.Ordering.{int_eq}
-use Rattle.std.specs.List.Sorted.{IsPermutation}
-use Rattle.std.proofs.lemmas.Bool.{and_parts, true≢false}
+use Rattle.std.proofs.lemmas.Bool.{true≢false}
 use Rattle.std.proofs.lemmas.Int.{ints}
-use Rattle.std.proofs.lemmas.List.Elements.{All-from_recursion, recursion_from_All}
-use Rattle.std.proofs.lemmas.List.Sorted.{All-permutation, IsPermutation-sym}
+use Rattle.std.proofs.lemmas.List.Elements.{recursion_from_All}
 use Rattle.scad_base.proofs.Lists.{AllByRecursion-append}
 use Rattle.scad_geom.specs.declared.point.Edge.{Edge}
 use Rattle.scad_geom.specs.declared.level.Level.{Level}
 use Rattle.scad_geom.specs.declared.level.LeafEdge.{LeafEdge}
-use Rattle.scad_geom.specs.Line.{low, high, rise, x_at}
-use Rattle.scad_geom.specs.Level.{level_of, IsLower, IsAtMost}
-use Rattle.scad_geom.specs.Heights.{heights, AreNeighbours}
+use Rattle.scad_geom.specs.Line.{rise}
+use Rattle.scad_geom.specs.Level.{IsAtMost}
+use Rattle.scad_geom.specs.Heights.{heights}
 use Rattle.scad_geom.specs.Sign.{is_zero}
-use Rattle.scad_geom.specs.EdgeOrder.{AreAligned}
-use Rattle.scad_geom.proofs.Heights.{same_chain, lower_then_at_most, at_most_chain}
-use Rattle.scad_geom.proofs.Order.{front, back, all_ends, aligned_all}
-use Rattle.slice_slab.specs.Bundles.{no_edge, edge_at, reaches, reaching, IsBundle, AreRanked, AreBundles}
-use Rattle.slice_slab.proofs.Live.{IsLive, live_bundles}
+use Rattle.slice_slab.specs.Bundles.{edge_at, reaches, AreBundles}
 use Rattle.slice_snap.specs.declared.piece.Spot.{Spot}
-use Rattle.slice_bool.specs.Pieces.{spot_on, whole_spot, across, is_flat_at, passes_at, edge_spots, spots_at, IsSameAcross, HasSpot, IsOneOf, AreStops}
-use Rattle.slice_bool.proofs.Middle.{size_of}
-use Rattle.slice_bool.proofs.Winding.{IsSpotAt, of_stops, spots_are_at, passes_rises}
+use Rattle.slice_bool.specs.Pieces.{spot_on, whole_spot, is_flat_at, passes_at, edge_spots, spots_at, HasSpot, IsOneOf, AreStops}
+use Rattle.slice_bool.proofs.Winding.{IsSpotAt, of_stops, spots_are_at}
 use Rattle.sweep_laws.specs.Fronts.{Strand, bundles_of}
 use Rattle.sweep_laws.specs.Crossing.{Place, spots_of, all_below, all_above, MeetsAt}
 use Rattle.sweep_laws.specs.Stops.{AreMet, PlacesAreStops, SpotsAreThere}
-use Rattle.sweep_laws.proofs.Spots.{spot_at}
 use Rattle.sweep_laws.proofs.LevelPieces.{gathered, gathered_below, gathered_above}
 use Rattle.sweep_laws.proofs.BelowOrAbove.{Passes, passes_is, either, only_above, only_below}
 use Rattle.sweep_laws.proofs.StrandSpots.{met_by_side}
@@ -67,8 +59,10 @@ module _ (es : List LeafEdge) (m : Level) (dm : pos 0 <ℤ m.d) (places : List P
   }
 
   from_side : (l u : Level) → pos 0 <ℤ l.d → (side : Place → List Strand) (ss : List Strand) → gathered side places ≡ ss
-      → AreBundles es l u (bundles_of ss) → AllByRecursion (λ p. AllByRecursion (λ s. MeetsAt es m p.at s.bundle) (side p)) places
-      → (k : ℕ) → k < length es → reaches (edge_at es k) l u ≡ true → HasSpot (spots_of places) (spot_on (edge_at es k) m)
+      → AreBundles es l u (bundles_of ss) → AllByRecursion (λ p. AllByRecursion (λ s. MeetsAt es m p.at s.bundle)
+      (side p)) places
+      → (k : ℕ) → k < length es → reaches (edge_at es k) l u ≡ true
+      → HasSpot (spots_of places) (spot_on (edge_at es k) m)
   from_side l u dl side ss e b meet = met_by_side es l u m dl side places
       (subst (λ (ss : List Strand). AreBundles es l u (bundles_of ss)) (sym e) b) spots meet
 
@@ -101,11 +95,13 @@ in_back : (xs ys : List Spot) (s : Spot) → IsOneOf ys s → IsOneOf (xs ++ ys)
 in_back [] ys s h = h
 in_back (x ∷ xs) ys s h = inr (in_back xs ys s h)
 
-own_spot : (e : Edge) (m : Level) → passes_at e m ≡ true → is_flat_at e m ≡ false → IsOneOf (edge_spots e m) (spot_on e m)
+own_spot : (e : Edge) (m : Level) → passes_at e m ≡ true → is_flat_at e m ≡ false
+    → IsOneOf (edge_spots e m) (spot_on e m)
 own_spot e m h f = by_tests (is_flat_at e m) (passes_at e m) f h
   where
     by_tests : (s t : Bool) → s ≡ false → t ≡ true
-        → IsOneOf (if s then whole_spot e.a.x m ∷ (whole_spot e.b.x m ∷ []) else if t then spot_on e m ∷ [] else []) (spot_on e m)
+        → IsOneOf (if s then whole_spot e.a.x m ∷ (whole_spot e.b.x m ∷ []) else if t then spot_on e m ∷ [] else [])
+        (spot_on e m)
     by_tests true t p q = absurd (true≢false p)
     by_tests false true p q = inl refl
     by_tests false false p q = absurd (true≢false (sym q))

@@ -1,37 +1,29 @@
 -- The edges of strands meet a height at the places of the strands.
-use Rattle.std.proofs.Common.{◌≡◌, ℕ, zero, suc, ◌+◌, ◌<◌, ◌⊎◌, inl, inr, Bool, true, false, cond, List, [], ◌∷◌, ◌++◌, length, refl, sym, ap, ap₂, ◌∙◌, subst, arith}
-use lib.IntN.{ℤ, pos, negsuc, ◌*ℤ◌, ◌-ℤ◌}
+use Rattle.std.proofs.Common.{◌≡◌, ℕ, zero, suc, ◌+◌, ◌<◌, inl, inr, Bool, true, false, List, [], ◌∷◌, length, sym, ap, ◌∙◌, subst, arith}
+use lib.IntN.{ℤ, pos, ◌*ℤ◌}
 use lib.Signed.{◌<ℤ◌}
-use Rattle.std.specs.Prelude.{int_lt, int_le, ◌&&◌, if◌then◌else◌}
+use Rattle.std.specs.Prelude.{if◌then◌else◌}
 use Rattle.std.specs.List.{AllByRecursion, concat}
-use Rattle.std.specs.Ordering.{int_eq}
-use Rattle.std.specs.List.Sorted.{IsPermutation}
-use Rattle.std.proofs.lemmas.Bool.{and_parts, true≢false}
-use Rattle.std.proofs.lemmas.Int.{ints}
 use Rattle.std.proofs.lemmas.List.Elements.{All-from_recursion, recursion_from_All}
 use Rattle.std.proofs.lemmas.List.Sorted.{All-permutation, IsPermutation-sym}
 use Rattle.scad_base.proofs.Lists.{AllByRecursion-append}
 use Rattle.scad_geom.specs.declared.point.Edge.{Edge}
 use Rattle.scad_geom.specs.declared.level.Level.{Level}
 use Rattle.scad_geom.specs.declared.level.LeafEdge.{LeafEdge}
-use Rattle.scad_geom.specs.Line.{low, high, rise, x_at}
-use Rattle.scad_geom.specs.Level.{level_of, IsLower, IsAtMost}
-use Rattle.scad_geom.specs.Heights.{heights, AreNeighbours}
-use Rattle.scad_geom.specs.Sign.{is_zero}
+use Rattle.scad_geom.specs.Line.{rise, x_at}
 use Rattle.scad_geom.specs.EdgeOrder.{AreAligned}
-use Rattle.scad_geom.proofs.Heights.{same_chain, lower_then_at_most, at_most_chain}
-use Rattle.scad_geom.proofs.Order.{front, back, all_ends, aligned_all}
-use Rattle.slice_slab.specs.Bundles.{no_edge, edge_at, reaches, reaching, IsBundle, AreRanked, AreBundles}
+use Rattle.scad_geom.proofs.Heights.{same_chain}
+use Rattle.scad_geom.proofs.Order.{front, back, aligned_all}
+use Rattle.slice_slab.specs.Bundles.{edge_at, reaches, reaching, IsBundle, AreRanked, AreBundles}
 use Rattle.slice_slab.proofs.Live.{IsLive, live_bundles}
 use Rattle.slice_snap.specs.declared.piece.Spot.{Spot}
-use Rattle.slice_bool.specs.Pieces.{spot_on, whole_spot, across, is_flat_at, passes_at, edge_spots, spots_at, IsSameAcross, HasSpot, IsOneOf, AreStops}
+use Rattle.slice_bool.specs.Pieces.{spot_on, across, IsSameAcross, HasSpot}
 use Rattle.slice_bool.proofs.Middle.{size_of}
-use Rattle.slice_bool.proofs.Winding.{IsSpotAt, of_stops, spots_are_at, passes_rises}
+use Rattle.slice_bool.proofs.Winding.{IsSpotAt}
 use Rattle.sweep_laws.specs.Fronts.{Strand, bundles_of}
-use Rattle.sweep_laws.specs.Crossing.{Place, spots_of, all_below, all_above, MeetsAt}
-use Rattle.sweep_laws.specs.Stops.{AreMet, PlacesAreStops, SpotsAreThere}
+use Rattle.sweep_laws.specs.Crossing.{Place, spots_of, MeetsAt}
 use Rattle.sweep_laws.proofs.Spots.{spot_at}
-use Rattle.sweep_laws.proofs.LevelPieces.{gathered, gathered_below, gathered_above}
+use Rattle.sweep_laws.proofs.LevelPieces.{gathered}
 
 -- ---- the edges of a strand meet the height at its place
 aligned_spots : (n m : Level) → pos 0 <ℤ n.d → (e f : Edge) → pos 0 <ℤ rise e → pos 0 <ℤ rise f → AreAligned n e f
@@ -45,7 +37,8 @@ abbrev Rises : List LeafEdge → ℕ → Type 0
 Rises es k = pos 0 <ℤ rise (edge_at es k)
 
 module _ (es : List LeafEdge) (n m : Level) (dn : pos 0 <ℤ n.d) where
-  bundle_spots : (p : Spot) → IsSpotAt m p → (b : List ℕ) → IsBundle es n b → AllByRecursion (Rises es) b → MeetsAt es m p b
+  bundle_spots : (p : Spot) → IsSpotAt m p → (b : List ℕ) → IsBundle es n b → AllByRecursion (Rises es) b
+      → MeetsAt es m p b
       → AllByRecursion (λ j. IsSameAcross p (spot_on (edge_at es j) m)) b
   bundle_spots p hp [] i r h = tt
   bundle_spots p hp (k ∷ ks) i r h = (sym h, others ks i.1 r.1)
@@ -120,7 +113,8 @@ of_reaching : (P : ℕ → Type 0) (k : ℕ) (es : List LeafEdge) (l u : Level) 
 of_reaching P k [] l u h i o r = absurd (omega arith)
 of_reaching P k (e ∷ es) l u h zero o r =
     let z : k ≡ k + zero = omega arith in
-    subst P z (subst (λ (t : Bool). AllByRecursion P (if t then k ∷ reaching (k + 1) es l u else reaching (k + 1) es l u)) r h).0
+    subst P z (subst (λ (t : Bool). AllByRecursion P (if t then k ∷ reaching (k + 1) es l u else reaching
+    (k + 1) es l u)) r h).0
 of_reaching P k (e ∷ es) l u h (suc i) o r =
     let z : k + 1 + i ≡ k + suc i = omega arith in
     subst P z (of_reaching P (k + 1) es l u (by_test (reaches e.edge l u) h) i (omega arith) r)
@@ -130,12 +124,15 @@ of_reaching P k (e ∷ es) l u h (suc i) o r =
     by_test true h = h.1
     by_test false h = h
 
-rises_of : (es : List LeafEdge) (l u : Level) (ks : List ℕ) → AllByRecursion (IsLive es l u) ks → AllByRecursion (Rises es) ks
+rises_of : (es : List LeafEdge) (l u : Level) (ks : List ℕ) → AllByRecursion (IsLive es l u) ks
+    → AllByRecursion (Rises es) ks
 rises_of es l u [] h = tt
 rises_of es l u (k ∷ ks) h = (h.0.reaches.rises, rises_of es l u ks h.1)
 
-module _ (es : List LeafEdge) (l u m : Level) (dl : pos 0 <ℤ l.d) (side : Place → List Strand) (ps : List Place) (b : AreBundles es l u (bundles_of (gathered side ps)))
-    (hp : AllByRecursion (IsSpotAt m) (spots_of ps)) (meet : AllByRecursion (λ p. AllByRecursion (λ s. MeetsAt es m p.at s.bundle) (side p)) ps) where
+module _ (es : List LeafEdge) (l u m : Level) (dl : pos 0 <ℤ l.d) (side : Place → List Strand) (ps : List Place)
+    (b : AreBundles es l u (bundles_of (gathered side ps)))
+    (hp : AllByRecursion (IsSpotAt m) (spots_of ps)) (meet : AllByRecursion
+    (λ p. AllByRecursion (λ s. MeetsAt es m p.at s.bundle) (side p)) ps) where
   -- an edge of a bundle meets the height at a place
   pub met_by_side : (k : ℕ) → k < length es → reaches (edge_at es k) l u ≡ true
       → HasSpot (spots_of ps) (spot_on (edge_at es k) m)
@@ -143,7 +140,8 @@ module _ (es : List LeafEdge) (l u m : Level) (dl : pos 0 <ℤ l.d) (side : Plac
       let P : ℕ → Type 0 = λ j. HasSpot (spots_of ps) (spot_on (edge_at es j) m) in
       let ss : List Strand = gathered side ps in
       let all : AllByRecursion P (concat (bundles_of ss)) = of_all P ss (all_spots es l m dl side ps hp
-      (hold es l m dl ss b.ranked (rises_of es l u (concat (bundles_of ss)) (live_bundles es l u (bundles_of ss) b))) meet) in
+      (hold es l m dl ss b.ranked (rises_of es l u (concat (bundles_of ss))
+      (live_bundles es l u (bundles_of ss) b))) meet) in
       let z : 0 + k ≡ k = omega arith in
       subst P z (of_reaching P 0 es l u (recursion_from_All P (reaching 0 es l u)
       (All-permutation P (concat (bundles_of ss)) (reaching 0 es l u)

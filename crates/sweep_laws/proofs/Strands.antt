@@ -1,20 +1,19 @@
 -- The ways of strands: what holds of each, and that they have different names.
-use Rattle.std.proofs.Common.{◌≡◌, ℕ, ◌⊎◌, inl, inr, Bool, true, false, List, [], ◌∷◌, ◌++◌, refl, sym, ap, ◌∙◌, subst, arith, append_assoc}
-use lib.IntN.{ℤ, pos, ◌*ℤ◌}
+use Rattle.std.proofs.Common.{◌≡◌, ℕ, inl, inr, Bool, true, false, List, [], ◌∷◌, ◌++◌, refl, sym, ap, ◌∙◌, subst, arith, append_assoc}
+use lib.IntN.{pos}
 use lib.Signed.{◌<ℤ◌}
 use Rattle.std.specs.Prelude.{Option, None, Some}
-use Rattle.std.specs.List.{AllByRecursion, concat, position}
+use Rattle.std.specs.List.{AllByRecursion, position}
 use Rattle.std.proofs.lemmas.Int.{ints}
 use Rattle.scad_geom.specs.declared.point.Edge.{Edge}
 use Rattle.scad_geom.specs.declared.level.Level.{Level}
 use Rattle.scad_geom.specs.declared.level.LeafEdge.{LeafEdge}
 use Rattle.scad_geom.specs.Line.{rise}
 use Rattle.scad_geom.specs.EdgeOrder.{IsBefore}
-use Rattle.scad_geom.proofs.Order.{front, back}
+use Rattle.scad_geom.proofs.Order.{front}
 use Rattle.slice_slab.specs.Bundles.{edge_at, Precedes, AreRanked}
 use Rattle.slice_snap.specs.declared.piece.Spot.{Spot}
 use Rattle.slice_bool.specs.Pieces.{spot_on, covers}
-use Rattle.slice_bool.specs.Beside.{RisesFirst}
 use Rattle.sweep_laws.specs.Ways.{Way, way_between, AreOfDifferentNames}
 use Rattle.sweep_laws.specs.Fronts.{Strand, bundles_of, value_before, way_up, ways_up, way_from, ways_from}
 use Rattle.sweep_laws.specs.Crossing.{Place, all_below, all_above, way_along, flat_way}
@@ -31,7 +30,13 @@ of_between P false false s t name h = tt
 -- of a strand's way up to a height, whichever way it runs
 abbrev pub UpHas : (Way → Type 0) → List LeafEdge → Level → Spot → List ℕ → Type 0
 UpHas P es u start [] = Unit {0}
-UpHas P es u start (k ∷ ks) = (b : Bool) → P (record { near = start; far = spot_on (edge_at es k) u; edge = k; forward = b })
+UpHas P es u start (k ∷ ks) = (b : Bool) → P (record {
+  near = start;
+  far = spot_on (edge_at es k) u;
+  edge = k;
+  forward =
+      b;
+})
 
 of_way_up : (P : Way → Type 0) (es : List LeafEdge) (u : Level) (v w : Bool) (start : Spot) (b : List ℕ)
     → UpHas P es u start b → AllByRecursion P (way_up es u v w start b)
@@ -87,7 +92,8 @@ of_flat_way P es start p (q ∷ ps) h =
     (position (covers p.at q.at) es) h
 
 -- ---- the ways of two lists of strands
-first_of_both : (xs ys : List Strand) (right : Bool) → value_before (xs ++ ys) right ≡ value_before xs (value_before ys right)
+first_of_both : (xs ys : List Strand) (right : Bool) → value_before (xs ++ ys) right
+    ≡ value_before xs (value_before ys right)
 first_of_both [] ys right = refl
 first_of_both (x ∷ xs) ys right = refl
 
@@ -95,7 +101,8 @@ pub ups_append : (es : List LeafEdge) (u : Level) (right : Bool) (xs ys : List S
     → ways_up es u right (xs ++ ys) ≡ ways_up es u (value_before ys right) xs ++ ways_up es u right ys
 ups_append es u right [] ys = refl
 ups_append es u right (x ∷ xs) ys =
-    ap (λ (v : Bool). way_up es u x.left v x.start x.bundle ++ ways_up es u right (xs ++ ys)) (first_of_both xs ys right)
+    ap (λ (v : Bool). way_up es u x.left v x.start x.bundle ++ ways_up es u right (xs ++ ys))
+    (first_of_both xs ys right)
     ∙ ap (λ (ws : List Way). way_up es u x.left (value_before xs (value_before ys right)) x.start x.bundle ++ ws)
     (ups_append es u right xs ys)
     ∙ sym (append_assoc (way_up es u x.left (value_before xs (value_before ys right)) x.start x.bundle)
@@ -105,7 +112,8 @@ pub froms_append : (es : List LeafEdge) (l u : Level) (right : Bool) (xs ys : Li
     → ways_from es l u right (xs ++ ys) ≡ ways_from es l u (value_before ys right) xs ++ ways_from es l u right ys
 froms_append es l u right [] ys = refl
 froms_append es l u right (x ∷ xs) ys =
-    ap (λ (v : Bool). way_from es l u x.left v x.bundle ++ ways_from es l u right (xs ++ ys)) (first_of_both xs ys right)
+    ap (λ (v : Bool). way_from es l u x.left v x.bundle ++ ways_from es l u right (xs ++ ys))
+    (first_of_both xs ys right)
     ∙ ap (λ (ws : List Way). way_from es l u x.left (value_before xs (value_before ys right)) x.bundle ++ ws)
     (froms_append es l u right xs ys)
     ∙ sym (append_assoc (way_from es l u x.left (value_before xs (value_before ys right)) x.bundle)
@@ -152,7 +160,11 @@ differ_back (x ∷ xs) ys h = differ_back xs ys h.1
 different_names : (xs ys : List Way) → AreOfDifferentNames xs → AreOfDifferentNames ys
     → AllByRecursion (λ x. AllByRecursion (λ y. x.edge ≡ y.edge → ⊥) ys) xs → AreOfDifferentNames (xs ++ ys)
 different_names [] ys dx dy h = dy
-different_names (x ∷ xs) ys dx dy h = (all_of (λ y. x.edge ≡ y.edge → ⊥) xs ys dx.0 h.0, different_names xs ys dx.1 dy h.1)
+different_names (x ∷ xs) ys dx dy h = (
+  all_of (λ y. x.edge ≡ y.edge
+      → ⊥) xs ys dx.0 h.0,
+  different_names xs ys dx.1 dy h.1,
+)
 
 one_name : (v w : Bool) (s t : Spot) (name : ℕ) → AreOfDifferentNames (way_between v w s t name)
 one_name true true s t name = tt
@@ -249,4 +261,5 @@ flat_names es start p (q ∷ ps) = by_name (position (covers p.at q.at) es)
     by_name : (name : Option ℕ) → AreOfDifferentNames (way_along (value_before (all_above (q ∷ ps)) false)
         (value_before (all_below (q ∷ ps)) false) start q.at name)
     by_name None = tt
-    by_name (Some k) = one_name (value_before (all_above (q ∷ ps)) false) (value_before (all_below (q ∷ ps)) false) start q.at k
+    by_name (Some k) = one_name (value_before (all_above (q ∷ ps)) false)
+        (value_before (all_below (q ∷ ps)) false) start q.at k

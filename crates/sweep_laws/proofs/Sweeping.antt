@@ -1,14 +1,13 @@
 -- A sweep over all heights gives the merged pieces of the border.
-use Rattle.std.proofs.Common.{◌≡◌, ℕ, ◌<◌, Bool, true, false, List, [], ◌∷◌, ◌++◌, length, refl, sym, ap, ap₂, ◌∙◌, subst, arith, append_assoc}
-use lib.IntN.{ℤ, pos, ◌*ℤ◌}
+use Rattle.std.proofs.Common.{◌≡◌, ℕ, ◌<◌, true, false, List, [], ◌∷◌, ◌++◌, length, refl, sym, ap, ◌∙◌, subst, arith, append_assoc}
+use lib.IntN.{pos}
 use lib.Signed.{◌<ℤ◌}
-use Rattle.std.specs.List.{AllByRecursion, concat}
+use Rattle.std.specs.List.{AllByRecursion}
 use Rattle.std.specs.List.Sorted.{IsPermutation}
 use Rattle.std.proofs.lemmas.Int.{ints}
 use Rattle.std.proofs.lemmas.List.{append-nil, map-append}
-use Rattle.std.proofs.lemmas.List.Sorted.{IsPermutation-refl, IsPermutation-trans, IsPermutation-append}
+use Rattle.std.proofs.lemmas.List.Sorted.{IsPermutation-trans, IsPermutation-append}
 use Rattle.scad_base.proofs.Lists.{AllByRecursion-append}
-use Rattle.scad_geom.specs.declared.point.Edge.{Edge}
 use Rattle.scad_geom.specs.declared.level.Level.{Level}
 use Rattle.scad_geom.specs.declared.level.LeafEdge.{LeafEdge}
 use Rattle.scad_geom.specs.declared.shape.Shape.{Shape}
@@ -16,12 +15,11 @@ use Rattle.scad_geom.specs.Line.{rise}
 use Rattle.scad_geom.specs.Level.{IsLower, IsAtMost}
 use Rattle.scad_geom.specs.Heights.{heights, AreNeighbours}
 use Rattle.scad_geom.proofs.Heights.{heights_positive, lower_then_at_most, lower_weak, at_most_chain}
-use Rattle.slice_events.specs.Levels.{IsRising, AreLevels}
+use Rattle.slice_events.specs.Levels.{IsRising}
 use Rattle.slice_slab.specs.Bundles.{edge_at}
 use Rattle.slice_slab.proofs.Live.{live_bundles}
 use Rattle.slice_snap.specs.declared.piece.Spot.{Spot}
 use Rattle.slice_snap.specs.declared.piece.Piece.{Piece}
-use Rattle.slice_snap.specs.Merging.{AreMerged}
 use Rattle.slice_snap.specs.Rounding.{rounded_edges}
 use Rattle.slice_snap.proofs.Pairs.{permuted_merged}
 use Rattle.slice_bool.specs.Pieces.{spot_on, passes_at, flat_pieces, slab_pieces, AreLevelPieces}
@@ -30,10 +28,9 @@ use Rattle.slice_bool.proofs.Walk.{UpTo, at_first, at_next, neighbours_next}
 use Rattle.slice_bool.proofs.Winding.{IsSpotAt, stops_at}
 use Rattle.sweep_laws.specs.Ways.{Way, pieces_of, piece_of}
 use Rattle.sweep_laws.specs.Visits.{Visit, outs_of, IsAtOne, IsPlan, Walk, over}
-use Rattle.sweep_laws.specs.Fronts.{Strand, bundles_of, ways_up, ways_from, IsFront}
+use Rattle.sweep_laws.specs.Fronts.{Strand, bundles_of, ways_up, IsFront}
 use Rattle.sweep_laws.specs.Crossing.{Place, spots_of, all_below, all_above, all_closed, visits_at, IsCrossing}
-use Rattle.sweep_laws.specs.Sweeps.{Sweeps, closed_in, AreMergedEdges, SweepsMerge, MergedEdgesMakeOutlines}
-use Rattle.sweep_laws.proofs.Rearranged.{same_lists}
+use Rattle.sweep_laws.specs.Sweeps.{Sweeps, closed_in, SweepsMerge, MergedEdgesMakeOutlines}
 use Rattle.sweep_laws.proofs.Walking.{walks_merge}
 use Rattle.sweep_laws.proofs.Levels.{IsHigher, IsLevel, IsAlong, level_walk}
 use Rattle.sweep_laws.proofs.LevelPlan.{EndsAtOne, level_plan}
@@ -75,14 +72,16 @@ all_from m l (v ∷ vs) dm dl o h = (
 itself : (l : Level) → IsAtMost l l
 itself l = omega (arith, ints)
 
-places_from : (es : List LeafEdge) (l u : Level) (ps : List Place) → pos 0 <ℤ l.d → AllByRecursion (IsSpotAt l) (spots_of ps)
+places_from : (es : List LeafEdge) (l u : Level) (ps : List Place) → pos 0 <ℤ l.d
+    → AllByRecursion (IsSpotAt l) (spots_of ps)
     → AllByRecursion (λ v. IsFrom l v.at) (visits_at es l u ps)
 places_from es l u [] dl h = tt
 places_from es l u (p ∷ ps) dl h =
     (record { level = l; at = h.0; divisor = dl; over = itself l }, places_from es l u ps dl h.1)
 
 -- what is known of the places from a height on
-record IsDone (es : List LeafEdge) (shape : Shape) (l : Level) (ls : List Level) (below : List Strand) (closed : List Way) : Type 0 where
+record IsDone (es : List LeafEdge) (shape : Shape) (l : Level) (ls : List Level) (below : List Strand)
+    (closed : List Way) : Type 0 where
   visits : List Visit
   pieces : List Piece
   plan : IsPlan visits
@@ -100,7 +99,8 @@ outs-append (u ∷ us) vs = ap (λ (ws : List Way). u.outs ++ ws) (outs-append u
 
 module _ (es : List LeafEdge) (shape : Shape) where
   -- ---- the last height
-  last_height : (l : Level) (c : List Place) (below : List Strand) → pos 0 <ℤ l.d → AllByRecursion (UpTo l []) (heights es)
+  last_height : (l : Level) (c : List Place) (below : List Strand) → pos 0 <ℤ l.d
+      → AllByRecursion (UpTo l []) (heights es)
       → IsSide false es shape l below → IsCrossing es l l below [] c → IsDone es shape l [] below (all_closed c ++ [])
   last_height l c below dl m under x =
       let over' : IsSide true es shape l [] = no_side true es shape l (tell_top es shape l dl m) in
@@ -110,7 +110,8 @@ module _ (es : List LeafEdge) (shape : Shape) where
       record {
         visits = visits_at es l l c ++ [];
         pieces = flat_pieces es shape (spots_of c);
-        plan = level_plan es l l c [] level tt tt (subst (AllByRecursion (λ s. EndsAtOne es l l [] s.bundle)) x.above_is tt);
+        plan = level_plan es l l c [] level tt tt (subst (AllByRecursion
+            (λ s. EndsAtOne es l l [] s.bundle)) x.above_is tt);
         walk = subst (λ (ws : List Way). Walk ws (visits_at es l l c ++ []) (all_closed c ++ []))
             (append-nil (ways_up es l false (all_below c)) ∙ ap (ways_up es l false) (sym x.below_is))
             (level_walk es l l c [] [] [] [] level (along c) tt x.passed top);
@@ -138,20 +139,24 @@ module _ (es : List LeafEdge) (shape : Shape) where
       let over' : IsSide true es shape l (all_above c) = above_side es shape l u n (all_above c) f in
       let dl = n.lower_divisor in
       let du = n.upper_divisor in
-      let level : IsLevel es l u c = is_level es shape l u dl below (all_above c) c x under over' (climb (all_above c)) in
+      let level : IsLevel es l u c = is_level es shape l u dl below (all_above c) c x under over'
+      (climb (all_above c)) in
       let vs : List Visit = done.visits in
       record {
         visits = visits_at es l u c ++ vs;
-        pieces = (flat_pieces es shape (spots_of c) ++ slab_pieces es shape l u (bundles_of (all_above c))) ++ done.pieces;
+        pieces = (flat_pieces es shape (spots_of c) ++ slab_pieces es shape l u
+            (bundles_of (all_above c))) ++ done.pieces;
         plan = level_plan es l u c vs level done.plan (all_higher l u vs dl du n.in_order done.from)
             (all_end es l u n vs done.ends (all_above c) (live_bundles es l u (bundles_of (all_above c)) f.bundles));
         walk = subst (λ (ws : List Way). Walk ws (visits_at es l u c ++ vs) (all_closed c ++ closed))
             (append-nil (ways_up es l false (all_below c)) ∙ ap (ways_up es l false) (sym x.below_is))
             (level_walk es l u c [] [] vs closed level (along c) tt x.passed
-            (subst (λ (ws : List Way). Walk ws vs closed) (sym (append-nil (ways_up es u false (all_above c)))) done.walk));
+            (subst (λ (ws : List Way). Walk ws vs closed) (sym
+            (append-nil (ways_up es u false (all_above c)))) done.walk));
         from = AllByRecursion-append (λ v. IsFrom l v.at) (visits_at es l u c) vs
             (places_from es l u c dl (stops_at es l (spots_of c) x.stops)) (all_from l u vs dl du n.in_order done.from);
-        ends = λ k o t r. meets_place es shape l u dl below (all_above c) c x under over' (climb (all_above c)) vs k o t r;
+        ends = λ k o t r. meets_place es shape l u dl below (all_above c) c x under over'
+            (climb (all_above c)) vs k o t r;
         are_pieces = (spots_of c, bundles_of (all_above c), done.pieces, x.stops, f.bundles, done.are_pieces, refl);
         outs = subst (λ (qs : List Piece). IsPermutation qs ((flat_pieces es shape (spots_of c)
             ++ slab_pieces es shape l u (bundles_of (all_above c))) ++ done.pieces))
@@ -175,7 +180,8 @@ module _ (es : List LeafEdge) (shape : Shape) where
 
   -- ---- all heights
   from_height : (l : Level) (ls : List Level) (cs : List (List Place)) (below : List Strand)
-      → AllByRecursion (λ (l : Level). pos 0 <ℤ l.d) (l ∷ ls) → IsRising (l ∷ ls) → AllByRecursion (UpTo l ls) (heights es)
+      → AllByRecursion (λ (l : Level). pos 0 <ℤ l.d) (l ∷ ls) → IsRising (l ∷ ls)
+      → AllByRecursion (UpTo l ls) (heights es)
       → IsSide false es shape l below → Sweeps es shape below (l ∷ ls) cs → IsDone es shape l ls below (closed_in cs)
   from_height l [] [] below d r h under s = absurd s
   from_height l [] (c ∷ cs) below d r h under s =

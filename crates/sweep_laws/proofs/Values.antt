@@ -1,5 +1,5 @@
 -- Values of strands over a crossing.
-use Rattle.std.proofs.Common.{◌≡◌, ℕ, ◌⊎◌, inl, inr, List, [], ◌∷◌, ◌++◌, refl, sym, ap, ◌∙◌, subst}
+use Rattle.std.proofs.Common.{ℕ, ◌⊎◌, inl, inr, List, [], ◌∷◌, ◌++◌, sym, ap, ◌∙◌, subst}
 use Rattle.std.proofs.lemmas.List.{map-append}
 use Rattle.scad_geom.specs.declared.level.LeafEdge.{LeafEdge}
 use Rattle.scad_geom.specs.declared.shape.Shape.{Shape}
@@ -7,7 +7,7 @@ use Rattle.slice_bool.specs.Beside.{left_value}
 use Rattle.sweep_laws.specs.Fronts.{Strand, bundles_of, AreValued}
 use Rattle.sweep_laws.specs.Crossing.{Place, all_below, all_above}
 use Rattle.sweep_laws.specs.Balance.{AreBoundariesBalanced}
-use Rattle.sweep_laws.specs.Values.{IsStayingAt, AreValuedBefore, AreNewValued, ValuesGoOn}
+use Rattle.sweep_laws.specs.Values.{IsStayingAt, AreValuedBefore, ValuesGoOn}
 use Rattle.sweep_laws.proofs.Boundaries.{staying_values}
 use Rattle.sweep_laws.proofs.LevelPieces.{later_valued}
 
@@ -15,11 +15,13 @@ valued_before : (es : List LeafEdge) (shape : Shape) (xs ys : List Strand) → A
     → AreValued es shape ys → AreValued es shape (xs ++ ys)
 valued_before es shape [] ys h k = k
 valued_before es shape (x ∷ xs) ys h k = (
-  h.0 ∙ ap (λ (bs : List (List ℕ)). left_value es shape (x.bundle ∷ bs)) (sym (map-append (λ (s : Strand). s.bundle) xs ys)),
+  h.0 ∙ ap (λ (bs : List (List ℕ)). left_value es shape (x.bundle ∷ bs))
+      (sym (map-append (λ (s : Strand). s.bundle) xs ys)),
   valued_before es shape xs ys h.1 k,
 )
 
-module _ (es : List LeafEdge) (shape : Shape) (p : Place) (ps : List Place) (v : AreValued es shape (p.below ++ all_below ps)) (rest : AreValued es shape (all_above ps)) where
+module _ (es : List LeafEdge) (shape : Shape) (p : Place) (ps : List Place)
+    (v : AreValued es shape (p.below ++ all_below ps)) (rest : AreValued es shape (all_above ps)) where
   kept : AreBoundariesBalanced es (p ∷ ps) → IsStayingAt es p ps → AreValued es shape (p.above ++ all_above ps)
   kept b k =
       let first = (subst (λ (ss : List Strand). AreValued es shape (ss ++ all_below ps)) k.below v).0 in

@@ -1,29 +1,26 @@
 -- A sweep over places merges pieces.
-use Rattle.std.proofs.Common.{◌≡◌, ◌⊎◌, inl, inr, Bool, true, false, cond, true≢false, List, [], ◌∷◌, ◌++◌, All, refl, sym, ap, ap₂, ◌∙◌, subst, append_assoc}
+use Rattle.std.proofs.Common.{◌≡◌, ◌⊎◌, inl, inr, List, [], ◌∷◌, ◌++◌, All, refl, sym, ap, ◌∙◌, subst, append_assoc}
 use Rattle.std.specs.List.{AllByRecursion}
 use Rattle.std.specs.List.Sorted.{IsPermutation}
-use Rattle.std.proofs.lemmas.List.{append-nil, map-append}
-use Rattle.std.proofs.lemmas.List.Elements.{All-cons, All-head, All-tail, All-weaker, All-from_recursion, recursion_from_All}
-use Rattle.std.proofs.lemmas.List.Sorted.{All-permutation, IsPermutation-refl, IsPermutation-sym, IsPermutation-trans, IsPermutation-map, IsPermutation-append_left, IsPermutation-append_right, IsPermutation-middle}
+use Rattle.std.proofs.lemmas.List.{map-append}
+use Rattle.std.proofs.lemmas.List.Elements.{All-weaker, All-from_recursion, recursion_from_All}
+use Rattle.std.proofs.lemmas.List.Sorted.{All-permutation, IsPermutation-refl, IsPermutation-sym, IsPermutation-middle}
 use Rattle.scad_base.proofs.Lists.{AllByRecursion-append}
-use Rattle.scad_geom.specs.Point.{Point, is_same_point}
-use Rattle.scad_geom.proofs.Order.{front, back}
 use Rattle.winding_laws.specs.Nearness.{IsPoint}
 use Rattle.slice_snap.specs.declared.piece.Spot.{Spot}
 use Rattle.slice_snap.specs.declared.piece.Piece.{Piece}
 use Rattle.slice_snap.specs.Spots.{point_of}
 use Rattle.slice_snap.specs.Merging.{joined, MeetAlone, AreMerged, all_joined, two_join}
-use Rattle.slice_snap.specs.Joining.{GoesOn, IsPassedOnce, IsStuck}
+use Rattle.slice_snap.specs.Joining.{GoesOn, IsStuck}
 use Rattle.slice_snap.proofs.Pairs.{permuted_merged}
-use Rattle.slice_snap.proofs.Stuck.{starts_permuted, ends_permuted, stays_stuck, none_meet_alone}
+use Rattle.slice_snap.proofs.Stuck.{stays_stuck, none_meet_alone}
 use Rattle.sweep_laws.specs.Ways.{Way, piece_of, pieces_of, IsAt, IsAway, AreOfDifferentNames}
-use Rattle.sweep_laws.specs.Visits.{grown, IsOneCourse, OneGoesOn, Pass, goes_on, all_end, Visit, outs_of, IsAtOne, Leads, IsPlan, Walk, over, visit, WalksMerge}
+use Rattle.sweep_laws.specs.Visits.{grown, IsOneCourse, Pass, goes_on, all_end, Visit, outs_of, IsAtOne, Leads, IsPlan, Walk, over, visit, WalksMerge}
 use Rattle.sweep_laws.proofs.Touches.{ComesIn, GoesOut, LiesAway}
-use Rattle.sweep_laws.proofs.OnePlace.{is_joined, stuck_here}
+use Rattle.sweep_laws.proofs.OnePlace.{is_joined}
 use Rattle.sweep_laws.proofs.Meeting.{ending, starting, meet_alone, ending_point, starting_point, starts_on, by_end}
-use Rattle.sweep_laws.proofs.Rearranged.{same_lists, parted, parted_ended}
-use Rattle.sweep_laws.proofs.Away.{AwayFromAll, AreElsewhere, all_away, points, away_at_one, not_first, piece_away, outs_away, pieces_away}
-use Rattle.sweep_laws.proofs.Between.{state, IsOpen, IsGone, IsQuiet, IsBetween, all_weaker, all_two, come_in, go_out, lie_away, all_are, opened_in, still_open, still_gone, ended_are, after_ended}
+use Rattle.sweep_laws.proofs.Away.{not_first}
+use Rattle.sweep_laws.proofs.Between.{state, IsQuiet, IsBetween, all_weaker, all_two, come_in, go_out, lie_away, all_are, opened_in, still_open, still_gone, ended_are, after_ended}
 
 -- ---- one goes on
 quiet_joined : (vs : List Visit) (all : List Piece) (f s : Piece) → f.edge ≡ s.edge → IsQuiet vs all s
@@ -33,7 +30,7 @@ quiet_joined vs all f s e h = record { point = h.point; later = by_case h.later 
     by_case : IsAtOne vs s.to ⊎ IsStuck all s → IsAtOne vs s.to ⊎ IsStuck all (joined f s)
     by_case (inl a) = inl a
     by_case (inr stuck) = inr (λ passed. All-weaker (λ r. GoesOn s r → ⊥) (λ r. GoesOn (joined f s) r → ⊥)
-        (λ r none g. none (record { name = sym e ∙ g.name; meet = g.meet; away = g.away; })) all
+        (λ r none g. none (record { name = sym e ∙ g.name; meet = g.meet; away = g.away })) all
         (stuck (record { one_ends = passed.one_ends; one_starts = passed.one_starts })))
 
 module _ (done : List Piece) (opens kept : List Way) (a b : Way) (course : IsOneCourse a b) (s : Spot) (vs : List Visit)
@@ -84,7 +81,8 @@ module _ (done : List Piece) (opens kept : List Way) (a b : Way) (course : IsOne
       by_case (inl x) = inl (not_first v vs q.to o x)
       by_case (inr stuck) = inr (stays_stuck whole after first second rest meet after_is q h.point
           (ending_point (point_of s) now.plan.0 whole a b rest whole_is comes goes rest_away course a.forward refl)
-          (starting_point (point_of s) now.plan.0 whole a b rest whole_is comes goes rest_away course a.forward refl) stuck)
+          (starting_point (point_of s) now.plan.0 whole a b rest whole_is comes goes rest_away course a.forward refl)
+          stuck)
 
   quiet_before : AllByRecursion (IsQuiet (v ∷ vs) whole) (first ∷ (second ∷ rest))
   quiet_before = recursion_from_All (IsQuiet (v ∷ vs) whole) (first ∷ (second ∷ rest))
@@ -137,7 +135,8 @@ step done opens kept more s vs _ _ _ _ is at away different (all_end ins outs no
     let end : List Piece = done ++ pieces_of ins in
     let whole : List Piece = state done opens (v ∷ vs) in
     permuted_merged (state end (outs ++ kept) vs) whole (done ++ pieces_of (ins ++ more))
-    (IsPermutation-sym whole (state end (outs ++ kept) vs) (ended_are done opens ins kept v vs is at away different now))
+    (IsPermutation-sym whole (state end (outs ++ kept) vs) (ended_are done opens ins kept v vs is at away different
+    now))
     (subst (AreMerged (state end (outs ++ kept) vs))
     (append_assoc done (pieces_of ins) (pieces_of more)
     ∙ ap (λ (qs : List Piece). done ++ qs) (sym (map-append piece_of ins more)))
@@ -168,7 +167,8 @@ all_within (v ∷ vs) h =
     AllByRecursion-append (IsWithin (v ∷ vs)) v.outs (outs_of vs)
     (all_weaker (Leads v.at vs) (IsWithin (v ∷ vs)) v.outs
     (λ w l. (l.near_point, l.far_point, inl l.near, inr l.far)) h.2)
-    (all_weaker (IsWithin vs) (IsWithin (v ∷ vs)) (outs_of vs) (λ w l. (l.0, l.1, inr l.2, inr l.3)) (all_within vs h.4))
+    (all_weaker (IsWithin vs) (IsWithin (v ∷ vs)) (outs_of vs) (λ w l. (l.0, l.1, inr l.2, inr l.3))
+    (all_within vs h.4))
 
 begin_quiet : (vs : List Visit) (qs : List Piece) (ws : List Way) → AllByRecursion (IsWithin vs) ws
     → AllByRecursion (IsQuiet vs qs) (pieces_of ws)

@@ -1,5 +1,5 @@
 -- Balance at a height: what the edges to the right of a place sum up to below it and above it.
-use Rattle.std.specs.Prelude.{◌≡◌, ⊤, true, false, List, [], ◌∷◌, ℕ, ◌<◌, pos, ◌*ℤ◌, ◌<ℤ◌, int_lt}
+use Rattle.std.specs.Prelude.{◌≡◌, ⊤, true, List, [], ◌∷◌, ℕ, ◌<◌, ◌*ℤ◌, int_lt}
 use Rattle.std.specs.List.{AllByRecursion, concat}
 use Rattle.scad_geom.specs.declared.level.Level.{Level}
 use Rattle.scad_geom.specs.declared.level.LeafEdge.{LeafEdge}
@@ -24,7 +24,8 @@ StaysAside p e = e.edge.a.y ≡ e.edge.b.y → e.edge.a.y *ℤ p.d ≡ p.y
     → int_lt p.x (e.edge.a.x *ℤ p.d) ≡ int_lt p.x (e.edge.b.x *ℤ p.d)
 
 -- ---- the laws
--- Where the edges of each leaf are balanced and no flat edge leads from a spot of a height to its right, the headings of each
+-- Where the edges of each leaf are balanced and no flat edge leads from a spot of a height to its right, the headings
+-- of each
 -- leaf's edges to the right of the spot have one sum below the height and above it.
 abbrev pub HeadingsAreBalanced : Type 0
 HeadingsAreBalanced =
@@ -41,7 +42,8 @@ ValuesAreKept =
     → AreNeighbours es m u
     → (below above : List (List ℕ)) → AreBundles es l m below → AreBundles es m u above
     → (s : Spot) → s.at ≡ m → 0 < s.run → AllByRecursion (StaysAside (point_of s)) es
-    → left_value es shape (passing es true (point_of s) below) ≡ left_value es shape (passing es true (point_of s) above)
+    → left_value es shape (passing es true (point_of s) below)
+    ≡ left_value es shape (passing es true (point_of s) above)
 
 -- ---- at the places of a height
 -- at each place from which no flat edge leads on, the headings to its right have one sum below the height and above it

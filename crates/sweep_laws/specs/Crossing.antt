@@ -1,6 +1,7 @@
--- A front lifted over a height: the places of the height from left to right, with the strands that come to each from below
+-- A front lifted over a height: the places of the height from left to right, with the strands that come to each from
+-- below
 -- and those that leave it upwards, and the ways that end there.
-use Rattle.std.specs.Prelude.{Bool, false, ◌≡◌, ⊤, List, [], ◌∷◌, ◌++◌, map, ℕ, Option, None, Some}
+use Rattle.std.specs.Prelude.{Bool, false, ◌≡◌, List, [], ◌∷◌, ◌++◌, map, ℕ, Option, None, Some}
 use Rattle.std.specs.List.{AllByRecursion, position}
 use Rattle.scad_geom.specs.declared.level.Level.{Level}
 use Rattle.scad_geom.specs.declared.level.LeafEdge.{LeafEdge}
@@ -11,7 +12,8 @@ use Rattle.sweep_laws.specs.Ways.{Way, way_between}
 use Rattle.sweep_laws.specs.Visits.{Pass, Visit}
 use Rattle.sweep_laws.specs.Fronts.{Strand, value_before, ways_up, ways_from}
 
--- a place, the strands below and above it, where the way along the height to its right began, and the ways that end there
+-- a place, the strands below and above it, where the way along the height to its right began, and the ways that end
+-- there
 pub record Place : Type 0 where
   pub at : Spot
   pub below : List Strand
@@ -42,7 +44,8 @@ way_along above below s t (Some name) = way_between above below s t name
 
 abbrev pub flat_way : List LeafEdge → Spot → Place → List Place → List Way
 flat_way es start p [] = []
-flat_way es start p (q ∷ ps) = way_along (value_before (all_above (q ∷ ps)) false) (value_before (all_below (q ∷ ps)) false)
+flat_way es start p (q ∷ ps) = way_along (value_before (all_above (q ∷ ps)) false)
+    (value_before (all_below (q ∷ ps)) false)
     start q.at (position (covers p.at q.at) es)
 
 -- ---- at a place, with the places to its right
@@ -73,7 +76,8 @@ MeetsAt es l s [] = ⊥
 MeetsAt es l s (k ∷ ks) = IsSameAcross (spot_on (edge_at es k) l) s
 
 -- the front below a height, that above it up to the next, and the places between them
-pub record IsCrossing (es : List LeafEdge) (l u : Level) (below above : List Strand) (places : List Place) : Type 0 where
+pub record IsCrossing (es : List LeafEdge) (l u : Level) (below above : List Strand)
+    (places : List Place) : Type 0 where
   pub stops : AreStops es l (spots_of places)
   pub below_is : below ≡ all_below places
   pub above_is : above ≡ all_above places

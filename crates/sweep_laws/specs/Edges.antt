@@ -22,10 +22,13 @@ edges_between forward p q = cond (has_length (edge_between forward p q)) (edge_b
 -- The edges of ways one after another.
 pub record WaysGiveEdges : Type 0 where
   pub none : rounded_edges (pieces_of []) ≡ []
-  pub one : (w : Way) → rounded_edges (pieces_of (w ∷ [])) ≡ edges_between w.forward (rounded (point_of w.near)) (rounded (point_of w.far))
-  pub more : (vs ws : List Way) → rounded_edges (pieces_of (vs ++ ws)) ≡ rounded_edges (pieces_of vs) ++ rounded_edges (pieces_of ws)
+  pub one : (w : Way) → rounded_edges (pieces_of (w ∷ [])) ≡ edges_between w.forward (rounded (point_of w.near))
+      (rounded (point_of w.far))
+  pub more : (vs ws : List Way) → rounded_edges (pieces_of (vs ++ ws))
+      ≡ rounded_edges (pieces_of vs) ++ rounded_edges (pieces_of ws)
 
 -- Spots that stand for one point round to one point.
 abbrev pub SameSpotsRoundAlike : Type 0
-SameSpotsRoundAlike = (s t : Spot) → IsPoint (point_of s) → IsPoint (point_of t) → is_same_point (point_of s) (point_of t) ≡ true
+SameSpotsRoundAlike = (s t : Spot) → IsPoint (point_of s) → IsPoint (point_of t)
+    → is_same_point (point_of s) (point_of t) ≡ true
     → rounded (point_of s) ≡ rounded (point_of t)

@@ -1,5 +1,5 @@
 -- Heights along which nothing leads from place to place: there it's enough that the strands' ways pass.
-use Rattle.std.specs.Prelude.{Bool, false, ◌≡◌, ⊤, List, [], ◌∷◌}
+use Rattle.std.specs.Prelude.{false, ◌≡◌, ⊤, List, [], ◌∷◌}
 use Rattle.scad_geom.specs.declared.level.Level.{Level}
 use Rattle.scad_geom.specs.declared.level.LeafEdge.{LeafEdge}
 use Rattle.sweep_laws.specs.Visits.{Pass}
@@ -27,5 +27,6 @@ PlainHeightsPass = (es : List LeafEdge) (l u : Level) (places : List Place) → 
     → AreAlikeBeside es places → ArePlainlyPassed es l u places → ArePassed es l u [] places
 
 abbrev pub LastHeightsPass : Type 0
-LastHeightsPass = (es : List LeafEdge) (m : Level) (places : List Place) → all_above places ≡ [] → AreUncovered es places
+LastHeightsPass = (es : List LeafEdge) (m : Level) (places : List Place) → all_above places ≡ []
+    → AreUncovered es places
     → ArePlainlyPassed es m m places → ArePassed es m m [] places

@@ -1,4 +1,5 @@
--- What changes nothing: a strand that comes to a height alone and goes on as it is, and places with nothing along the height.
+-- What changes nothing: a strand that comes to a height alone and goes on as it is, and places with nothing along the
+-- height.
 use Rattle.std.specs.Prelude.{Bool, false, ◌≡◌, ⊤, List, [], ◌∷◌, ℕ, pos, None}
 use Rattle.std.specs.List.{AllByRecursion, position}
 use Rattle.scad_geom.specs.declared.level.Level.{Level}
@@ -23,7 +24,14 @@ spot_of es l (k ∷ ks) = spot_on (edge_at es k) l
 
 -- the place of a strand that goes on as it is
 abbrev pub staying : List LeafEdge → Level → Strand → Place
-staying es l s = record { at = spot_of es l s.bundle; below = s ∷ []; above = s ∷ []; start = spot_of es l s.bundle; closed = [] }
+staying es l s = record {
+  at = spot_of es l s.bundle;
+  below = s ∷ [];
+  above = s ∷ [];
+  start =
+      spot_of es l s.bundle;
+  closed = [];
+}
 
 -- strands that begin at a spot
 abbrev pub begun_at : Spot → List Strand → List Strand
@@ -49,9 +57,11 @@ abbrev pub StrandsStay : Type 0
 StrandsStay =
     (es : List LeafEdge) (l u : Level) (s : Strand) (ps : List Place) → IsUncovered es (staying es l s) ps
     → value_before (all_below ps) false ≡ value_before (all_above ps) false
-    → Pass (ins_to es l [] (staying es l s) ps) (outs_from es l u (staying es l s) ps) (opens_after es u (staying es l s) ps) []
+    → Pass (ins_to es l [] (staying es l s) ps) (outs_from es l u (staying es l s) ps)
+    (opens_after es u (staying es l s) ps) []
 
--- A group of strands at one place, of which not one alone comes in and goes on: all ways that come in end, and the strands above
+-- A group of strands at one place, of which not one alone comes in and goes on: all ways that come in end, and the
+-- strands above
 -- begin there.
 abbrev pub GroupsEnd : Type 0
 GroupsEnd =

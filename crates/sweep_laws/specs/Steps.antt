@@ -16,12 +16,15 @@ use Rattle.sweep_laws.specs.Values.{AreNewValued}
 -- to the right of each place from which no flat edge leads on, the strands below and above the height tell one value
 abbrev pub AreAlikeBeside : List LeafEdge → List Place → Type 0
 AreAlikeBeside es [] = ⊤
-AreAlikeBeside es (p ∷ ps) = (IsUncovered es p ps → value_before (all_below ps) false ≡ value_before (all_above ps) false)
+AreAlikeBeside es (p ∷ ps) = (IsUncovered es p ps → value_before (all_below ps) false
+    ≡ value_before (all_above ps) false)
     × AreAlikeBeside es ps
 
 -- ---- the laws
--- Where the edges of each leaf are balanced, a front is lifted over a height by places that its edges meet, with new strands
--- that have their values, if the ways pass at each place; that both sides tell one value may be used for that. So it is at the
+-- Where the edges of each leaf are balanced, a front is lifted over a height by places that its edges meet, with new
+-- strands
+-- that have their values, if the ways pass at each place; that both sides tell one value may be used for that. So it is
+-- at the
 -- first height, between two others, and at the last.
 pub record StepsLift : Type 0 where
   pub first : (es : List LeafEdge) (shape : Shape) → AreLeavesBalanced es → (m u : Level)

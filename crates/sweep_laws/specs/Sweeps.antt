@@ -27,7 +27,8 @@ Sweeps es shape below [] [] = below ≡ []
 Sweeps es shape below [] (c ∷ cs) = ⊥
 Sweeps es shape below (l ∷ ls) [] = ⊥
 Sweeps es shape below (l ∷ []) (c ∷ cs) = IsCrossing es l l below [] c × (cs ≡ [])
-Sweeps es shape below (l ∷ (u ∷ ls)) (c ∷ cs) = IsCrossing es l u below (all_above c) c × IsFront es shape l u (all_above c)
+Sweeps es shape below (l ∷ (u ∷ ls)) (c ∷ cs) = IsCrossing es l u below (all_above c) c
+    × IsFront es shape l u (all_above c)
     × Sweeps es shape (all_above c) (u ∷ ls) cs
 
 -- the ways that end at some place
@@ -35,7 +36,8 @@ abbrev pub closed_in : List (List Place) → List Way
 closed_in [] = []
 closed_in (c ∷ cs) = all_closed c ++ closed_in cs
 
--- a sweep over some levels has come to a front below those that are left, and so far these ways have ended: in whatever way
+-- a sweep over some levels has come to a front below those that are left, and so far these ways have ended: in whatever
+-- way
 -- it goes on over those, it's one over all
 abbrev pub HasSweptTo : List LeafEdge → Shape → List Level → List Level → List Strand → List Way → Type 0
 HasSweptTo es shape levels left front closed =
@@ -52,7 +54,8 @@ pub record AreMergedEdges (es : List LeafEdge) (shape : Shape) (given : List Edg
   pub are_given : IsPermutation (rounded_edges merged) given
 
 -- ---- the laws
--- What ends in the course of a sweep over the levels of an edge list makes, with rounded ends, the edges of merged pieces.
+-- What ends in the course of a sweep over the levels of an edge list makes, with rounded ends, the edges of merged
+-- pieces.
 abbrev pub SweepsMerge : Type 0
 SweepsMerge =
     (es : List LeafEdge) (shape : Shape) (levels : List Level) (crossings : List (List Place)) (given : List Edge)

@@ -1,11 +1,11 @@
--- A sweep over places: at each place ways come in and others go out. Where one comes in and one goes out, of one name and
+-- A sweep over places: at each place ways come in and others go out. Where one comes in and one goes out, of one name
+-- and
 -- direction, the first goes on as the second; else all that come in end there, and all that go out begin.
-use Rattle.std.specs.Prelude.{Bool, true, false, ◌≡◌, ◌⊎◌, ⊤, List, [], ◌∷◌, ◌++◌, pos, ◌<ℤ◌}
+use Rattle.std.specs.Prelude.{◌≡◌, ◌⊎◌, ⊤, List, [], ◌∷◌, ◌++◌}
 use Rattle.std.specs.List.{AllByRecursion}
 use Rattle.std.specs.List.Sorted.{IsPermutation}
 use Rattle.winding_laws.specs.Nearness.{IsPoint}
 use Rattle.slice_snap.specs.declared.piece.Spot.{Spot}
-use Rattle.slice_snap.specs.declared.piece.Piece.{Piece}
 use Rattle.slice_snap.specs.Merging.{AreMerged}
 use Rattle.slice_snap.specs.Spots.{point_of}
 use Rattle.sweep_laws.specs.Ways.{Way, pieces_of, IsAt, IsAway, AreOfDifferentNames}
@@ -64,7 +64,8 @@ IsPlan (v ∷ vs) = IsPoint (point_of v.at) × AllByRecursion (λ u. IsAway (poi
 -- from some open ways over all places, with those that end on the way
 pub data Walk : List Way → List Visit → List Way → Type 0 where
   over : Walk [] [] []
-  visit : (opens ins kept after closed more : List Way) (v : Visit) (vs : List Visit) → IsPermutation opens (ins ++ kept)
+  visit : (opens ins kept after closed more : List Way) (v : Visit) (vs : List Visit)
+      → IsPermutation opens (ins ++ kept)
       → AllByRecursion (λ w. IsAt (point_of v.at) w.far) ins
       → AllByRecursion (λ w. IsAway (point_of v.at) w.far) kept
       → AreOfDifferentNames ins → Pass ins v.outs after closed → Walk (after ++ kept) vs more

@@ -20,7 +20,8 @@ piece_of w = record { from = cond w.forward w.near w.far; to = cond w.forward w.
 abbrev pub pieces_of : List Way → List Piece
 pieces_of ws = map piece_of ws
 
--- the way between two spots, where the values on its left (on the way from s to t) and on its right differ: forward with
+-- the way between two spots, where the values on its left (on the way from s to t) and on its right differ: forward
+-- with
 -- the inside on its left
 abbrev pub way_between : Bool → Bool → Spot → Spot → ℕ → List Way
 way_between true true s t name = []
