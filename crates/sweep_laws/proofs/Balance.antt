@@ -1,5 +1,5 @@
--- Balance at a height: where no flat edge leads to the right of a spot, what lies to its right sums up alike below and
--- above.
+-- Balance at a height: where no flat edge leads to the right of a spot, what lies to its right sums
+-- up alike below and above.
 use Rattle.std.proofs.Common.{◌≡◌, ℕ, zero, suc, ◌<◌, Bool, true, false, not, cond, List, [], ◌∷◌, length, map, refl, sym, ap, ap₂, ◌∙◌, subst, arith}
 use mathlib.Core.Path.{fun_ext}
 use lib.IntN.{ℤ, pos, ◌+ℤ◌, ◌-ℤ◌, ◌*ℤ◌, zero-*ℤ}

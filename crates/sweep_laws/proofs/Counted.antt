@@ -1,6 +1,5 @@
--- Between two neighbouring heights, a leaf's winding number is the sum of the headings of its edges in the bundles that
--- lie
--- to the right.
+-- Between two neighbouring heights, a leaf's winding number is the sum of the headings of its edges
+-- in the bundles that lie to the right.
 use Rattle.std.proofs.Common.{◌≡◌, ℕ, Bool, true, false, List, [], ◌∷◌, ◌++◌, refl, sym, ap, ap₂, ◌∙◌}
 use lib.IntN.{ℤ, pos, ◌+ℤ◌, +ℤ_idl}
 use Rattle.std.specs.Prelude.{if◌then◌else◌, ◌==◌, slice_index_or}

@@ -1,5 +1,5 @@
--- Along a height: the values above and below are those of the strands, so the ways along it are the pieces of the
--- definition.
+-- Along a height: the values above and below are those of the strands, so the ways along it are the
+-- pieces of the definition.
 use Rattle.std.proofs.Common.{◌≡◌, ℕ, ◌<◌, Bool, true, false, List, [], ◌∷◌, ◌++◌, refl, sym, ap, ap₂, ◌∙◌, arith}
 use lib.IntN.{pos}
 use lib.Signed.{◌<ℤ◌}

@@ -1,5 +1,5 @@
--- One height: the ways that go out from its places are the pieces of the definition, along the height and up to the
--- next.
+-- One height: the ways that go out from its places are the pieces of the definition, along the
+-- height and up to the next.
 use Rattle.std.proofs.Common.{◌≡◌, ℕ, Bool, true, false, List, [], ◌∷◌, ◌++◌, refl, sym, ap, ap₂, ◌∙◌, subst, arith, append_assoc}
 use lib.IntN.{ℤ, pos, ◌*ℤ◌}
 use lib.Signed.{◌<ℤ◌}

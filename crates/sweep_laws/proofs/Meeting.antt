@@ -1,5 +1,5 @@
--- Where one way comes in and one goes out, of one name and direction, and no other piece has an end, the two meet
--- alone.
+-- Where one way comes in and one goes out, of one name and direction, and no other piece has an
+-- end, the two meet alone.
 use Rattle.std.proofs.Common.{◌≡◌, ◌+◌, Bool, true, false, not, cond, true≢false, List, [], ◌∷◌, refl, sym, ap, ◌∙◌}
 use Rattle.std.specs.List.{AllByRecursion}
 use Rattle.std.specs.List.Sorted.{IsPermutation}

@@ -1,6 +1,5 @@
--- One place merged: where ways come in and others go out and no other piece has an end, one that comes in and one that
--- goes
--- out of one name and direction meet alone; else no piece that ends there goes on.
+-- One place merged: where ways come in and others go out and no other piece has an end, one that comes in and one
+-- that goes out of one name and direction meet alone; else no piece that ends there goes on.
 use Rattle.std.proofs.Common.{◌≡◌, ℕ, suc, ◌+◌, Bool, true, false, not, cond, true≢false, List, [], ◌∷◌, ◌++◌, length, All, refl, sym, ap, ap₂, ◌∙◌, arith}
 use Rattle.std.specs.List.{AllByRecursion}
 use Rattle.std.specs.List.Sorted.{IsPermutation}

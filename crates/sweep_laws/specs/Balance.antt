@@ -25,8 +25,7 @@ StaysAside p e = e.edge.a.y ≡ e.edge.b.y → e.edge.a.y *ℤ p.d ≡ p.y
 
 -- ---- the laws
 -- Where the edges of each leaf are balanced and no flat edge leads from a spot of a height to its right, the headings
--- of each
--- leaf's edges to the right of the spot have one sum below the height and above it.
+-- of each leaf's edges to the right of the spot have one sum below the height and above it.
 abbrev pub HeadingsAreBalanced : Type 0
 HeadingsAreBalanced =
     (es : List LeafEdge) → AreLeavesBalanced es → (l m u : Level) → AreNeighbours es l m → AreNeighbours es m u

@@ -1,6 +1,5 @@
 -- A front lifted over a height: the places of the height from left to right, with the strands that come to each from
--- below
--- and those that leave it upwards, and the ways that end there.
+-- below and those that leave it upwards, and the ways that end there.
 use Rattle.std.specs.Prelude.{Bool, false, ◌≡◌, List, [], ◌∷◌, ◌++◌, map, ℕ, Option, None, Some}
 use Rattle.std.specs.List.{AllByRecursion, position}
 use Rattle.scad_geom.specs.declared.level.Level.{Level}
@@ -12,8 +11,8 @@ use Rattle.sweep_laws.specs.Ways.{Way, way_between}
 use Rattle.sweep_laws.specs.Visits.{Pass, Visit}
 use Rattle.sweep_laws.specs.Fronts.{Strand, value_before, ways_up, ways_from}
 
--- a place, the strands below and above it, where the way along the height to its right began, and the ways that end
--- there
+-- a place, the strands below and above it, where the way along the height to its right began, and
+-- the ways that end there
 pub record Place : Type 0 where
   pub at : Spot
   pub below : List Strand

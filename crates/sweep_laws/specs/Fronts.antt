@@ -1,6 +1,5 @@
--- The front of a sweep between two heights: its bundles from left to right, each with the shape's value to its left and
--- the
--- place where its open piece began.
+-- The front of a sweep between two heights: its bundles from left to right, each with the shape's value to its
+-- left and the place where its open piece began.
 use Rattle.std.specs.Prelude.{Bool, ◌≡◌, ⊤, List, [], ◌∷◌, ◌++◌, map, ℕ}
 use Rattle.scad_geom.specs.declared.level.Level.{Level}
 use Rattle.scad_geom.specs.declared.level.LeafEdge.{LeafEdge}

@@ -1,5 +1,5 @@
--- What changes nothing: a strand that comes to a height alone and goes on as it is, and places with nothing along the
--- height.
+-- What changes nothing: a strand that comes to a height alone and goes on as it is, and places with
+-- nothing along the height.
 use Rattle.std.specs.Prelude.{Bool, false, ◌≡◌, ⊤, List, [], ◌∷◌, ℕ, pos, None}
 use Rattle.std.specs.List.{AllByRecursion, position}
 use Rattle.scad_geom.specs.declared.level.Level.{Level}
@@ -60,9 +60,8 @@ StrandsStay =
     → Pass (ins_to es l [] (staying es l s) ps) (outs_from es l u (staying es l s) ps)
     (opens_after es u (staying es l s) ps) []
 
--- A group of strands at one place, of which not one alone comes in and goes on: all ways that come in end, and the
--- strands above
--- begin there.
+-- A group of strands at one place, of which not one alone comes in and goes on: all ways that come
+-- in end, and the strands above begin there.
 abbrev pub GroupsEnd : Type 0
 GroupsEnd =
     (es : List LeafEdge) (l u : Level) (v w : Bool) (below above : List Strand) → AreBegun es l above

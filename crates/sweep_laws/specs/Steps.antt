@@ -22,10 +22,8 @@ AreAlikeBeside es (p ∷ ps) = (IsUncovered es p ps → value_before (all_below 
 
 -- ---- the laws
 -- Where the edges of each leaf are balanced, a front is lifted over a height by places that its edges meet, with new
--- strands
--- that have their values, if the ways pass at each place; that both sides tell one value may be used for that. So it is
--- at the
--- first height, between two others, and at the last.
+-- strands that have their values, if the ways pass at each place; that both sides tell one value may be used for
+-- that. So it is at the first height, between two others, and at the last.
 pub record StepsLift : Type 0 where
   pub first : (es : List LeafEdge) (shape : Shape) → AreLeavesBalanced es → (m u : Level)
       → All (IsAtMost m) (heights es) → AreNeighbours es m u → (places : List Place) → all_below places ≡ []

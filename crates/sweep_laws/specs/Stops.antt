@@ -1,5 +1,5 @@
--- When places are the stops of a height: each is met by an edge, and each edge that meets the height does so at one of
--- them.
+-- When places are the stops of a height: each is met by an edge, and each edge that meets the
+-- height does so at one of them.
 use Rattle.std.specs.Prelude.{◌≡◌, true, List, ℕ, ◌<◌, length, All}
 use Rattle.std.specs.List.{AllByRecursion}
 use Rattle.scad_geom.specs.declared.level.Level.{Level}
@@ -11,9 +11,8 @@ use Rattle.slice_bool.specs.Pieces.{spot_on, whole_spot, is_flat_at, passes_at, 
 use Rattle.sweep_laws.specs.Fronts.{bundles_of}
 use Rattle.sweep_laws.specs.Crossing.{Place, spots_of, all_below, all_above, MeetsAt}
 
--- places from left to right, each where an edge meets the height; the ends of flat edges are among them, and each
--- strand is at
--- its place
+-- places from left to right, each where an edge meets the height; the ends of flat edges are among
+-- them, and each strand is at its place
 pub record AreMet (es : List LeafEdge) (m : Level) (places : List Place) : Type 0 where
   pub rightwards : GoRight (spots_of places)
   pub sound : AllByRecursion (IsOneOf (spots_at es m)) (spots_of places)
@@ -24,8 +23,7 @@ pub record AreMet (es : List LeafEdge) (m : Level) (places : List Place) : Type 
 
 -- ---- the laws
 -- Such places are all stops of the height, where their strands are the bundles below the height and above it; nothing
--- lies
--- below the first height and above the last.
+-- lies below the first height and above the last.
 pub record PlacesAreStops : Type 0 where
   pub between : (es : List LeafEdge) (l m u : Level) (places : List Place) → AreNeighbours es l m → AreNeighbours es m u
       → AreBundles es l m (bundles_of (all_below places)) → AreBundles es m u (bundles_of (all_above places))

@@ -36,9 +36,8 @@ abbrev pub closed_in : List (List Place) → List Way
 closed_in [] = []
 closed_in (c ∷ cs) = all_closed c ++ closed_in cs
 
--- a sweep over some levels has come to a front below those that are left, and so far these ways have ended: in whatever
--- way
--- it goes on over those, it's one over all
+-- a sweep over some levels has come to a front below those that are left, and so far these ways have ended: in
+-- whatever way it goes on over those, it's one over all
 abbrev pub HasSweptTo : List LeafEdge → Shape → List Level → List Level → List Strand → List Way → Type 0
 HasSweptTo es shape levels left front closed =
     (later : List (List Place)) → Sweeps es shape front left later
@@ -54,8 +53,8 @@ pub record AreMergedEdges (es : List LeafEdge) (shape : Shape) (given : List Edg
   pub are_given : IsPermutation (rounded_edges merged) given
 
 -- ---- the laws
--- What ends in the course of a sweep over the levels of an edge list makes, with rounded ends, the edges of merged
--- pieces.
+-- What ends in the course of a sweep over the levels of an edge list makes, with rounded ends, the
+-- edges of merged pieces.
 abbrev pub SweepsMerge : Type 0
 SweepsMerge =
     (es : List LeafEdge) (shape : Shape) (levels : List Level) (crossings : List (List Place)) (given : List Edge)

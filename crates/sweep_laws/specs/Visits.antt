@@ -1,6 +1,5 @@
 -- A sweep over places: at each place ways come in and others go out. Where one comes in and one goes out, of one name
--- and
--- direction, the first goes on as the second; else all that come in end there, and all that go out begin.
+-- and direction, the first goes on as the second; else all that come in end there, and all that go out begin.
 use Rattle.std.specs.Prelude.{◌≡◌, ◌⊎◌, ⊤, List, [], ◌∷◌, ◌++◌}
 use Rattle.std.specs.List.{AllByRecursion}
 use Rattle.std.specs.List.Sorted.{IsPermutation}

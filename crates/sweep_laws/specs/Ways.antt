@@ -6,8 +6,8 @@ use Rattle.slice_snap.specs.declared.piece.Spot.{Spot}
 use Rattle.slice_snap.specs.declared.piece.Piece.{Piece}
 use Rattle.slice_snap.specs.Spots.{point_of}
 
--- a piece's two ends, in the order in which the sweep comes to them, its name, and whether it runs from the near one to
--- the far one
+-- a piece's two ends, in the order in which the sweep comes to them, its name, and whether it runs
+-- from the near one to the far one
 pub record Way : Type 0 where
   pub near : Spot
   pub far : Spot
@@ -20,9 +20,8 @@ piece_of w = record { from = cond w.forward w.near w.far; to = cond w.forward w.
 abbrev pub pieces_of : List Way → List Piece
 pieces_of ws = map piece_of ws
 
--- the way between two spots, where the values on its left (on the way from s to t) and on its right differ: forward
--- with
--- the inside on its left
+-- the way between two spots, where the values on its left (on the way from s to t) and on its right
+-- differ: forward with the inside on its left
 abbrev pub way_between : Bool → Bool → Spot → Spot → ℕ → List Way
 way_between true true s t name = []
 way_between true false s t name = record { near = s; far = t; edge = name; forward = true } ∷ []

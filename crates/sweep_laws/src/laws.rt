@@ -17,10 +17,8 @@ pub fn walks_merge()
 {}
 
 /// What ends in the course of a sweep over the levels of an edge list makes, with rounded ends, the edges of merged
-/// pieces
-/// of the border; from these, in whatever order, cancelling and joining make the outlines, and they are balanced where
-/// the
-/// edges of each leaf are.
+/// pieces of the border; from these, in whatever order, cancelling and joining make the outlines, and they are
+/// balanced where the edges of each leaf are.
 pub fn sweeps_merge()
     ensures merge { SweepsMerge }
     ensures outlines { MergedEdgesMakeOutlines }
@@ -53,8 +51,7 @@ pub fn places_are_stops()
 {}
 
 /// Where the edges of each leaf are balanced and no flat edge leads from a place to its right, the headings of each
-/// leaf's
-/// edges to the right have one sum below the height and above it, and a shape one value.
+/// leaf's edges to the right have one sum below the height and above it, and a shape one value.
 pub fn headings_are_balanced()
     ensures headings { HeadingsAreBalanced }
     ensures values { ValuesAreKept }
@@ -67,9 +64,8 @@ pub fn values_go_on()
     ensures all { ValuesGoOn }
 {}
 
-/// A front is lifted over a height by places that its edges meet, with new strands that have their values, if the ways
-/// pass
-/// at each place; where nothing leads from place to place, it's enough that the strands' ways pass.
+/// A front is lifted over a height by places that its edges meet, with new strands that have their values, if the
+/// ways pass at each place; where nothing leads from place to place, it's enough that the strands' ways pass.
 pub fn steps_lift()
     ensures lift { StepsLift }
     ensures plain { PlainHeightsPass }
