@@ -1,0 +1,12 @@
+pub mod Ways
+pub mod Visits
+pub mod Fronts
+pub mod Crossing
+pub mod Sweeps
+pub mod Balance
+pub mod Staying
+pub mod Stops
+pub mod Values
+pub mod Edges
+pub mod Steps
+pub mod Plain
