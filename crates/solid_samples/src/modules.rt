@@ -40,7 +40,7 @@ fn arg(alloc: Global, name: &[u8]) -> Result<Arg, Fail> {
 
 #[test]
 fn names_have_meanings(rt: HostRuntime) {
-    for (name, meaning) in [
+    for &(name, meaning) in &[
         ("cube", Name::Known(Module::Shape(Shape::Cube))),
         ("square", Name::Known(Module::Flat(Flat::Square))),
         ("render", Name::Known(Module::Union)),
@@ -96,7 +96,7 @@ fn arguments_give_primitives_and_these_solids(rt: HostRuntime) -> Result<(), Fai
         fs: value(2),
     };
     let m = translate(number(0), number(0), number(0));
-    for (shape, count) in [
+    for &(shape, count) in &[
         (Shape::Cube, 12),
         (Shape::Sphere, 12),
         (Shape::Cylinder, 12),
@@ -120,7 +120,7 @@ fn arguments_give_outlines_and_their_points(rt: HostRuntime) -> Result<(), Fail>
         fa: value(12),
         fs: value(2),
     };
-    for (flat, points) in [(Flat::Square, 4), (Flat::Circle, 5)] {
+    for &(flat, points) in &[(Flat::Square, 4), (Flat::Circle, 5)] {
         let outlines = outlines_of(alloc, flat, &fine, &args, &[value(3)])?;
         assert_eq!(rt; outlines.len(), 1);
         for outline in &outlines {

@@ -22,7 +22,7 @@ fn edge(ax: i32, ay: i32, bx: i32, by: i32) -> Edge {
 #[test]
 fn cuts_a_tetrahedron_but_for_what_rounds_to_a_point(rt: HostRuntime) -> Result<(), Fail> {
     let solid = tetrahedron(rt.alloc())?;
-    for (layer, size) in [(0, 899), (4, 99)] {
+    for &(layer, size) in &[(0, 899), (4, 99)] {
         let edges = section(rt.alloc(), &solid, layer, 200)?;
         let want = [
             edge(size, 0, 0, 0),
@@ -31,7 +31,7 @@ fn cuts_a_tetrahedron_but_for_what_rounds_to_a_point(rt: HostRuntime) -> Result<
         ];
         assert_eq!(rt; edges.as_slice(), want.as_slice(), "layer {layer}");
     }
-    for (layer, h) in [(5, 200), (999, 1), (0, 1999), (u32::MAX, u32::MAX)] {
+    for &(layer, h) in &[(5, 200), (999, 1), (0, 1999), (u32::MAX, u32::MAX)] {
         assert_eq!(rt;
             section(rt.alloc(), &solid, layer, h)?.len(),
             0,
@@ -44,7 +44,7 @@ fn cuts_a_tetrahedron_but_for_what_rounds_to_a_point(rt: HostRuntime) -> Result<
 #[test]
 fn contains_what_the_exact_cuts_wind_round(rt: HostRuntime) -> Result<(), Fail> {
     let solid = tetrahedron(rt.alloc())?;
-    for (layer, x, y, half, inside) in [
+    for &(layer, x, y, half, inside) in &[
         (0, 450, 449, Half::Whole, true),
         (0, 450, 450, Half::Whole, false),
         (0, 449, 449, Half::Cell, true),

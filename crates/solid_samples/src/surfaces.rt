@@ -44,7 +44,7 @@ fn refuses_by_range_then_index_then_surface(rt: HostRuntime) -> Result<(), Fail>
     let bad = faces(alloc, &[[0, 1, 2], [0, 7, 9], [1, 3, 2]])?;
     let mut far = TETRAHEDRON;
     far[3].z = -1_000_001;
-    for (points, faces, want) in [
+    for &(points, faces, want) in &[
         (TETRAHEDRON, &open, SolidFault::NotClosed),
         (TETRAHEDRON, &turned, SolidFault::NotClosed),
         (TETRAHEDRON, &bad, SolidFault::BadIndex(7)),
@@ -61,7 +61,7 @@ fn refuses_by_range_then_index_then_surface(rt: HostRuntime) -> Result<(), Fail>
 #[test]
 fn takes_a_metre_and_refuses_a_micrometre_more(rt: HostRuntime) -> Result<(), Fail> {
     let faces = faces(rt.alloc(), &SIDES)?;
-    for (size, want) in [
+    for &(size, want) in &[
         (1_000_000, None),
         (-1_000_000, None),
         (1_000_001, Some(SolidFault::CoordinateRange)),

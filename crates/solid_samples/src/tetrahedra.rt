@@ -37,7 +37,7 @@ fn has_the_layers_below_its_top(rt: HostRuntime) -> Result<(), Fail> {
     let alloc = rt.alloc();
     let carved = carved(alloc)?;
     assert_eq!(rt; carved.top(), Some(1000));
-    for (h, layers) in [(200, 5), (1, 1000), (1999, 1), (2000, 0), (u32::MAX, 0)] {
+    for &(h, layers) in &[(200, 5), (1, 1000), (1999, 1), (2000, 0), (u32::MAX, 0)] {
         assert_eq!(rt; carved.layers(h), layers, "of {h}");
     }
     let shared = intersect(alloc, trees(alloc, &[400, 300])?)?;
@@ -50,7 +50,7 @@ fn has_the_layers_below_its_top(rt: HostRuntime) -> Result<(), Fail> {
 #[test]
 fn contains_what_is_left(rt: HostRuntime) -> Result<(), Fail> {
     let carved = carved(rt.alloc())?;
-    for (layer, x, y, inside) in [
+    for &(layer, x, y, inside) in &[
         (1, 0, 0, false),
         (1, 98, 100, false),
         (1, 99, 100, true),

@@ -66,7 +66,7 @@ fn radii(alloc: Global, n: u32) -> Result<String, Fail> {
 
 #[test]
 fn radii_of_samples(rt: HostRuntime) -> Result<(), Fail> {
-    for (n, want) in [
+    for &(n, want) in &[
         (
             0,
             " 2.000 3.463 3.986 4.112 5.498 2.923 2.041 5.737 2.119 2.408 2.258 5.046 \

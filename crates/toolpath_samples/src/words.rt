@@ -52,7 +52,7 @@ fn told(alloc: Global, job: &Result<Job, WordFault>) -> Result<String, Fail> {
 
 #[test]
 fn words_of_the_form_give_a_job(rt: HostRuntime) -> Result<(), Fail> {
-    for (line, want) in [
+    for &(line, want) in &[
         ("check a", "check a by  with 1"),
         ("tree a", "tree a by  with 1"),
         ("slice a b", "slice a b by  with 1"),
@@ -198,7 +198,7 @@ fn other_words_are_a_usage_fault(rt: HostRuntime) -> Result<(), Fail> {
 
 #[test]
 fn a_text_gives_the_keys_that_it_has(rt: HostRuntime) -> Result<(), Fail> {
-    for (text, walls, layer_height) in [
+    for &(text, walls, layer_height) in &[
         ("", 2, 200),
         ("\u{feff}# none\r\n", 2, 200),
         ("walls = 1", 1, 200),
@@ -220,7 +220,7 @@ fn a_text_gives_the_keys_that_it_has(rt: HostRuntime) -> Result<(), Fail> {
 
 #[test]
 fn the_first_fault_of_a_text_is_told(rt: HostRuntime) -> Result<(), Fail> {
-    for (text, kind, key, value) in [
+    for &(text, kind, key, value) in &[
         ("walls = ", SetKind::NotToml, "", 0),
         ("walls = 1\nwalls = 1", SetKind::NotToml, "", 0),
         ("walls = 99999999999999999999", SetKind::NotToml, "", 0),
