@@ -163,16 +163,16 @@ fn is_text(read: &Result<Text, ReadEnd>, wanted: &[u8]) -> bool {
     }
 }
 
+fn is_created(rt: &impl Abort, alloc: Global, name_len: usize) -> bool {
+    let name = long_name(alloc, name_len).expect(rt, "a name");
+    let mut desk = desk(rt, alloc, &[], 0);
+    desk.create(Out::Cli, name.as_str()).is_ok()
+}
+
 #[test]
 fn a_name_past_its_room_fails_at_create(rt: HostRuntime) {
-    for &(len, fits) in &[(4_096, true), (4_097, false)] {
-        let name = long_name(rt.alloc(), len).expect(&rt, "a name");
-        let mut desk = desk(&rt, rt.alloc(), &[], 0);
-        assert!(rt;
-            desk.create(Out::Cli, name.as_str()).is_ok() == fits,
-            "{len} bytes"
-        );
-    }
+    assert!(rt; is_created(&rt, rt.alloc(), 4_096));
+    assert!(rt; !is_created(&rt, rt.alloc(), 4_097));
 }
 
 #[test]
@@ -225,16 +225,20 @@ fn a_piece_is_written_whole_or_in_part(rt: HostRuntime) {
 }
 
 #[test]
-fn a_desk_that_keeps_nothing_takes_all(rt: HostRuntime) {
+fn a_desk_that_keeps_nothing_reads_nothing(rt: HostRuntime) {
     let mut desk = NullDesk::new();
     assert!(rt; desk.open("a.scad").is_ok());
-    let text = read_all(rt.alloc(), &mut desk, None).expect(&rt, "a text");
-    assert!(rt; text.as_slice().is_empty());
+    let read = read_all(rt.alloc(), &mut desk, None);
+    assert!(rt; matches!(read, Ok(text) if text.as_slice().is_empty()));
+}
+
+#[test]
+fn a_desk_that_keeps_nothing_takes_all(rt: HostRuntime) {
+    let mut desk = NullDesk::new();
     assert!(rt; desk.create(Out::Gcode, "o.gcode").is_ok());
     assert!(rt; desk.create(Out::Cli, "o.cli").is_ok());
-    let piece = [b'x'; LONG];
-    assert_eq!(rt; desk.write(Out::Report, &piece).ok(), Some(LONG));
-    assert_eq!(rt; desk.write(Out::Gcode, &piece).ok(), Some(LONG));
+    assert!(rt; matches!(desk.write(Out::Report, &[b'x'; LONG]), Ok(LONG)));
+    assert!(rt; matches!(desk.write(Out::Gcode, &[b'x'; LONG]), Ok(LONG)));
     assert!(rt; write_all(&mut desk, Out::Cli, b"$$HEADERSTART\n").is_ok());
 }
 
