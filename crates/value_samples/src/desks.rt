@@ -229,7 +229,7 @@ fn a_desk_that_keeps_nothing_reads_nothing(rt: HostRuntime) {
     let mut desk = NullDesk::new();
     assert!(rt; desk.open("a.scad").is_ok());
     let read = read_all(rt.alloc(), &mut desk, None);
-    assert!(rt; matches!(read, Ok(text) if text.as_slice().is_empty()));
+    assert!(rt; is_text(&read, b""));
 }
 
 #[test]
