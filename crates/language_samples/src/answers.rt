@@ -1,7 +1,6 @@
 //! Short sources, and that each is a program or its first fault.
 
-use crate::parse_answer::answer;
-use std::test::Fail;
+use crate::parse_answer::is_answered;
 
 /// A source, and behind `~` that it is a program or the first fault.
 const ROWS: &str = "cube(1); ~ program
@@ -165,13 +164,9 @@ x = assert(false, \"t\") a; ~ program
 x = a < b == c > d; ~ program";
 
 #[test]
-fn sources_are_programs_or_have_their_first_fault(rt: HostRuntime) -> Result<(), Fail> {
+fn sources_are_programs_or_have_their_first_fault(rt: HostRuntime) {
     for row in ROWS.lines() {
-        let (source, wanted) = row.split_once(" ~ ").ok_or("no row")?;
-        let source = source.as_bytes();
-        assert!(rt; source.len() < 10000);
-        let text = answer(rt.alloc(), source)?;
-        assert_eq!(rt; text.as_str(), wanted, "{row}");
+        let (source, wanted) = row.split_once(" ~ ").unwrap_or((row, ""));
+        assert!(rt; is_answered(rt.alloc(), source.as_bytes(), wanted), "{row}");
     }
-    Ok(())
 }

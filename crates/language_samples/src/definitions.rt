@@ -4,7 +4,6 @@ use scad_ast::{Expr, Item, Node, Scope};
 use scad_fault::{Place, Text};
 use scad_scope::Frames;
 use std::alloc::{AllocError, Global};
-use std::test::Fail;
 
 /// The kinds of items: `name = undef;`, `function name() = undef;` and `module name() { }`.
 #[derive(Clone, Copy)]
@@ -51,62 +50,77 @@ fn line_of(found: Option<&Item>) -> u32 {
     }
 }
 
-fn is_function(frames: &mut Frames, at: u32, name: &[u8], line: u32) -> Result<bool, AllocError> {
-    Ok(line_of(frames.function(at, name)?) == line)
-}
-
-fn is_module(frames: &mut Frames, at: u32, name: &[u8], line: u32) -> Result<bool, AllocError> {
-    Ok(line_of(frames.module(at, name)?) == line)
-}
-
 /// Ten items, where three names stand for more than one thing.
-fn many(alloc: Global) -> Result<Scope, AllocError> {
-    let items: [(Kind, &[u8]); 10] = [
-        (Kind::Function, b"f"),
-        (Kind::Module, b"f"),
-        (Kind::Variable, b"f"),
-        (Kind::Function, b"g"),
-        (Kind::Function, b"f"),
-        (Kind::Module, b"m"),
-        (Kind::Module, b"m"),
-        (Kind::Variable, b"m"),
-        (Kind::Function, b"ff"),
-        (Kind::Variable, b"v"),
-    ];
-    scope_of(alloc, &items)
+const MANY: [(Kind, &[u8]); 10] = [
+    (Kind::Function, b"f"),
+    (Kind::Module, b"f"),
+    (Kind::Variable, b"f"),
+    (Kind::Function, b"g"),
+    (Kind::Function, b"f"),
+    (Kind::Module, b"m"),
+    (Kind::Module, b"m"),
+    (Kind::Variable, b"m"),
+    (Kind::Function, b"ff"),
+    (Kind::Variable, b"v"),
+];
+
+const FEW: [(Kind, &[u8]); 2] = [(Kind::Module, b"m"), (Kind::Function, b"f")];
+
+/// A function or a module, the number of a frame, a name, and the line where it is defined: the frame 0 has the ten items,
+/// 1 has two, 2 none, and there is no 3.
+const FOUND: [(Kind, u32, &[u8], u32); 14] = [
+    (Kind::Function, 0, b"f", 5),
+    (Kind::Function, 0, b"g", 4),
+    (Kind::Function, 0, b"ff", 9),
+    (Kind::Function, 0, b"m", 0),
+    (Kind::Function, 0, b"v", 0),
+    (Kind::Module, 0, b"f", 2),
+    (Kind::Module, 0, b"m", 7),
+    (Kind::Module, 0, b"g", 0),
+    (Kind::Function, 1, b"f", 2),
+    (Kind::Function, 1, b"g", 0),
+    (Kind::Module, 1, b"f", 0),
+    (Kind::Module, 1, b"m", 1),
+    (Kind::Function, 2, b"f", 0),
+    (Kind::Module, 3, b"m", 0),
+];
+
+fn is_found(frames: &mut Frames, kind: Kind, at: u32, name: &[u8], line: u32) -> bool {
+    let found = match kind {
+        Kind::Variable => Ok(None),
+        Kind::Function => frames.function(at, name),
+        Kind::Module => frames.module(at, name),
+    };
+    match found {
+        Ok(item) => line_of(item) == line,
+        Err(_) => false,
+    }
 }
 
-/// What the frames 0 and 1 find: the first by the ten items, the second by two.
-fn are_found(frames: &mut Frames) -> Result<bool, AllocError> {
-    let first = is_function(frames, 0, b"f", 5)?
-        && is_function(frames, 0, b"g", 4)?
-        && is_function(frames, 0, b"ff", 9)?
-        && is_function(frames, 0, b"m", 0)?
-        && is_function(frames, 0, b"v", 0)?
-        && is_module(frames, 0, b"f", 2)?
-        && is_module(frames, 0, b"m", 7)?
-        && is_module(frames, 0, b"g", 0)?;
-    let second = is_function(frames, 1, b"f", 2)?
-        && is_function(frames, 1, b"g", 0)?
-        && is_module(frames, 1, b"f", 0)?
-        && is_module(frames, 1, b"m", 1)?;
-    let none = is_function(frames, 2, b"f", 0)? && is_module(frames, 3, b"m", 0)?;
-    Ok(first && second && none)
+fn are_found(frames: &mut Frames) -> bool {
+    for &(kind, at, name, line) in &FOUND {
+        if !is_found(frames, kind, at, name, line) {
+            return false;
+        }
+    }
+    true
+}
+
+fn frames_of<'p>(alloc: Global, many: &'p Scope, few: &'p Scope) -> Result<Frames<'p>, AllocError> {
+    let mut frames = Frames::new(alloc);
+    frames.push(None, Some(many), None)?;
+    frames.push(Some(0), Some(few), None)?;
+    frames.push(Some(1), None, None)?;
+    Ok(frames)
 }
 
 #[test]
-fn the_last_definition_of_a_name_is_found(rt: HostRuntime) -> Result<(), Fail> {
-    let alloc = rt.alloc();
-    let all = many(alloc)?;
-    let items: [(Kind, &[u8]); 2] = [(Kind::Module, b"m"), (Kind::Function, b"f")];
-    let few = scope_of(alloc, &items)?;
-    let mut frames = Frames::new(alloc);
-    frames.push(None, Some(&all), None)?;
-    frames.push(Some(0), Some(&few), None)?;
-    frames.push(Some(1), None, None)?;
+fn the_last_definition_of_a_name_is_found(rt: HostRuntime) {
+    let many = scope_of(rt.alloc(), &MANY).expect(&rt, "ten items");
+    let few = scope_of(rt.alloc(), &FEW).expect(&rt, "two items");
+    let mut frames = frames_of(rt.alloc(), &many, &few).expect(&rt, "frames");
     // often enough that the first frame makes its tables on the way
     'rounds: for round in 0..5 {
-        assert!(rt; are_found(&mut frames)?, "in round {round}");
+        assert!(rt; are_found(&mut frames), "in round {round}");
     }
-    Ok(())
 }

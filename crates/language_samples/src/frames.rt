@@ -6,7 +6,6 @@ use scad_num::Num;
 use scad_scope::{Binding, Bindings, Frames, Kept, bindings};
 use scad_value::{Value, equal};
 use std::alloc::{AllocError, Global};
-use std::test::Fail;
 
 /// `name = undef;`
 fn assignment(alloc: Global, name: &[u8]) -> Result<Item, AllocError> {
@@ -57,20 +56,27 @@ fn are_bindings(found: &Bindings, names: &[&[u8]], items: &[usize]) -> bool {
     true
 }
 
+/// Whether these are the variables of a scope that assigns such names.
+fn are_found(alloc: Global, assigned: &[&[u8]], names: &[&[u8]], items: &[usize]) -> bool {
+    let Ok(scope) = scope_of(alloc, assigned) else {
+        return false;
+    };
+    match bindings(alloc, &scope) {
+        Ok(found) => are_bindings(&found, names, items),
+        Err(_) => false,
+    }
+}
+
 #[test]
-fn last_assignments_in_the_order_of_the_first(rt: HostRuntime) -> Result<(), Fail> {
+fn last_assignments_in_the_order_of_the_first(rt: HostRuntime) {
     let alloc = rt.alloc();
-    let none = scope_of(alloc, &[])?;
-    assert!(rt; bindings(alloc, &none)?.as_slice().is_empty());
+    assert!(rt; are_found(alloc, &[], &[], &[]));
     // a = ..; b = ..; a = ..; c = ..; b = ..; with functions between
-    let scope = scope_of(alloc, &[b"a", b"", b"b", b"a", b"", b"c", b"b"])?;
-    let found = bindings(alloc, &scope)?;
-    assert!(rt; are_bindings(&found, &[b"a", b"b", b"c"], &[3, 6, 5]));
+    let assigned: &[&[u8]] = &[b"a", b"", b"b", b"a", b"", b"c", b"b"];
+    assert!(rt; are_found(alloc, assigned, &[b"a", b"b", b"c"], &[3, 6, 5]));
     // names that begin alike are different names
-    let scope = scope_of(alloc, &[b"ab", b"a", b"$a", b"ab"])?;
-    let found = bindings(alloc, &scope)?;
-    assert!(rt; are_bindings(&found, &[b"ab", b"a", b"$a"], &[3, 1, 2]));
-    Ok(())
+    let assigned: &[&[u8]] = &[b"ab", b"a", b"$a", b"ab"];
+    assert!(rt; are_found(alloc, assigned, &[b"ab", b"a", b"$a"], &[3, 1, 2]));
 }
 
 fn number(z: i64) -> Value {
@@ -88,40 +94,62 @@ fn has(frames: &Frames, from: u32, name: &[u8], z: i64) -> bool {
     }
 }
 
-#[test]
-fn names_are_sought_outwards(rt: HostRuntime) -> Result<(), Fail> {
-    let alloc = rt.alloc();
-    let scope = scope_of(alloc, &[b"a"])?;
+/// Two frames inside one, and the numbers of the three. In the outer one a is 1 and b is 2, in the first inside it a is 3,
+/// in the second c is 4; the outer one has a scope, which the last one keeps as children that were written in the second.
+fn nested<'p>(alloc: Global, scope: &'p Scope) -> Result<(Frames<'p>, [u32; 3]), AllocError> {
     let mut frames = Frames::new(alloc);
-    assert_eq!(rt; frames.len(), 0);
-    assert!(rt; frames.get(0, b"a").is_none());
-    // 0: a = 1, b = 2; 1 inside 0: a = 3; 2 inside 0: c = 4
-    assert_eq!(rt; frames.push(None, Some(&scope), None)?, 0);
+    let outer = frames.push(None, Some(scope), None)?;
     frames.set(b"a", number(1))?;
     frames.set(b"b", number(2))?;
-    assert_eq!(rt; frames.push(Some(0), None, None)?, 1);
+    let first = frames.push(Some(outer), None, None)?;
     frames.set(b"a", number(9))?;
     frames.set(b"a", number(3))?;
-    let kept = Kept {
-        scope: &scope,
-        home: 1,
-    };
-    assert_eq!(rt; frames.push(Some(0), None, Some(kept))?, 2);
+    let kept = Kept { scope, home: first };
+    let second = frames.push(Some(outer), None, Some(kept))?;
     frames.set(b"c", number(4))?;
-    assert_eq!(rt; frames.len(), 3);
-    assert!(rt; has(&frames, 0, b"a", 1) && has(&frames, 1, b"a", 3) && has(&frames, 2, b"a", 1));
-    assert!(rt; has(&frames, 1, b"b", 2) && has(&frames, 2, b"b", 2) && has(&frames, 2, b"c", 4));
-    assert!(rt; frames.get(1, b"c").is_none() && frames.get(0, b"d").is_none());
-    assert!(rt; frames.parent(0).is_none() && frames.parent(2) == Some(0));
-    assert!(rt; frames.scope(0).is_some() && frames.scope(1).is_none());
-    assert!(rt; frames.kept(0).is_none());
-    match frames.kept(2) {
-        Some(k) => assert_eq!(rt; (k.home, k.scope.len()), (1, 1)),
-        None => assert!(rt; false),
-    }
+    Ok((frames, [outer, first, second]))
+}
+
+fn have_names(frames: &Frames) -> bool {
+    has(frames, 0, b"a", 1)
+        && has(frames, 1, b"a", 3)
+        && has(frames, 2, b"a", 1)
+        && has(frames, 1, b"b", 2)
+        && has(frames, 2, b"b", 2)
+        && has(frames, 2, b"c", 4)
+        && frames.get(1, b"c").is_none()
+        && frames.get(0, b"d").is_none()
+}
+
+fn have_children(frames: &Frames) -> bool {
+    let are_kept = match frames.kept(2) {
+        Some(k) => k.home == 1 && k.scope.len() == 1,
+        None => false,
+    };
+    are_kept && frames.kept(0).is_none()
+}
+
+fn have_surroundings(frames: &Frames) -> bool {
+    frames.parent(0).is_none()
+        && frames.parent(2) == Some(0)
+        && frames.scope(0).is_some()
+        && frames.scope(1).is_none()
+}
+
+#[test]
+fn names_are_sought_outwards(rt: HostRuntime) {
+    let scope = scope_of(rt.alloc(), &[b"a"]).expect(&rt, "a scope");
+    let (mut frames, numbers) = nested(rt.alloc(), &scope).expect(&rt, "frames");
+    assert!(rt; numbers == [0, 1, 2] && frames.len() == 3);
+    assert!(rt; have_names(&frames) && have_children(&frames) && have_surroundings(&frames));
     frames.pop();
     assert!(rt; frames.len() == 2 && frames.get(2, b"a").is_none());
-    Ok(())
+}
+
+#[test]
+fn no_frame_has_a_name(rt: HostRuntime) {
+    let frames = Frames::new(rt.alloc());
+    assert!(rt; frames.len() == 0 && frames.get(0, b"a").is_none());
 }
 
 /// Sets each of the names to a number.
@@ -132,23 +160,24 @@ fn set_all(frames: &mut Frames, names: &[&[u8]], z: i64) -> Result<(), AllocErro
     Ok(())
 }
 
-#[test]
-fn further_names_are_found_and_set(rt: HostRuntime) -> Result<(), Fail> {
-    let alloc = rt.alloc();
+const TEN: [&[u8]; 10] = [b"a", b"b", b"c", b"d", b"e", b"f", b"g", b"h", b"i", b"j"];
+
+/// A frame with ten names: eight lie in a list, two more in a map. One of each is set again.
+fn with_ten(alloc: Global) -> Result<Frames<'static>, AllocError> {
     let mut frames = Frames::new(alloc);
-    assert_eq!(rt; frames.push(None, None, None)?, 0);
-    // eight names lie in a list, two more in a map
-    set_all(
-        &mut frames,
-        &[b"a", b"b", b"c", b"d", b"e", b"f", b"g", b"h", b"i", b"j"],
-        1,
-    )?;
-    assert!(rt; has(&frames, 0, b"a", 1) && has(&frames, 0, b"h", 1) && has(&frames, 0, b"i", 1));
-    assert!(rt; has(&frames, 0, b"j", 1) && frames.get(0, b"k").is_none());
-    // one of each is set again, and none beside it
+    frames.push(None, None, None)?;
+    set_all(&mut frames, &TEN, 1)?;
     frames.set(b"h", number(2))?;
     frames.set(b"i", number(3))?;
-    assert!(rt; has(&frames, 0, b"h", 2) && has(&frames, 0, b"i", 3) && has(&frames, 0, b"j", 1));
-    assert!(rt; has(&frames, 0, b"a", 1) && has(&frames, 0, b"g", 1));
-    Ok(())
+    Ok(frames)
+}
+
+#[test]
+fn further_names_are_found_and_set(rt: HostRuntime) {
+    let frames = with_ten(rt.alloc()).expect(&rt, "frames");
+    assert!(rt; has(&frames, 0, b"h", 2) && has(&frames, 0, b"i", 3));
+    for &name in &[b"a", b"b", b"c", b"d", b"e", b"f", b"g", b"j"] {
+        assert!(rt; has(&frames, 0, name, 1));
+    }
+    assert!(rt; frames.get(0, b"k").is_none());
 }

@@ -1,6 +1,6 @@
 //! A construct in itself up to the limit, and once more.
 
-use crate::parse_answer::answer;
+use crate::parse_answer::is_answered;
 use std::alloc::{AllocError, Global};
 
 /// A line for each, with `~` between its parts: the front, what is opened, the middle, what closes it, the back, how many
@@ -65,15 +65,6 @@ fn nested(alloc: Global, row: &str, times: usize) -> Result<Vec<u8>, AllocError>
     Ok(source)
 }
 
-/// The answer to a source that is short enough is this one.
-fn is_answered(alloc: Global, source: &[u8], wanted: &str) -> bool {
-    source.len() < 10000
-        && match answer(alloc, source) {
-            Ok(text) => text.as_str() == wanted,
-            Err(_) => false,
-        }
-}
-
 /// The construct of a row is a program as often as it may stand in itself, and once more the row's fault.
 fn ends_at_the_limit(alloc: Global, row: &str) -> Result<bool, AllocError> {
     let (source, fault) = row.rsplit_once('~').unwrap_or((row, ""));
@@ -88,9 +79,11 @@ fn ends_at_the_limit(alloc: Global, row: &str) -> Result<bool, AllocError> {
 }
 
 #[test]
-fn two_hundred_constructs_may_stand_open(rt: HostRuntime) -> Result<(), AllocError> {
+fn two_hundred_constructs_may_stand_open(rt: HostRuntime) {
     for row in NESTED.lines() {
-        assert!(rt; ends_at_the_limit(rt.alloc(), row)?, "{row}");
+        assert!(rt;
+            ends_at_the_limit(rt.alloc(), row).unwrap_or(false),
+            "{row}"
+        );
     }
-    Ok(())
 }

@@ -24,11 +24,20 @@ fn shown(alloc: Global, tokens: &Tokens) -> Result<String, AllocError> {
 }
 
 /// What `lex` and `parse` answer to a source, as one text.
-pub(crate) fn answer(alloc: Global, source: &[u8]) -> Result<String, AllocError>
+fn answer(alloc: Global, source: &[u8]) -> Result<String, AllocError>
     requires { length source.now < 10000 }
 {
     match lex(alloc, source) {
         Ok(tokens) => shown(alloc, &tokens),
         Err(_) => format!(in alloc; "no tokens"),
     }
+}
+
+/// The answer to a source that is short enough is this one.
+pub(crate) fn is_answered(alloc: Global, source: &[u8], wanted: &str) -> bool {
+    source.len() < 10000
+        && match answer(alloc, source) {
+            Ok(text) => text.as_str() == wanted,
+            Err(_) => false,
+        }
 }

@@ -1,14 +1,11 @@
 //! The printed text of programs: operands stand in parentheses, bodies in braces.
 
-ghost use Rattle.std.specs.Prelude.{◌<◌, length};
-
 use crate::stand::STAND;
 use scad_ast::print;
 use scad_fault::Text;
 use scad_lex::lex;
 use scad_parse::parse;
 use std::alloc::{AllocError, Global};
-use std::test::Fail;
 
 /// A source of a program, and behind `~` the printed program without its line feeds.
 const PRINTED: &str = "x = a || b || c; ~ x = ( a || b ) || c ;
@@ -109,17 +106,14 @@ plate ( w - ( 2 * t ) , t , t ) ;
 }
 ";
 
-/// The printed text of the program that a source is.
-fn printed_text(alloc: Global, source: &[u8]) -> Result<Text, Fail>
-    requires { length source.now < 10000 }
-{
-    let Ok(tokens) = lex(alloc, source) else {
-        return Err(Fail::new("no tokens"));
-    };
-    match parse(alloc, &tokens) {
-        Ok(program) => Ok(print(alloc, &program)?),
-        Err(_) => Err(Fail::new("no program")),
+/// The printed text of the program that a source is; none where it is too long or no program.
+fn printed_text(alloc: Global, source: &[u8]) -> Option<Text> {
+    if source.len() >= 10000 {
+        return None;
     }
+    let tokens = lex(alloc, source).ok()?;
+    let program = parse(alloc, &tokens).ok()?;
+    print(alloc, &program).ok()
 }
 
 /// The text without its line feeds.
@@ -133,31 +127,36 @@ fn on_one_line(alloc: Global, text: &[u8]) -> Result<String, AllocError> {
     Ok(line)
 }
 
-#[test]
-fn printed_programs_show_what_belongs_together(rt: HostRuntime) -> Result<(), Fail> {
-    for row in PRINTED.lines() {
-        let (source, wanted) = row.split_once(" ~ ").ok_or("no row")?;
-        let source = source.as_bytes();
-        assert!(rt; source.len() < 10000);
-        let text = printed_text(rt.alloc(), source)?;
-        let line = on_one_line(rt.alloc(), text.as_slice())?;
-        assert_eq!(rt; line.as_str(), wanted, "{row}");
+fn is_printed(alloc: Global, row: &str) -> bool {
+    let (source, wanted) = row.split_once(" ~ ").unwrap_or((row, ""));
+    let Some(text) = printed_text(alloc, source.as_bytes()) else {
+        return false;
+    };
+    match on_one_line(alloc, text.as_slice()) {
+        Ok(line) => line.as_str() == wanted,
+        Err(_) => false,
     }
-    Ok(())
+}
+
+#[test]
+fn printed_programs_show_what_belongs_together(rt: HostRuntime) {
+    for row in PRINTED.lines() {
+        assert!(rt; is_printed(rt.alloc(), row), "{row}");
+    }
+}
+
+fn prints(alloc: Global, source: &str, wanted: &str) -> bool {
+    match printed_text(alloc, source.as_bytes()) {
+        Some(text) => text.as_slice() == wanted.as_bytes(),
+        None => false,
+    }
 }
 
 // What is printed tells the program, its places aside, so the same text again is the same program.
 #[test]
-fn printed_programs_are_the_same_programs(rt: HostRuntime) -> Result<(), Fail> {
-    for (source, wanted) in [(STAND, PRINTED_STAND), (SMALL, PRINTED_SMALL)] {
-        let source = source.as_bytes();
-        assert!(rt; source.len() < 10000);
-        let text = printed_text(rt.alloc(), source)?;
-        let text = text.as_slice();
-        assert_eq!(rt; text, wanted.as_bytes());
-        assert!(rt; text.len() < 10000);
-        let again = printed_text(rt.alloc(), text)?;
-        assert_eq!(rt; again.as_slice(), text);
+fn printed_programs_are_the_same_programs(rt: HostRuntime) {
+    for &(source, wanted) in &[(STAND, PRINTED_STAND), (SMALL, PRINTED_SMALL)] {
+        assert!(rt; prints(rt.alloc(), source, wanted));
+        assert!(rt; prints(rt.alloc(), wanted, wanted));
     }
-    Ok(())
 }

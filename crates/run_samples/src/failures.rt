@@ -206,7 +206,7 @@ fn each_call_failing_in_turn(rt: HostRuntime) -> Result<(), Fail> {
 fn a_sample_with_a_failing_report(rt: HostRuntime) -> Result<(), Fail> {
     let alloc = rt.alloc();
     for workers in [1, 2, 64] {
-        for (call, code) in [(0, 5), (1, 0)] {
+        for &(call, code) in &[(0, 5), (1, 0)] {
             let line = sample_of_plate(&rt, alloc, workers)?;
             expect_reported(&rt, alloc, line, call, code)?;
         }
@@ -323,7 +323,7 @@ fn lengthened(alloc: Global, front: &str, unit: char, times: u32) -> Result<Stri
 #[test]
 fn sources_that_ask_for_too_much(rt: HostRuntime) -> Result<(), Fail> {
     let alloc = rt.alloc();
-    for (front, unit, times, code, report) in HOSTILE {
+    for &(front, unit, times, code, report) in &HOSTILE {
         let source = lengthened(alloc, front, unit, times)?;
         let answer = checked(&rt, alloc, source.as_bytes())?;
         expect(&rt, &answer, code, report, front);

@@ -44,7 +44,7 @@ const JUDGED: [(&str, u8, &str); 6] = [
 #[test]
 fn settings_are_judged(rt: HostRuntime) -> Result<(), Fail> {
     let alloc = rt.alloc();
-    for (settings, code, report) in JUDGED {
+    for &(settings, code, report) in &JUDGED {
         let words = ["check", "m.scad", "--settings", "s.toml"];
         let answer = settled(&rt, alloc, &words, settings.as_bytes(), b"cube(1);")?;
         expect(&rt, &answer, code, report, settings);
@@ -68,7 +68,7 @@ const BEFORE: [(&str, &str, u8, &str); 4] = [
 #[test]
 fn settings_go_before_the_source(rt: HostRuntime) -> Result<(), Fail> {
     let alloc = rt.alloc();
-    for (model, settings, code, report) in BEFORE {
+    for &(model, settings, code, report) in &BEFORE {
         let words = ["check", model, settings];
         let answer = settled(&rt, alloc, &words, b"walls", b"cube(")?;
         expect(&rt, &answer, code, report, settings);

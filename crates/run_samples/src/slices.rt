@@ -130,7 +130,7 @@ fn sliced<R: Threads + Sync>(
 #[test]
 fn trees_sliced(rt: HostRuntime) -> Result<(), Fail> {
     let alloc = rt.alloc();
-    for (source, count, loops, layers) in SLICED {
+    for &(source, count, loops, layers) in &SLICED {
         let answer = sliced(&rt, alloc, source, Vec::new(alloc), ROOM)?;
         let report = format!(in alloc; "done: {count} layers, {loops} loops\n")?;
         expect(&rt, &answer, 0, report.as_str(), source);
@@ -157,7 +157,7 @@ const REFUSED: [(&str, &str); 4] = [
 #[test]
 fn refused(rt: HostRuntime) -> Result<(), Fail> {
     let alloc = rt.alloc();
-    for (source, report) in REFUSED {
+    for &(source, report) in &REFUSED {
         let answer = sliced(&rt, alloc, source, Vec::new(alloc), ROOM)?;
         expect(&rt, &answer, 1, report, source);
         assert!(rt; answer.cli.is_empty() && answer.faults == 0, "{source}");

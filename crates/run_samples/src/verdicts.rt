@@ -96,7 +96,7 @@ const WIDTHS: [(&str, u8, &str); 4] = [
 #[test]
 fn the_width_of_a_line_decides(rt: HostRuntime) -> Result<(), Fail> {
     let alloc = rt.alloc();
-    for (settings, code, report) in WIDTHS {
+    for &(settings, code, report) in &WIDTHS {
         let case = Case { settings, ..PLATE };
         expect_answer(&rt, alloc, &BY_SETTINGS, &case, code, report)?;
     }
@@ -143,7 +143,7 @@ fn the_first_line_that_is_not_of_the_form_goes_before_a_move_outside(
     rt: HostRuntime,
 ) -> Result<(), Fail> {
     let alloc = rt.alloc();
-    for (old, new, code, report) in PROGRAMS {
+    for &(old, new, code, report) in &PROGRAMS {
         let program = turned(alloc, PLATE_PROGRAM, old, new)?;
         let case = Case {
             program: program.as_str(),
@@ -177,7 +177,7 @@ const OUTLINES: [(&str, &str, &str); 3] = [
 #[test]
 fn outlines_are_judged_before_the_program(rt: HostRuntime) -> Result<(), Fail> {
     let alloc = rt.alloc();
-    for (old, new, report) in OUTLINES {
+    for &(old, new, report) in &OUTLINES {
         let outlines = turned(alloc, PLATE_OUTLINES, old, new)?;
         let case = Case {
             outlines: outlines.as_str(),

@@ -119,7 +119,7 @@ const MEETINGS: [(u32, &str, u64); 5] = [
 #[test]
 fn each_worker_has_a_layer_at_once(rt: HostRuntime) -> Result<(), Fail> {
     let alloc = rt.alloc();
-    for (from, workers, wanted) in MEETINGS {
+    for &(from, workers, wanted) in &MEETINGS {
         let words = ["plan", "m.scad", "o.cli", "o.gcode", "--workers", workers];
         let gate = Meeting {
             from,

@@ -92,7 +92,7 @@ fn is_placed(m: &Matrix, x: i32, y: i32, z: i32, wanted: Pt3) -> bool {
 #[test]
 fn places_the_corners_of_a_turned_cube(rt: HostRuntime) {
     let m = turn(Axis::Z, 45000);
-    for (x, y, want_x, want_y) in [
+    for &(x, y, want_x, want_y) in &[
         (0, 0, 0, 0),
         (10_000_000, 0, 7071, 7071),
         (10_000_000, 10_000_000, 0, 14142),

@@ -17,7 +17,7 @@ fn straight() -> Matrix {
 #[test]
 fn takes_a_metre_and_refuses_what_rounds_to_more(rt: HostRuntime) {
     let one = number(1_000_000);
-    for (size, fits) in [
+    for &(size, fits) in &[
         (1_000_000_000, true),
         (1_000_000_499, true),
         (1_000_000_500, false),
@@ -88,7 +88,7 @@ fn makes_round_and_flat_solids_of_so_many_triangles(rt: HostRuntime) {
 #[test]
 fn sheets_have_the_triangles_of_cubes(rt: HostRuntime) {
     let (no, one) = (number(0), number(1_000_000));
-    for (x, y, z) in [(no, one, one), (one, no, one), (one, one, no)] {
+    for &(x, y, z) in &[(no, one, one), (one, no, one), (one, one, no)] {
         let sheet = cube(rt.alloc(), x, y, z, true, &straight()).expect(&rt, "a sheet");
         assert!(rt; sheet.count() == 12);
     }

@@ -1,56 +1,70 @@
 //! A tetrahedron with others carved out of it, asked everything that a tree tells.
 
 use crate::trees::trees;
-use scad_geom::{Half, LeafEdge, Pt, Shape, holds};
+use scad_geom::{Half, LeafEdge, Pt, Pt3, Shape, holds};
 use scad_tree::{Tree, intersect, subtract, unite};
 use std::alloc::Global;
-use std::test::Fail;
 
-// One of 1,000 without one of 500 and without what those of 400 and 300 share.
-fn carved(alloc: Global) -> Result<Tree, Fail> {
+// What those of 400 and 300 share.
+fn shared(alloc: Global) -> Option<Tree> {
+    intersect(alloc, trees(alloc, &[400, 300])?).ok()
+}
+
+// One of 1,000 without one of 500 and without what is shared.
+fn carved(alloc: Global) -> Option<Tree> {
     let mut members = trees(alloc, &[1000, 500])?;
-    members.push(intersect(alloc, trees(alloc, &[400, 300])?)?)?;
-    Ok(subtract(alloc, members)?)
+    members.push(shared(alloc)?).ok()?;
+    subtract(alloc, members).ok()
 }
 
-#[test]
-fn prints_what_it_is_made_of(rt: HostRuntime) -> Result<(), Fail> {
-    let alloc = rt.alloc();
+// One of 1,000 beside it.
+fn beside_carved(alloc: Global) -> Option<Tree> {
     let mut members = trees(alloc, &[1000])?;
-    members.push(carved(alloc)?)?;
-    let tree = unite(alloc, members)?;
-    assert_eq!(rt; tree.nesting(), 4);
-    assert_eq!(rt; (tree.leaves(), tree.triangles()), (5, 20));
-    let text =
-        b"union\n  leaf 0: 4 triangles\n  difference\n    leaf 1: 4 triangles\n    leaf 2: 4 triangles\n    \
-        intersection\n      leaf 3: 4 triangles\n      leaf 4: 4 triangles\n";
-    assert_eq!(rt; tree.print(alloc)?.as_slice(), text.as_slice());
-    assert_eq!(rt;
-        Tree::empty().print(alloc)?.as_slice(),
-        b"empty\n".as_slice()
-    );
-    Ok(())
+    members.push(carved(alloc)?).ok()?;
+    unite(alloc, members).ok()
 }
 
-#[test]
-fn has_the_layers_below_its_top(rt: HostRuntime) -> Result<(), Fail> {
-    let alloc = rt.alloc();
-    let carved = carved(alloc)?;
-    assert_eq!(rt; carved.top(), Some(1000));
-    for (h, layers) in [(200, 5), (1, 1000), (1999, 1), (2000, 0), (u32::MAX, 0)] {
-        assert_eq!(rt; carved.layers(h), layers, "of {h}");
+const PRINTED: &[u8] =
+    b"union\n  leaf 0: 4 triangles\n  difference\n    leaf 1: 4 triangles\n    leaf 2: 4 triangles\n    \
+    intersection\n      leaf 3: 4 triangles\n      leaf 4: 4 triangles\n";
+
+fn prints(alloc: Global, tree: &Tree, wanted: &[u8]) -> bool {
+    match tree.print(alloc) {
+        Ok(text) => text.as_slice() == wanted,
+        Err(_) => false,
     }
-    let shared = intersect(alloc, trees(alloc, &[400, 300])?)?;
-    assert_eq!(rt; shared.top(), Some(300));
-    assert_eq!(rt; (shared.layers(599), shared.layers(600)), (1, 0));
-    assert_eq!(rt; (Tree::empty().top(), Tree::empty().layers(1)), (None, 0));
-    Ok(())
 }
 
 #[test]
-fn contains_what_is_left(rt: HostRuntime) -> Result<(), Fail> {
-    let carved = carved(rt.alloc())?;
-    for (layer, x, y, inside) in [
+fn prints_what_it_is_made_of(rt: HostRuntime) {
+    let tree = beside_carved(rt.alloc()).expect(&rt, "a tree");
+    assert!(rt; tree.nesting() == 4 && tree.leaves() == 5 && tree.triangles() == 20);
+    assert!(rt; prints(rt.alloc(), &tree, PRINTED));
+    assert!(rt; prints(rt.alloc(), &Tree::empty(), b"empty\n"));
+}
+
+#[test]
+fn has_the_layers_below_its_top(rt: HostRuntime) {
+    let carved = carved(rt.alloc()).expect(&rt, "a tree");
+    assert!(rt; carved.top() == Some(1000));
+    for &(h, layers) in &[(200, 5), (1, 1000), (1999, 1), (2000, 0), (u32::MAX, 0)] {
+        assert!(rt; carved.layers(h) == layers, "of {h}");
+    }
+}
+
+#[test]
+fn has_the_layers_below_the_lowest_of_its_members(rt: HostRuntime) {
+    let shared = shared(rt.alloc()).expect(&rt, "a tree");
+    assert!(rt; shared.top() == Some(300));
+    assert!(rt; shared.layers(599) == 1 && shared.layers(600) == 0);
+    let none = Tree::empty();
+    assert!(rt; none.top().is_none() && none.layers(1) == 0);
+}
+
+#[test]
+fn contains_what_is_left(rt: HostRuntime) {
+    let carved = carved(rt.alloc()).expect(&rt, "a tree");
+    for &(layer, x, y, inside) in &[
         (1, 0, 0, false),
         (1, 98, 100, false),
         (1, 99, 100, true),
@@ -59,67 +73,109 @@ fn contains_what_is_left(rt: HostRuntime) -> Result<(), Fail> {
         (2, 0, 0, true),
         (5, 0, 0, false),
     ] {
-        assert_eq!(rt;
-            carved.contains_at(layer, 200, Pt { x, y }, Half::Cell),
-            inside,
+        assert!(rt;
+            carved.contains_at(layer, 200, Pt { x, y }, Half::Cell) == inside,
             "at {x}, {y} of layer {layer}"
         );
     }
-    Ok(())
+}
+
+/// The leaves' numbers and the ends of their edges at the layer 1.
+const EDGES: [(u32, i32, i32, i32, i32); 9] = [
+    (0, 699, 0, 0, 0),
+    (0, 0, 699, 699, 0),
+    (0, 0, 0, 0, 699),
+    (1, 199, 0, 0, 0),
+    (1, 0, 199, 199, 0),
+    (1, 0, 0, 0, 199),
+    (2, 99, 0, 0, 0),
+    (2, 0, 99, 99, 0),
+    (2, 0, 0, 0, 99),
+];
+
+fn are_edges(found: &[LeafEdge], wanted: &[(u32, i32, i32, i32, i32)]) -> bool {
+    for (LeafEdge { leaf, edge }, row) in found.iter().zip(wanted) {
+        if (*leaf, edge.a.x, edge.a.y, edge.b.x, edge.b.y) != *row {
+            return false;
+        }
+    }
+    found.len() == wanted.len()
+}
+
+fn has_edges(alloc: Global, tree: &Tree) -> bool {
+    match tree.edges(alloc, 1, 200) {
+        Ok(edges) => are_edges(edges.as_slice(), &EDGES),
+        Err(_) => false,
+    }
 }
 
 #[test]
-fn numbers_its_leaves(rt: HostRuntime) -> Result<(), Fail> {
-    let alloc = rt.alloc();
-    let carved = carved(alloc)?;
-    let mut edges = Vec::new(alloc);
-    for LeafEdge { leaf, edge } in carved.edges(alloc, 1, 200)? {
-        edges.push((leaf, edge.a.x, edge.a.y, edge.b.x, edge.b.y))?;
-    }
-    let want = [
-        (0, 699, 0, 0, 0),
-        (0, 0, 699, 699, 0),
-        (0, 0, 0, 0, 699),
-        (1, 199, 0, 0, 0),
-        (1, 0, 199, 199, 0),
-        (1, 0, 0, 0, 199),
-        (2, 99, 0, 0, 0),
-        (2, 0, 99, 99, 0),
-        (2, 0, 0, 0, 99),
-    ];
-    assert_eq!(rt; edges.as_slice(), want.as_slice());
-    let shape = carved.shape(alloc)?;
-    assert_eq!(rt; holds(&shape, &[true, false, true, false]), true);
-    assert_eq!(rt; holds(&shape, &[true, false, true, true]), false);
-    assert_eq!(rt; holds(&shape, &[true, true, false, false]), false);
-    assert_eq!(rt; matches!(Tree::empty().shape(alloc)?, Shape::Empty), true);
-    Ok(())
+fn numbers_its_leaves(rt: HostRuntime) {
+    let carved = carved(rt.alloc()).expect(&rt, "a tree");
+    assert!(rt; has_edges(rt.alloc(), &carved));
 }
 
 #[test]
-fn tells_its_points_and_whether_it_is_united(rt: HostRuntime) -> Result<(), Fail> {
-    let alloc = rt.alloc();
-    let mut corners = Vec::new(alloc);
-    for p in carved(alloc)?.points(alloc)? {
-        corners.push((p.x, p.y, p.z))?;
+fn has_the_shape_of_its_leaves(rt: HostRuntime) {
+    let carved = carved(rt.alloc()).expect(&rt, "a tree");
+    let shape = carved.shape(rt.alloc()).expect(&rt, "a shape");
+    assert!(rt; holds(&shape, &[true, false, true, false]));
+    assert!(rt; !holds(&shape, &[true, false, true, true]));
+    assert!(rt; !holds(&shape, &[true, true, false, false]));
+    assert!(rt; matches!(Tree::empty().shape(rt.alloc()), Ok(Shape::Empty)));
+}
+
+const FIRST_POINTS: [Pt3; 6] = [
+    Pt3 { x: 0, y: 0, z: 0 },
+    Pt3 {
+        x: 1000,
+        y: 0,
+        z: 0,
+    },
+    Pt3 {
+        x: 0,
+        y: 1000,
+        z: 0,
+    },
+    Pt3 { x: 0, y: 0, z: 0 },
+    Pt3 {
+        x: 0,
+        y: 0,
+        z: 1000,
+    },
+    Pt3 {
+        x: 1000,
+        y: 0,
+        z: 0,
+    },
+];
+
+fn has_points(alloc: Global, tree: &Tree, count: usize, first: &[Pt3]) -> bool {
+    match tree.points(alloc) {
+        Ok(points) => points.len() == count && points.as_slice().starts_with(first),
+        Err(_) => false,
     }
-    assert_eq!(rt; corners.len(), 48);
-    let first = [
-        (0, 0, 0),
-        (1000, 0, 0),
-        (0, 1000, 0),
-        (0, 0, 0),
-        (0, 0, 1000),
-        (1000, 0, 0),
-    ];
-    assert_eq!(rt; corners.as_slice().get(..6), Some(first.as_slice()));
-    assert_eq!(rt; carved(alloc)?.is_united(), false);
-    let both = unite(alloc, trees(alloc, &[400, 300])?)?;
-    assert_eq!(rt; (both.is_united(), both.is_empty()), (true, false));
-    let shared = intersect(alloc, trees(alloc, &[400, 300])?)?;
-    assert_eq!(rt; (shared.is_united(), shared.is_empty()), (false, false));
-    let none = Tree::empty();
-    assert_eq!(rt; (none.is_united(), none.is_empty()), (true, true));
-    assert_eq!(rt; none.points(alloc)?.len(), 0);
-    Ok(())
+}
+
+#[test]
+fn tells_its_points(rt: HostRuntime) {
+    let carved = carved(rt.alloc()).expect(&rt, "a tree");
+    assert!(rt; has_points(rt.alloc(), &carved, 48, &FIRST_POINTS));
+    assert!(rt; has_points(rt.alloc(), &Tree::empty(), 0, &[]));
+}
+
+fn both(alloc: Global) -> Option<Tree> {
+    unite(alloc, trees(alloc, &[400, 300])?).ok()
+}
+
+fn is_told(tree: &Tree, united: bool, empty: bool) -> bool {
+    tree.is_united() == united && tree.is_empty() == empty
+}
+
+#[test]
+fn tells_whether_it_is_united(rt: HostRuntime) {
+    assert!(rt; is_told(&carved(rt.alloc()).expect(&rt, "a tree"), false, false));
+    assert!(rt; is_told(&both(rt.alloc()).expect(&rt, "a tree"), true, false));
+    assert!(rt; is_told(&shared(rt.alloc()).expect(&rt, "a tree"), false, false));
+    assert!(rt; is_told(&Tree::empty(), true, true));
 }

@@ -1,49 +1,33 @@
 //! Operations of trees: what stands at the top of them.
 
-use crate::tetrahedron::{SIDES, faces};
-use scad_geom::Pt3;
+use crate::tetrahedron::{SIDES, TETRAHEDRON, faces};
 use scad_solid::Triangles;
 use scad_tree::{Node, Tree, intersect, subtract, unite};
-use std::alloc::Global;
-use std::test::Fail;
+use std::alloc::{AllocError, Global};
 
 // The tree of a tetrahedron of this size, at 0 the empty tree.
-fn tree(alloc: Global, size: i32) -> Result<Tree, Fail> {
+fn tree(alloc: Global, size: i32) -> Option<Tree> {
     if size == 0 {
-        return Ok(Tree::empty());
+        return Some(Tree::empty());
     }
-    let points = [
-        Pt3 { x: 0, y: 0, z: 0 },
-        Pt3 {
-            x: size,
-            y: 0,
-            z: 0,
-        },
-        Pt3 {
-            x: 0,
-            y: size,
-            z: 0,
-        },
-        Pt3 {
-            x: 0,
-            y: 0,
-            z: size,
-        },
-    ];
-    let faces = faces(alloc, &SIDES)?;
-    let triangles = Triangles::from_faces(alloc, &points, &faces)?;
+    let mut points = TETRAHEDRON;
+    points[1].x = size;
+    points[2].y = size;
+    points[3].z = size;
+    let faces = faces(alloc, &SIDES).ok()?;
+    let triangles = Triangles::from_faces(alloc, &points, &faces).ok()?;
     if triangles.count() == 0 {
-        return Ok(Tree::empty());
+        return None;
     }
-    Ok(Tree::leaf(triangles))
+    Some(Tree::leaf(triangles))
 }
 
-pub(crate) fn trees(alloc: Global, sizes: &[i32]) -> Result<Vec<Tree>, Fail> {
+pub(crate) fn trees(alloc: Global, sizes: &[i32]) -> Option<Vec<Tree>> {
     let mut trees = Vec::new(alloc);
     for size in sizes {
-        trees.push(tree(alloc, *size)?)?;
+        trees.push(tree(alloc, *size)?).ok()?;
     }
-    Ok(trees)
+    Some(trees)
 }
 
 // What stands at the top of a tree, and how many triangles or members it has; of a difference, how
@@ -58,60 +42,79 @@ fn top(tree: Tree) -> (&'static str, usize) {
     }
 }
 
-#[test]
-fn operations_drop_what_is_empty_or_are_empty(rt: HostRuntime) -> Result<(), Fail> {
-    let alloc = rt.alloc();
-    let unions: [(&[i32], (&str, usize)); 4] = [
-        (&[], ("empty", 0)),
-        (&[0, 0], ("empty", 0)),
-        (&[0, 5, 0], ("leaf", 4)),
-        (&[5, 0, 7], ("union", 2)),
-    ];
-    for (sizes, wanted) in unions {
-        assert_eq!(rt;
-            top(unite(alloc, trees(alloc, sizes)?)?),
-            wanted,
-            "{sizes:?}"
-        );
+#[derive(Clone, Copy)]
+enum Operation {
+    Unite,
+    Intersect,
+    Subtract,
+}
+
+fn operated(alloc: Global, operation: Operation, members: Vec<Tree>) -> Result<Tree, AllocError> {
+    match operation {
+        Operation::Unite => unite(alloc, members),
+        Operation::Intersect => intersect(alloc, members),
+        Operation::Subtract => subtract(alloc, members),
     }
-    let intersections: [(&[i32], (&str, usize)); 4] = [
-        (&[], ("empty", 0)),
-        (&[5], ("leaf", 4)),
-        (&[5, 0], ("empty", 0)),
-        (&[5, 7, 9], ("intersection", 3)),
-    ];
-    for (sizes, wanted) in intersections {
-        assert_eq!(rt;
-            top(intersect(alloc, trees(alloc, sizes)?)?),
-            wanted,
-            "{sizes:?}"
-        );
+}
+
+/// An operation, the sizes of its members, what stands at the top, and how many triangles or members it has.
+const TOPS: [(Operation, &[i32], (&str, usize)); 13] = [
+    (Operation::Unite, &[], ("empty", 0)),
+    (Operation::Unite, &[0, 0], ("empty", 0)),
+    (Operation::Unite, &[0, 5, 0], ("leaf", 4)),
+    (Operation::Unite, &[5, 0, 7], ("union", 2)),
+    (Operation::Intersect, &[], ("empty", 0)),
+    (Operation::Intersect, &[5], ("leaf", 4)),
+    (Operation::Intersect, &[5, 0], ("empty", 0)),
+    (Operation::Intersect, &[5, 7, 9], ("intersection", 3)),
+    (Operation::Subtract, &[], ("empty", 0)),
+    (Operation::Subtract, &[0, 5], ("empty", 0)),
+    (Operation::Subtract, &[5], ("leaf", 4)),
+    (Operation::Subtract, &[5, 0], ("leaf", 4)),
+    (Operation::Subtract, &[5, 0, 7, 9], ("difference", 2)),
+];
+
+/// The operation on trees of these sizes has this at its top.
+fn has_top(alloc: Global, operation: Operation, sizes: &[i32], wanted: (&str, usize)) -> bool {
+    let Some(members) = trees(alloc, sizes) else {
+        return false;
+    };
+    match operated(alloc, operation, members) {
+        Ok(tree) => is_top(tree, wanted),
+        Err(_) => false,
     }
-    let differences: [(&[i32], (&str, usize)); 5] = [
-        (&[], ("empty", 0)),
-        (&[0, 5], ("empty", 0)),
-        (&[5], ("leaf", 4)),
-        (&[5, 0], ("leaf", 4)),
-        (&[5, 0, 7, 9], ("difference", 2)),
-    ];
-    for (sizes, wanted) in differences {
-        assert_eq!(rt;
-            top(subtract(alloc, trees(alloc, sizes)?)?),
-            wanted,
-            "{sizes:?}"
-        );
-    }
-    Ok(())
+}
+
+fn is_top(tree: Tree, wanted: (&str, usize)) -> bool {
+    let (kind, count) = top(tree);
+    kind == wanted.0 && count == wanted.1
 }
 
 #[test]
-fn unions_take_in_the_members_of_unions(rt: HostRuntime) -> Result<(), Fail> {
-    let alloc = rt.alloc();
-    let mut members = trees(alloc, &[9, 0])?;
-    members.push(unite(alloc, trees(alloc, &[5, 7])?)?)?;
-    assert_eq!(rt; top(unite(alloc, members)?), ("union", 3));
-    let mut members = trees(alloc, &[9])?;
-    members.push(unite(alloc, trees(alloc, &[5, 7])?)?)?;
-    assert_eq!(rt; top(intersect(alloc, members)?), ("intersection", 2));
-    Ok(())
+fn operations_drop_what_is_empty_or_are_empty(rt: HostRuntime) {
+    for &(operation, sizes, wanted) in &TOPS {
+        assert!(rt; has_top(rt.alloc(), operation, sizes, wanted), "{sizes:?}");
+    }
+}
+
+/// Trees of these sizes, and behind them the union of those of 5 and 7.
+fn before_union(alloc: Global, sizes: &[i32]) -> Option<Vec<Tree>> {
+    let mut members = trees(alloc, sizes)?;
+    let union = unite(alloc, trees(alloc, &[5, 7])?).ok()?;
+    members.push(union).ok()?;
+    Some(members)
+}
+
+#[test]
+fn unions_take_in_the_members_of_unions(rt: HostRuntime) {
+    let members = before_union(rt.alloc(), &[9, 0]).expect(&rt, "members");
+    let tree = unite(rt.alloc(), members).expect(&rt, "a union");
+    assert!(rt; is_top(tree, ("union", 3)));
+}
+
+#[test]
+fn intersections_do_not(rt: HostRuntime) {
+    let members = before_union(rt.alloc(), &[9]).expect(&rt, "members");
+    let tree = intersect(rt.alloc(), members).expect(&rt, "an intersection");
+    assert!(rt; is_top(tree, ("intersection", 2)));
 }

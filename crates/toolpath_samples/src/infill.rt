@@ -3,48 +3,39 @@
 ghost use Rattle.std.specs.Prelude.{◌≤◌, IfOk, All};
 ghost use Rattle.scad_geom.specs.Limits.{coordinate_limit};
 ghost use Rattle.scad_geom.specs.Within.{IsWithin};
+ghost use Rattle.plan_infill.specs.Runs.{IsLineWithin};
 
+use crate::points::{are_at, outlines};
 use plan_infill::{Line, Run, runs};
 use plan_sides::sides;
 use scad_geom::{Edge, Loop, Pt};
 use std::alloc::{AllocError, Global};
-use std::test::Fail;
 
-const fn at(x: i32, y: i32) -> Pt {
-    Pt { x, y }
+const OUTLINES: [&[(i32, i32)]; 3] = [&[(0, 0), (5, 0), (0, 5)], &[], &[(7, 7), (9, 9)]];
+
+/// Where the sides of those outlines begin and end.
+const ENDS: [[(i32, i32); 2]; 5] = [
+    [(0, 0), (5, 0)],
+    [(5, 0), (0, 5)],
+    [(0, 5), (0, 0)],
+    [(7, 7), (9, 9)],
+    [(9, 9), (7, 7)],
+];
+
+fn have_ends(sides: &[Edge], wanted: &[[(i32, i32); 2]]) -> bool {
+    for (side, ends) in sides.iter().zip(wanted) {
+        if !are_at(&[side.a, side.b], ends) {
+            return false;
+        }
+    }
+    sides.len() == wanted.len()
 }
 
 #[test]
-fn sides_go_round(rt: HostRuntime) -> Result<(), Fail> {
-    let alloc = rt.alloc();
-    let mut outlines = Vec::new(alloc);
-    outlines.push(Loop::from_vec(Vec::from_slice(alloc, &[at(0, 0), at(5, 0), at(0, 5)])?))?;
-    outlines.push(Loop::from_vec(Vec::new(alloc)))?;
-    outlines.push(Loop::from_vec(Vec::from_slice(alloc, &[at(7, 7), at(9, 9)])?))?;
-    let expected = [
-        Edge {
-            a: at(0, 0),
-            b: at(5, 0),
-        },
-        Edge {
-            a: at(5, 0),
-            b: at(0, 5),
-        },
-        Edge {
-            a: at(0, 5),
-            b: at(0, 0),
-        },
-        Edge {
-            a: at(7, 7),
-            b: at(9, 9),
-        },
-        Edge {
-            a: at(9, 9),
-            b: at(7, 7),
-        },
-    ];
-    assert_eq!(rt; sides(alloc, &outlines)?.as_slice(), expected.as_slice());
-    Ok(())
+fn sides_go_round(rt: HostRuntime) {
+    let outlines = outlines(rt.alloc(), &OUTLINES).expect(&rt, "outlines");
+    let sides = sides(rt.alloc(), &outlines).expect(&rt, "sides");
+    assert!(rt; have_ends(sides.as_slice(), &ENDS));
 }
 
 fn square(alloc: Global, size: u32) -> Result<Loop, AllocError>
@@ -61,18 +52,23 @@ fn square(alloc: Global, size: u32) -> Result<Loop, AllocError>
     Ok(Loop::from_vec(Vec::from_slice(alloc, &corners)?))
 }
 
-#[test]
-fn a_run_keeps_its_distance(rt: HostRuntime) -> Result<(), Fail> {
-    let alloc = rt.alloc();
+const RUN: [Run; 1] = [Run {
+    from: 900,
+    to: 2100,
+}];
+
+/// The line has that run in a square of three millimetres.
+fn has_run(alloc: Global, line: Line) -> Result<bool, AllocError>
+    requires { IsLineWithin coordinate_limit line }
+{
     let mut outlines = Vec::new(alloc);
     outlines.push(square(alloc, 3000)?)?;
-    let expected = [Run {
-        from: 900,
-        to: 2100,
-    }];
-    let found = runs(alloc, &outlines, 900, Line::Row(2000), 450)?;
-    assert_eq!(rt; found.as_slice(), expected.as_slice());
-    let found = runs(alloc, &outlines, 900, Line::Column(2000), 450)?;
-    assert_eq!(rt; found.as_slice(), expected.as_slice());
-    Ok(())
+    let found = runs(alloc, &outlines, 900, line, 450)?;
+    Ok(found.as_slice() == RUN.as_slice())
+}
+
+#[test]
+fn a_run_keeps_its_distance(rt: HostRuntime) {
+    assert!(rt; has_run(rt.alloc(), Line::Row(2000)).unwrap_or(false));
+    assert!(rt; has_run(rt.alloc(), Line::Column(2000)).unwrap_or(false));
 }

@@ -14,6 +14,8 @@ mod outline_texts;
 #[cfg(test)]
 mod plans;
 #[cfg(test)]
+mod points;
+#[cfg(test)]
 mod program_texts;
 #[cfg(test)]
 mod random_clearance;

@@ -167,8 +167,8 @@ fn lines_behind_a_first_move(rt: HostRuntime) {
     for (line, wanted, stands) in lines() {
         let mut machine = Machine::new();
         let _ = machine.step(b"G1 X1 Y2 Z3 E4");
-        assert_eq!(rt; judged(&mut machine, line.as_bytes()), *wanted);
-        assert_eq!(rt; place(&mut machine), *stands);
+        assert!(rt; judged(&mut machine, line.as_bytes()) == *wanted, "{line}");
+        assert!(rt; place(&mut machine) == *stands, "{line}");
     }
 }
 
@@ -225,8 +225,7 @@ fn program_of_a_square(rt: HostRuntime) {
             Err(_) => extruding = 99,
         }
     }
-    assert_eq!(rt; moves, 13);
-    assert_eq!(rt; extruding, 9);
-    assert_eq!(rt; place(&mut machine), [2100, 2000, 200, 67351]);
-    assert_eq!(rt; machine.step(b"G2"), Err(GFault::UnknownWord(31)));
+    assert!(rt; moves == 13 && extruding == 9);
+    assert!(rt; place(&mut machine) == [2100, 2000, 200, 67351]);
+    assert!(rt; matches!(machine.step(b"G2"), Err(GFault::UnknownWord(31))));
 }

@@ -1,10 +1,9 @@
 //! Texts of outlines, whole and with a fault, read back.
 
-use cli_read::{Cli, CliFault, read};
+use cli_read::{Cli, CliFault, CliLayer, read};
 use cli_text::{write_end, write_head, write_layer};
 use scad_geom::{Loop, Pt};
 use std::alloc::{AllocError, Global};
-use std::test::Fail;
 use text_scan::first_at;
 
 /// Two layers, the lower one with two outlines.
@@ -238,15 +237,29 @@ fn edited(alloc: Global, number: usize, new: &str) -> Result<String, AllocError>
     Ok(text)
 }
 
-#[test]
-fn texts_with_one_line_changed(rt: HostRuntime) -> Result<(), Fail> {
-    let alloc = rt.alloc();
-    for (number, new, wanted) in edits() {
-        let text = edited(alloc, *number, new)?;
-        let answer = told(alloc, &read(alloc, text.as_bytes()))?;
-        assert_eq!(rt; answer.as_str(), *wanted, "line {number} is {new:?}");
+/// The text is read so.
+fn is_told(alloc: Global, text: &[u8], wanted: &str) -> bool {
+    match told(alloc, &read(alloc, text)) {
+        Ok(answer) => answer.as_str() == wanted,
+        Err(_) => false,
     }
-    Ok(())
+}
+
+fn edit_is_told(alloc: Global, number: usize, new: &str, wanted: &str) -> bool {
+    match edited(alloc, number, new) {
+        Ok(text) => is_told(alloc, text.as_bytes(), wanted),
+        Err(_) => false,
+    }
+}
+
+#[test]
+fn texts_with_one_line_changed(rt: HostRuntime) {
+    for (number, new, wanted) in edits() {
+        assert!(rt;
+            edit_is_told(rt.alloc(), *number, new, wanted),
+            "line {number} is {new:?}"
+        );
+    }
 }
 
 /// The corners of a square, and those of the hole in it.
@@ -278,25 +291,33 @@ fn frame(alloc: Global) -> Result<Vec<u8>, AllocError> {
     Ok(out)
 }
 
-#[test]
-fn what_was_written(rt: HostRuntime) -> Result<(), Fail> {
-    let text = frame(rt.alloc())?;
-    let Ok(cli) = read(rt.alloc(), &text) else {
-        return Err(Fail::new("the text was written so"));
-    };
-    let layers = cli.layers.as_slice();
-    assert_eq!(rt; layers.len(), 50);
+fn are_frames(layers: &[CliLayer]) -> bool {
     let mut z: u32 = 0;
     for layer in layers {
         z = z.wrapping_add(200);
-        assert_eq!(rt; layer.z, z);
-        let [outer, hole] = layer.loops.as_slice() else {
-            return Err(Fail::new("two outlines were written"));
-        };
-        assert_eq!(rt; outer.as_slice(), SQUARE.as_slice());
-        assert_eq!(rt; hole.as_slice(), HOLE.as_slice());
+        if layer.z != z || !is_frame(layer.loops.as_slice()) {
+            return false;
+        }
     }
-    Ok(())
+    layers.len() == 50
+}
+
+fn is_frame(outlines: &[Loop]) -> bool {
+    match outlines {
+        [outer, hole] => {
+            outer.as_slice() == SQUARE.as_slice() && hole.as_slice() == HOLE.as_slice()
+        }
+        _ => false,
+    }
+}
+
+#[test]
+fn what_was_written(rt: HostRuntime) {
+    let text = frame(rt.alloc()).expect(&rt, "memory for a text");
+    match read(rt.alloc(), &text) {
+        Ok(cli) => assert!(rt; are_frames(cli.layers.as_slice())),
+        Err(_) => assert!(rt; false, "the text was written so"),
+    }
 }
 
 /// What is read of a text that is cut within the line of an outline, by how many bytes of the line are left: `b` is
@@ -330,51 +351,63 @@ fn told_of_cut(alloc: Global, line: u64, left: usize, whole: bool) -> Result<Str
     }
 }
 
+fn cut_is_told(alloc: Global, front: &[u8], line: u64, left: usize, whole: bool) -> bool {
+    match told_of_cut(alloc, line, left, whole) {
+        Ok(wanted) => is_told(alloc, front, wanted.as_str()),
+        Err(_) => false,
+    }
+}
+
 #[test]
-fn every_front_of_what_was_written(rt: HostRuntime) -> Result<(), Fail> {
-    let alloc = rt.alloc();
-    let text = frame(alloc)?;
+fn every_front_of_what_was_written(rt: HostRuntime) {
+    let text = frame(rt.alloc()).expect(&rt, "memory for a text");
     let mut line: u64 = 1;
     let mut left: usize = 0;
     for (len, byte) in text.iter().enumerate() {
         let whole = *byte == b'\n';
-        let answer = told(alloc, &read(alloc, &text[..len]))?;
-        let wanted = told_of_cut(alloc, line, left, whole)?;
-        assert_eq!(rt; answer.as_str(), wanted.as_str(), "the first {len} bytes");
+        assert!(rt;
+            cut_is_told(rt.alloc(), &text[..len], line, left, whole),
+            "the first {len} bytes"
+        );
         left = if whole { 0 } else { left.wrapping_add(1) };
         line = line.wrapping_add(u64::from(whole));
     }
-    Ok(())
 }
 
 /// The frame's text with other bytes from a place on.
-fn changed(alloc: Global, old: &str, new: &str) -> Result<Vec<u8>, Fail> {
-    let text = frame(alloc)?;
-    let text = std::str::from_utf8(&text).map_err(|_| Fail::new("ASCII was written"))?;
-    let (front, behind) = text.split_once(old).ok_or("the text has it")?;
-    let mut out = Vec::from_slice(alloc, front.as_bytes())?;
-    out.extend_from_slice(new.as_bytes())?;
-    out.extend_from_slice(behind.as_bytes())?;
-    Ok(out)
+fn changed(alloc: Global, old: &str, new: &str) -> Option<Vec<u8>> {
+    let text = frame(alloc).ok()?;
+    let text = std::str::from_utf8(&text).ok()?;
+    let (front, behind) = text.split_once(old)?;
+    let mut out = Vec::from_slice(alloc, front.as_bytes()).ok()?;
+    out.extend_from_slice(new.as_bytes()).ok()?;
+    out.extend_from_slice(behind.as_bytes()).ok()?;
+    Some(out)
 }
 
 #[test]
-fn marks_and_faults_in_what_was_written(rt: HostRuntime) -> Result<(), Fail> {
-    let more = changed(rt.alloc(), "$$LAYERS/50", "$$LAYERS/51")?;
-    assert!(rt; matches!(read(rt.alloc(), &more), Err(CliFault::CountDiffers(51, 50))));
-    let open = changed(rt.alloc(), ",0,10000,0,0\n", ",0,10000,0,1\n")?;
-    assert!(rt; matches!(read(rt.alloc(), &open), Err(CliFault::OpenLoop(9))));
-    let places: [(&[u8], usize); 5] = [
-        (b"", 0),
-        (b",", 0),
-        (b"a,b,c", 1),
-        (b"abc", 3),
-        (b"ab,", 2),
-    ];
-    for (bytes, at) in places {
-        assert_eq!(rt; first_at(bytes, b','), at);
+fn a_text_with_a_layer_less(rt: HostRuntime) {
+    let text = changed(rt.alloc(), "$$LAYERS/50", "$$LAYERS/51").expect(&rt, "a text");
+    assert!(rt; is_told(rt.alloc(), &text, "CountDiffers 51 50"));
+}
+
+#[test]
+fn a_text_with_an_open_outline(rt: HostRuntime) {
+    let text = changed(rt.alloc(), ",0,10000,0,0\n", ",0,10000,0,1\n").expect(&rt, "a text");
+    assert!(rt; is_told(rt.alloc(), &text, "OpenLoop 9"));
+}
+
+#[test]
+fn a_text_that_is_not_ascii(rt: HostRuntime) {
+    assert!(rt; is_told(rt.alloc(), b"$$HEADERSTART\n$$ASCII\xff\n", "BadLine 2"));
+}
+
+/// Bytes, and where the first comma stands in them.
+const COMMAS: [(&[u8], usize); 5] = [(b"", 0), (b",", 0), (b"a,b,c", 1), (b"abc", 3), (b"ab,", 2)];
+
+#[test]
+fn a_mark_is_found_where_it_stands_first(rt: HostRuntime) {
+    for &(bytes, at) in &COMMAS {
+        assert!(rt; first_at(bytes, b',') == at);
     }
-    let not_text = read(rt.alloc(), b"$$HEADERSTART\n$$ASCII\xff\n");
-    assert!(rt; matches!(not_text, Err(CliFault::BadLine(2))));
-    Ok(())
 }

@@ -3,15 +3,11 @@ ghost use Rattle.std.specs.Prelude.{◌≤◌, IfOk, All};
 ghost use Rattle.scad_geom.specs.Limits.{point_limit};
 ghost use Rattle.scad_geom.specs.Within.{IsWithin};
 
-use plan_layer::{LayerPlan, plan};
+use crate::points::are_at;
+use plan_layer::{LayerPlan, PlanFault, plan};
 use scad_geom::{Loop, Path, Pt};
 use scad_words::Settings;
 use std::alloc::{AllocError, Global};
-use std::test::Fail;
-
-const fn at(x: i32, y: i32) -> Pt {
-    Pt { x, y }
-}
 
 pub(crate) const USUAL: Settings = Settings {
     bed: 60,
@@ -77,83 +73,104 @@ fn frame(alloc: Global) -> Result<Vec<Loop>, AllocError>
     Ok(outlines)
 }
 
-// Whether a path goes round a square, counter-clockwise from its lower left corner.
-fn is_round(path: &Path, from: i32, to: i32) -> bool {
-    let way = [
-        at(from, from),
-        at(to, from),
-        at(to, to),
-        at(from, to),
-        at(from, from),
-    ];
-    path.as_slice() == way.as_slice()
+fn are_paths(found: &[Path], wanted: &[&[(i32, i32)]]) -> bool {
+    for (path, pairs) in found.iter().zip(wanted) {
+        if !are_at(path.as_slice(), pairs) {
+            return false;
+        }
+    }
+    found.len() == wanted.len()
 }
 
-fn is_way(path: &Path, from: Pt, to: Pt) -> bool {
-    path.as_slice() == [from, to].as_slice()
+/// The plan has these paths, of which the last ones are so many runs of infill.
+fn is_planned(made: &LayerPlan, runs: u64, wanted: &[&[(i32, i32)]]) -> bool {
+    made.runs == runs && are_paths(&made.paths, wanted)
 }
 
-#[test]
-fn even_layers_have_rows(rt: HostRuntime) -> Result<(), Fail> {
-    let alloc = rt.alloc();
-    let LayerPlan { paths, runs } = plan(alloc, &cube(alloc)?, 0, &USUAL)?;
-    assert_eq!(rt; paths.len(), 3);
-    assert_eq!(rt; runs, 1);
-    assert!(rt; is_round(&paths[0], 225, 2775));
-    assert!(rt; is_round(&paths[1], 675, 2325));
-    assert!(rt; is_way(&paths[2], at(900, 2000), at(2100, 2000)));
-    Ok(())
-}
+/// The walls of the cube, each closed.
+const FIRST_WALL: &[(i32, i32)] = &[
+    (225, 225),
+    (2775, 225),
+    (2775, 2775),
+    (225, 2775),
+    (225, 225),
+];
 
-#[test]
-fn odd_layers_have_columns(rt: HostRuntime) -> Result<(), Fail> {
-    let alloc = rt.alloc();
-    let LayerPlan { paths, runs } = plan(alloc, &cube(alloc)?, 1, &USUAL)?;
-    assert_eq!(rt; paths.len(), 3);
-    assert_eq!(rt; runs, 1);
-    assert!(rt; is_way(&paths[2], at(2000, 900), at(2000, 2100)));
-    Ok(())
-}
+const SECOND_WALL: &[(i32, i32)] = &[
+    (675, 675),
+    (2325, 675),
+    (2325, 2325),
+    (675, 2325),
+    (675, 675),
+];
 
-#[test]
-fn holes_have_walls(rt: HostRuntime) -> Result<(), Fail> {
-    let alloc = rt.alloc();
-    let settings = Settings {
-        walls: 1,
-        infill_spacing: 0,
-        ..USUAL
+fn planned_cube(alloc: Global, layer: u32) -> Result<LayerPlan, PlanFault> {
+    let Ok(outlines) = cube(alloc) else {
+        return Err(PlanFault::Memory);
     };
-    let LayerPlan { paths, runs } = plan(alloc, &frame(alloc)?, 0, &settings)?;
-    assert_eq!(rt; paths.len(), 2);
-    assert_eq!(rt; runs, 0);
-    assert!(rt; is_round(&paths[0], 225, 9775));
-    let round_hole = [
-        at(3907, 3775),
-        at(3775, 3907),
-        at(3775, 6093),
-        at(3907, 6225),
-        at(6093, 6225),
-        at(6225, 6093),
-        at(6225, 3907),
-        at(6093, 3775),
-        at(3907, 3775),
-    ];
-    assert_eq!(rt; paths[1].as_slice(), round_hole.as_slice());
-    Ok(())
+    plan(alloc, &outlines, layer, &USUAL)
 }
 
 #[test]
-fn lines_alternate(rt: HostRuntime) -> Result<(), Fail> {
-    let alloc = rt.alloc();
-    let settings = Settings { walls: 1, ..USUAL };
-    let LayerPlan { paths, runs } = plan(alloc, &frame(alloc)?, 0, &settings)?;
-    assert_eq!(rt; paths.len(), 8);
-    assert_eq!(rt; runs, 6);
-    assert!(rt; is_way(&paths[2], at(450, 2000), at(9550, 2000)));
-    assert!(rt; is_way(&paths[3], at(9550, 4000), at(6450, 4000)));
-    assert!(rt; is_way(&paths[4], at(3550, 4000), at(450, 4000)));
-    assert!(rt; is_way(&paths[5], at(450, 6000), at(3550, 6000)));
-    assert!(rt; is_way(&paths[6], at(6450, 6000), at(9550, 6000)));
-    assert!(rt; is_way(&paths[7], at(9550, 8000), at(450, 8000)));
-    Ok(())
+fn even_layers_have_rows(rt: HostRuntime) {
+    let made = planned_cube(rt.alloc(), 0).expect(&rt, "a plan");
+    let row: &[(i32, i32)] = &[(900, 2000), (2100, 2000)];
+    assert!(rt; is_planned(&made, 1, &[FIRST_WALL, SECOND_WALL, row]));
+}
+
+#[test]
+fn odd_layers_have_columns(rt: HostRuntime) {
+    let made = planned_cube(rt.alloc(), 1).expect(&rt, "a plan");
+    let column: &[(i32, i32)] = &[(2000, 900), (2000, 2100)];
+    assert!(rt; is_planned(&made, 1, &[FIRST_WALL, SECOND_WALL, column]));
+}
+
+/// The paths of the frame: round the square, round the hole, and rows by turns from the left and from the right.
+const FRAME: [&[(i32, i32)]; 8] = [
+    &[
+        (225, 225),
+        (9775, 225),
+        (9775, 9775),
+        (225, 9775),
+        (225, 225),
+    ],
+    &[
+        (3907, 3775),
+        (3775, 3907),
+        (3775, 6093),
+        (3907, 6225),
+        (6093, 6225),
+        (6225, 6093),
+        (6225, 3907),
+        (6093, 3775),
+        (3907, 3775),
+    ],
+    &[(450, 2000), (9550, 2000)],
+    &[(9550, 4000), (6450, 4000)],
+    &[(3550, 4000), (450, 4000)],
+    &[(450, 6000), (3550, 6000)],
+    &[(6450, 6000), (9550, 6000)],
+    &[(9550, 8000), (450, 8000)],
+];
+
+const ONE_WALL: Settings = Settings { walls: 1, ..USUAL };
+
+const NO_INFILL: Settings = Settings {
+    walls: 1,
+    infill_spacing: 0,
+    ..USUAL
+};
+
+#[test]
+fn holes_have_walls(rt: HostRuntime) {
+    let outlines = frame(rt.alloc()).expect(&rt, "outlines");
+    let made = plan(rt.alloc(), &outlines, 0, &NO_INFILL).expect(&rt, "a plan");
+    assert!(rt; is_planned(&made, 0, &FRAME[..2]));
+}
+
+#[test]
+fn lines_alternate(rt: HostRuntime) {
+    let outlines = frame(rt.alloc()).expect(&rt, "outlines");
+    let made = plan(rt.alloc(), &outlines, 0, &ONE_WALL).expect(&rt, "a plan");
+    assert!(rt; is_planned(&made, 6, &FRAME));
 }

@@ -172,21 +172,22 @@ fn moves_keep_the_clearance(rt: HostRuntime) -> Result<(), Fail> {
 
 const ORIGIN: Pt = Pt { x: 0, y: 0 };
 
+const POINTS: [(i32, i32, bool); 8] = [
+    (224, 0, false),
+    (225, 0, true),
+    (0, -224, false),
+    (0, -225, true),
+    (158, 158, false),
+    (159, 158, true),
+    (-224, 92, false),
+    (-224, 93, true),
+];
+
 // Of lines 450 wide: 224 along each axis, 316 along their sum.
 #[test]
 fn the_check_tells_moves_that_come_near(rt: HostRuntime) {
     let clearance = Octagon::of_width(450);
-    let points: [(i32, i32, bool); 8] = [
-        (224, 0, false),
-        (225, 0, true),
-        (0, -224, false),
-        (0, -225, true),
-        (158, 158, false),
-        (159, 158, true),
-        (-224, 92, false),
-        (-224, 93, true),
-    ];
-    for (x, y, is_clear) in points {
+    for &(x, y, is_clear) in &POINTS {
         let further = Pt {
             x: x.wrapping_mul(2),
             y: y.wrapping_mul(2),

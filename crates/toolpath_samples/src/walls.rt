@@ -1,13 +1,13 @@
 //! The walls of a square and of a square with a hole.
 
-ghost use Rattle.std.specs.Prelude.{IfOk, All};
+ghost use Rattle.std.specs.Prelude.{◌≤◌, IfOk, All};
 ghost use Rattle.scad_geom.specs.Limits.{point_limit};
 ghost use Rattle.scad_geom.specs.Within.{IsWithin};
 
+use crate::points::are_at;
 use plan_walls::walls;
 use scad_geom::{Loop, Pt};
 use std::alloc::{AllocError, Global};
-use std::test::Fail;
 
 fn at(x: u16, y: u16) -> Pt
     ensures { IsWithin point_limit result }
@@ -38,41 +38,73 @@ fn outlines_of(alloc: Global, all: &[[[u16; 2]; 4]]) -> Result<Vec<Loop>, AllocE
     Ok(outlines)
 }
 
-#[test]
-fn walls_of_a_square_are_squares(rt: HostRuntime) -> Result<(), Fail> {
-    let alloc = rt.alloc();
-    let square = outlines_of(alloc, &[[[0, 0], [3000, 0], [3000, 3000], [0, 3000]]])?;
-    let first = walls(alloc, &square, 225)?;
-    let expected = [at(225, 225), at(2775, 225), at(2775, 2775), at(225, 2775)];
-    assert_eq!(rt; first.len(), 1);
-    assert_eq!(rt; first[0].as_slice(), expected.as_slice());
-    let second = walls(alloc, &square, 675)?;
-    let expected = [at(675, 675), at(2325, 675), at(2325, 2325), at(675, 2325)];
-    assert_eq!(rt; second.len(), 1);
-    assert_eq!(rt; second[0].as_slice(), expected.as_slice());
-    assert_eq!(rt; walls(alloc, &square, 1500)?.len(), 0);
-    Ok(())
+fn is_outline(outline: &Loop, wanted: &[(i32, i32)]) -> bool {
+    are_at(outline.as_slice(), wanted)
 }
 
+fn are_outlines(found: &[Loop], wanted: &[&[(i32, i32)]]) -> bool {
+    for (outline, pairs) in found.iter().zip(wanted) {
+        if !is_outline(outline, pairs) {
+            return false;
+        }
+    }
+    found.len() == wanted.len()
+}
+
+/// The outlines have these walls at a distance.
+fn have_walls(
+    alloc: Global,
+    corners: &[[[u16; 2]; 4]],
+    distance: u32,
+    wanted: &[&[(i32, i32)]],
+) -> bool
+    requires some { 1 ≤ distance }
+    requires most { distance ≤ 100000 }
+{
+    let Ok(outlines) = outlines_of(alloc, corners) else {
+        return false;
+    };
+    match walls(alloc, &outlines, distance) {
+        Ok(found) => are_outlines(&found, wanted),
+        Err(_) => false,
+    }
+}
+
+const SQUARE: [[[u16; 2]; 4]; 1] = [[[0, 0], [3000, 0], [3000, 3000], [0, 3000]]];
+
+const FIRST_WALL: &[(i32, i32)] = &[(225, 225), (2775, 225), (2775, 2775), (225, 2775)];
+
+const SECOND_WALL: &[(i32, i32)] = &[(675, 675), (2325, 675), (2325, 2325), (675, 2325)];
+
 #[test]
-fn holes_have_walls(rt: HostRuntime) -> Result<(), Fail> {
+fn walls_of_a_square_are_squares(rt: HostRuntime) {
     let alloc = rt.alloc();
-    let outer = [[0, 0], [10000, 0], [10000, 10000], [0, 10000]];
-    let hole = [[4000, 4000], [4000, 6000], [6000, 6000], [6000, 4000]];
-    let loops = walls(alloc, &outlines_of(alloc, &[outer, hole])?, 225)?;
-    assert_eq!(rt; loops.len(), 2);
-    let expected = [at(225, 225), at(9775, 225), at(9775, 9775), at(225, 9775)];
-    assert_eq!(rt; loops[0].as_slice(), expected.as_slice());
-    let expected = [
-        at(3907, 3775),
-        at(3775, 3907),
-        at(3775, 6093),
-        at(3907, 6225),
-        at(6093, 6225),
-        at(6225, 6093),
-        at(6225, 3907),
-        at(6093, 3775),
-    ];
-    assert_eq!(rt; loops[1].as_slice(), expected.as_slice());
-    Ok(())
+    assert!(rt; have_walls(alloc, &SQUARE, 225, &[FIRST_WALL]));
+    assert!(rt; have_walls(alloc, &SQUARE, 675, &[SECOND_WALL]));
+    assert!(rt; have_walls(alloc, &SQUARE, 1500, &[]));
+}
+
+/// The corners of a square and of a hole in it.
+const FRAME: [[[u16; 2]; 4]; 2] = [
+    [[0, 0], [10000, 0], [10000, 10000], [0, 10000]],
+    [[4000, 4000], [4000, 6000], [6000, 6000], [6000, 4000]],
+];
+
+const FRAME_WALLS: [&[(i32, i32)]; 2] = [
+    &[(225, 225), (9775, 225), (9775, 9775), (225, 9775)],
+    &[
+        (3907, 3775),
+        (3775, 3907),
+        (3775, 6093),
+        (3907, 6225),
+        (6093, 6225),
+        (6225, 6093),
+        (6225, 3907),
+        (6093, 3775),
+    ],
+];
+
+#[test]
+fn holes_have_walls(rt: HostRuntime) {
+    assert!(rt; have_walls(rt.alloc(), &FRAME, 225, &FRAME_WALLS));
 }

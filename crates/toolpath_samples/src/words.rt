@@ -3,7 +3,6 @@
 use scad_fault::SetKind;
 use scad_words::{Command, Job, SetError, WordFault, read_settings, read_words};
 use std::alloc::{AllocError, Global};
-use std::test::Fail;
 
 fn split(alloc: Global, line: &str) -> Result<Vec<String>, AllocError> {
     let mut words = Vec::new(alloc);
@@ -13,192 +12,217 @@ fn split(alloc: Global, line: &str) -> Result<Vec<String>, AllocError> {
     Ok(words)
 }
 
-// The command with its names, the settings file and the number of workers; where there is none, nothing.
-fn told(alloc: Global, job: &Result<Job, WordFault>) -> Result<String, Fail> {
-    let job = match job {
-        Ok(job) => job,
-        Err(WordFault::Usage) => return Ok(String::from_str(alloc, "usage")?),
-        Err(WordFault::Memory) => return Ok(String::from_str(alloc, "memory")?),
-    };
-    let settings = match &job.settings {
-        Some(name) => name.as_str(),
-        None => "",
-    };
-    let command = match &job.command {
-        Command::Check(model) => format!(in alloc; "check {}", model.as_str())?,
-        Command::Tree(model) => format!(in alloc; "tree {}", model.as_str())?,
-        Command::Slice(model, cli) => format!(in alloc;
-            "slice {} {}",
-            model.as_str(),
-            cli.as_str()
-        )?,
+fn command_told(alloc: Global, command: &Command) -> Result<String, AllocError> {
+    match command {
+        Command::Check(model) => format!(in alloc; "check {}", model.as_str()),
+        Command::Tree(model) => format!(in alloc; "tree {}", model.as_str()),
+        Command::Slice(model, cli) => {
+            format!(in alloc; "slice {} {}", model.as_str(), cli.as_str())
+        }
         Command::Plan(model, cli, gcode) => {
             format!(in alloc;
                 "plan {} {} {}",
                 model.as_str(),
                 cli.as_str(),
                 gcode.as_str()
-            )?
+            )
         }
-        Command::Sample(number) => format!(in alloc; "sample {number}")?,
-        Command::Verify(cli, gcode) => format!(in alloc;
-            "verify {} {}",
-            cli.as_str(),
-            gcode.as_str()
-        )?,
+        Command::Sample(number) => format!(in alloc; "sample {number}"),
+        Command::Verify(cli, gcode) => {
+            format!(in alloc; "verify {} {}", cli.as_str(), gcode.as_str())
+        }
+    }
+}
+
+// The command with its names, the settings file and the number of workers; where there is none, nothing.
+fn job_told(alloc: Global, job: &Job) -> Result<String, AllocError> {
+    let settings = match &job.settings {
+        Some(name) => name.as_str(),
+        None => "",
     };
-    Ok(format!(in alloc; "{command} by {settings} with {}", job.workers)?)
+    let command = command_told(alloc, &job.command)?;
+    format!(in alloc; "{command} by {settings} with {}", job.workers)
 }
 
-#[test]
-fn words_of_the_form_give_a_job(rt: HostRuntime) -> Result<(), Fail> {
-    for (line, want) in [
-        ("check a", "check a by  with 1"),
-        ("tree a", "tree a by  with 1"),
-        ("slice a b", "slice a b by  with 1"),
-        ("slice --settings s a b", "slice a b by s with 1"),
-        ("slice a --settings=s b", "slice a b by s with 1"),
-        ("slice a b --settings s", "slice a b by s with 1"),
-        ("check a --settings=s=t", "check a by s=t with 1"),
-        ("slice -- --settings b", "slice --settings b by  with 1"),
-        ("slice a -- -b", "slice a -b by  with 1"),
-        ("check -", "check - by  with 1"),
-        ("plan a b c", "plan a b c by  with 1"),
-        (
-            "plan --workers 3 a b c --settings s",
-            "plan a b c by s with 3",
-        ),
-        ("plan a --workers=3 b c", "plan a b c by  with 3"),
-        ("sample 7", "sample 7 by  with 1"),
-        ("sample 007", "sample 7 by  with 1"),
-        ("sample 0", "sample 0 by  with 1"),
-        ("sample 2147483647", "sample 2147483647 by  with 1"),
-        ("sample 0000000001 --settings 1", "sample 1 by 1 with 1"),
-        ("sample 7 --workers 2 --settings s", "sample 7 by s with 2"),
-        ("check a --workers 1", "check a by  with 1"),
-        ("tree a --workers 64", "tree a by  with 64"),
-        ("slice a b --workers=000000064", "slice a b by  with 64"),
-        ("check --workers 2 -- a", "check a by  with 2"),
-        ("check 7", "check 7 by  with 1"),
-        ("plan -- a --workers 2", "plan a --workers 2 by  with 1"),
-        ("sample -- 12", "sample 12 by  with 1"),
-        ("verify a b", "verify a b by  with 1"),
-        ("verify b a", "verify b a by  with 1"),
-        ("verify a b --settings s", "verify a b by s with 1"),
-        ("verify --settings=s a b", "verify a b by s with 1"),
-        ("verify a --workers 3 b", "verify a b by  with 3"),
-        (
-            "verify --workers=64 --settings s -- a -b",
-            "verify a -b by s with 64",
-        ),
-        (
-            "verify -- --settings --workers",
-            "verify --settings --workers by  with 1",
-        ),
-        ("verify - a", "verify - a by  with 1"),
-        (
-            "verify a b --settings verify",
-            "verify a b by verify with 1",
-        ),
-    ] {
-        let words = split(rt.alloc(), line)?;
-        let job = told(rt.alloc(), &read_words(rt.alloc(), &words))?;
-        assert_eq!(rt; job.as_str(), want, "{line}");
+fn told(alloc: Global, job: &Result<Job, WordFault>) -> Result<String, AllocError> {
+    match job {
+        Ok(job) => job_told(alloc, job),
+        Err(WordFault::Usage) => String::from_str(alloc, "usage"),
+        Err(WordFault::Memory) => String::from_str(alloc, "memory"),
     }
-    Ok(())
 }
 
-#[test]
-fn other_words_are_a_usage_fault(rt: HostRuntime) -> Result<(), Fail> {
-    for line in [
-        "",
-        "a",
-        "check",
-        "check a b",
-        "slice a",
-        "slice a b c",
-        "slice a a",
-        "slice a b --settings a",
-        "slice a b --settings b",
-        "check a --settings a",
-        "check a --settings",
-        "check a --settings s --settings t",
-        "--settings s check a",
-        "--workers 2 check a",
-        "check a --help",
-        "check -h",
-        "help",
-        "--version",
-        "check -a",
-        "Check a",
-        "-- check a",
-        "plan a b",
-        "plan a b c d",
-        "plan a b b",
-        "plan a b a",
-        "plan a a b",
-        "plan a b c --settings a",
-        "plan a b c --settings b",
-        "plan a b c --settings c",
-        "check a --workers 0",
-        "check a --workers 65",
-        "check a --workers 000000000",
-        "check a --workers 0000000001",
-        "check a --workers 4294967297",
-        "check a --workers",
-        "check a --workers=",
-        "check a --workers +2",
-        "check a --workers -2",
-        "check a --workers 2.0",
-        "check a --workers x",
-        "check a --workers 0x2",
-        "check a --workers 2 --workers 2",
-        "check a --workers=2 --workers=3",
-        "check a --worker 2",
-        "check a -w 2",
-        "sample",
-        "sample a",
-        "sample 7 8",
-        "sample 2147483648",
-        "sample 9999999999",
-        "sample 00000000007",
-        "sample -- -1",
-        "sample -1",
-        "sample +7",
-        "sample 7.0",
-        "sample 1e3",
-        "sample 7 --workers 0",
-        "sample 7 --settings s --settings s",
-        "sample --number 7",
-        "verify",
-        "verify a",
-        "verify a b c",
-        "verify a a",
-        "verify -- - -",
-        "verify a b --settings a",
-        "verify a b --settings=b",
-        "verify a b --workers 0",
-        "verify a b --workers 65",
-        "verify a b --settings s --settings t",
-        "verify a b --cli c",
-        "verify a -b",
-        "verify a b --help",
-        "--settings s verify a b",
-        "-- verify a b",
-        "Verify a b",
-        "verifys a b",
-        "plan a --gcode c b",
-    ] {
-        let words = split(rt.alloc(), line)?;
-        let job = told(rt.alloc(), &read_words(rt.alloc(), &words))?;
-        assert_eq!(rt; job.as_str(), "usage", "{line}");
+fn answer(alloc: Global, line: &str) -> Result<String, AllocError> {
+    let words = split(alloc, line)?;
+    told(alloc, &read_words(alloc, &words))
+}
+
+fn is_answered(alloc: Global, line: &str, wanted: &str) -> bool {
+    match answer(alloc, line) {
+        Ok(job) => job.as_str() == wanted,
+        Err(_) => false,
     }
-    Ok(())
+}
+
+/// A command line, and its job.
+const JOBS: [(&str, &str); 35] = [
+    ("check a", "check a by  with 1"),
+    ("tree a", "tree a by  with 1"),
+    ("slice a b", "slice a b by  with 1"),
+    ("slice --settings s a b", "slice a b by s with 1"),
+    ("slice a --settings=s b", "slice a b by s with 1"),
+    ("slice a b --settings s", "slice a b by s with 1"),
+    ("check a --settings=s=t", "check a by s=t with 1"),
+    ("slice -- --settings b", "slice --settings b by  with 1"),
+    ("slice a -- -b", "slice a -b by  with 1"),
+    ("check -", "check - by  with 1"),
+    ("plan a b c", "plan a b c by  with 1"),
+    (
+        "plan --workers 3 a b c --settings s",
+        "plan a b c by s with 3",
+    ),
+    ("plan a --workers=3 b c", "plan a b c by  with 3"),
+    ("sample 7", "sample 7 by  with 1"),
+    ("sample 007", "sample 7 by  with 1"),
+    ("sample 0", "sample 0 by  with 1"),
+    ("sample 2147483647", "sample 2147483647 by  with 1"),
+    ("sample 0000000001 --settings 1", "sample 1 by 1 with 1"),
+    ("sample 7 --workers 2 --settings s", "sample 7 by s with 2"),
+    ("check a --workers 1", "check a by  with 1"),
+    ("tree a --workers 64", "tree a by  with 64"),
+    ("slice a b --workers=000000064", "slice a b by  with 64"),
+    ("check --workers 2 -- a", "check a by  with 2"),
+    ("check 7", "check 7 by  with 1"),
+    ("plan -- a --workers 2", "plan a --workers 2 by  with 1"),
+    ("sample -- 12", "sample 12 by  with 1"),
+    ("verify a b", "verify a b by  with 1"),
+    ("verify b a", "verify b a by  with 1"),
+    ("verify a b --settings s", "verify a b by s with 1"),
+    ("verify --settings=s a b", "verify a b by s with 1"),
+    ("verify a --workers 3 b", "verify a b by  with 3"),
+    (
+        "verify --workers=64 --settings s -- a -b",
+        "verify a -b by s with 64",
+    ),
+    (
+        "verify -- --settings --workers",
+        "verify --settings --workers by  with 1",
+    ),
+    ("verify - a", "verify - a by  with 1"),
+    (
+        "verify a b --settings verify",
+        "verify a b by verify with 1",
+    ),
+];
+
+#[test]
+fn words_of_the_form_give_a_job(rt: HostRuntime) {
+    for &(line, wanted) in &JOBS {
+        assert!(rt; is_answered(rt.alloc(), line, wanted), "{line}");
+    }
+}
+
+const OTHERS: [&str; 77] = [
+    "",
+    "a",
+    "check",
+    "check a b",
+    "slice a",
+    "slice a b c",
+    "slice a a",
+    "slice a b --settings a",
+    "slice a b --settings b",
+    "check a --settings a",
+    "check a --settings",
+    "check a --settings s --settings t",
+    "--settings s check a",
+    "--workers 2 check a",
+    "check a --help",
+    "check -h",
+    "help",
+    "--version",
+    "check -a",
+    "Check a",
+    "-- check a",
+    "plan a b",
+    "plan a b c d",
+    "plan a b b",
+    "plan a b a",
+    "plan a a b",
+    "plan a b c --settings a",
+    "plan a b c --settings b",
+    "plan a b c --settings c",
+    "check a --workers 0",
+    "check a --workers 65",
+    "check a --workers 000000000",
+    "check a --workers 0000000001",
+    "check a --workers 4294967297",
+    "check a --workers",
+    "check a --workers=",
+    "check a --workers +2",
+    "check a --workers -2",
+    "check a --workers 2.0",
+    "check a --workers x",
+    "check a --workers 0x2",
+    "check a --workers 2 --workers 2",
+    "check a --workers=2 --workers=3",
+    "check a --worker 2",
+    "check a -w 2",
+    "sample",
+    "sample a",
+    "sample 7 8",
+    "sample 2147483648",
+    "sample 9999999999",
+    "sample 00000000007",
+    "sample -- -1",
+    "sample -1",
+    "sample +7",
+    "sample 7.0",
+    "sample 1e3",
+    "sample 7 --workers 0",
+    "sample 7 --settings s --settings s",
+    "sample --number 7",
+    "verify",
+    "verify a",
+    "verify a b c",
+    "verify a a",
+    "verify -- - -",
+    "verify a b --settings a",
+    "verify a b --settings=b",
+    "verify a b --workers 0",
+    "verify a b --workers 65",
+    "verify a b --settings s --settings t",
+    "verify a b --cli c",
+    "verify a -b",
+    "verify a b --help",
+    "--settings s verify a b",
+    "-- verify a b",
+    "Verify a b",
+    "verifys a b",
+    "plan a --gcode c b",
+];
+
+#[test]
+fn other_words_are_a_usage_fault(rt: HostRuntime) {
+    for line in &OTHERS {
+        assert!(rt; is_answered(rt.alloc(), line, "usage"), "{line}");
+    }
+}
+
+fn gives(alloc: Global, text: &str, walls: u32, layer_height: u32) -> bool {
+    match read_settings(alloc, text.as_bytes()) {
+        Ok(settings) => {
+            settings.walls == walls
+                && settings.layer_height == layer_height
+                && settings.filament_area == 2_405_282
+        }
+        Err(_) => false,
+    }
 }
 
 #[test]
-fn a_text_gives_the_keys_that_it_has(rt: HostRuntime) -> Result<(), Fail> {
-    for (text, walls, layer_height) in [
+fn a_text_gives_the_keys_that_it_has(rt: HostRuntime) {
+    for &(text, walls, layer_height) in &[
         ("", 2, 200),
         ("\u{feff}# none\r\n", 2, 200),
         ("walls = 1", 1, 200),
@@ -206,21 +230,22 @@ fn a_text_gives_the_keys_that_it_has(rt: HostRuntime) -> Result<(), Fail> {
         ("layer_height = 1_000 # most\nwalls = 0x3\n", 3, 1000),
         ("\"walls\" = +4", 4, 200),
     ] {
-        match read_settings(rt.alloc(), text.as_bytes()) {
-            Ok(settings) => {
-                assert_eq!(rt; settings.walls, walls, "{text}");
-                assert_eq!(rt; settings.layer_height, layer_height, "{text}");
-                assert_eq!(rt; settings.filament_area, 2_405_282, "{text}");
-            }
-            Err(_) => return Err(Fail::from("refused")),
-        }
+        assert!(rt; gives(rt.alloc(), text, walls, layer_height), "{text}");
     }
-    Ok(())
+}
+
+fn is_refused(alloc: Global, text: &str, kind: SetKind, key: &str, value: i64) -> bool {
+    match read_settings(alloc, text.as_bytes()) {
+        Err(SetError::Refused(fault)) => {
+            fault.kind == kind && fault.key.as_slice() == key.as_bytes() && fault.value == value
+        }
+        _ => false,
+    }
 }
 
 #[test]
-fn the_first_fault_of_a_text_is_told(rt: HostRuntime) -> Result<(), Fail> {
-    for (text, kind, key, value) in [
+fn the_first_fault_of_a_text_is_told(rt: HostRuntime) {
+    for &(text, kind, key, value) in &[
         ("walls = ", SetKind::NotToml, "", 0),
         ("walls = 1\nwalls = 1", SetKind::NotToml, "", 0),
         ("walls = 99999999999999999999", SetKind::NotToml, "", 0),
@@ -235,15 +260,7 @@ fn the_first_fault_of_a_text_is_told(rt: HostRuntime) -> Result<(), Fail> {
         ("walls = 11\nbed = 1.5", SetKind::NotWhole, "bed", 0),
         ("walls = 0\na.b = 1", SetKind::UnknownKey, "a", 0),
     ] {
-        match read_settings(rt.alloc(), text.as_bytes()) {
-            Err(SetError::Refused(fault)) => {
-                assert_eq!(rt; fault.kind, kind, "{text}");
-                assert_eq!(rt; fault.key.as_slice(), key.as_bytes(), "{text}");
-                assert_eq!(rt; fault.value, value, "{text}");
-            }
-            _ => return Err(Fail::from("not refused")),
-        }
+        assert!(rt; is_refused(rt.alloc(), text, kind, key, value), "{text}");
     }
     assert!(rt; read_settings(rt.alloc(), &[0xff]).is_err());
-    Ok(())
 }

@@ -33,7 +33,7 @@ const ANGLES: [(i64, i64, i64); 24] = [
 
 #[test]
 fn cosines_and_sines_go_by_the_table(rt: HostRuntime) {
-    for (angle, cosine, sine) in ANGLES {
+    for &(angle, cosine, sine) in &ANGLES {
         if angle.unsigned_abs() <= 1_000_000_000_000 {
             assert!(rt; cos(angle) == cosine && sin(angle) == sine, "at {angle}");
         }
@@ -52,7 +52,7 @@ fn sides(sizes: [i64; 4]) -> Result<i64, NumFault> {
 
 #[test]
 fn circles_have_enough_sides(rt: HostRuntime) {
-    for (sizes, wanted) in [
+    for &(sizes, wanted) in &[
         ([5_000_000, 0, 12_000_000, 2_000_000], 16),
         ([500, 0, 12_000_000, 2_000_000], 3),
         ([1_000, 0, 12_000_000, 2_000_000], 5),
@@ -73,7 +73,7 @@ fn circles_have_enough_sides(rt: HostRuntime) {
 
 #[test]
 fn vertices_are_spread_evenly(rt: HostRuntime) {
-    for (i, n, angle) in [
+    for &(i, n, angle) in &[
         (0, 5, 0),
         (1, 7, 51_429),
         (6, 7, 308_571),

@@ -22,19 +22,26 @@ fn long_name(alloc: Global, len: usize) -> Result<String, AllocError> {
     Ok(name)
 }
 
+fn push_file(
+    alloc: Global,
+    files: &mut Vec<(Text, Text)>,
+    name: &str,
+    text: &[u8],
+) -> Result<(), AllocError> {
+    let name = Text::of(alloc, name.as_bytes())?;
+    let text = Text::of(alloc, text)?;
+    files.push((name, text))?;
+    Ok(())
+}
+
 // Two files of one name, a long one, and one with a name that is too long to be told.
 fn files(alloc: Global) -> Result<Vec<(Text, Text)>, AllocError> {
     let mut files = Vec::new(alloc);
-    files.push((Text::of(alloc, b"a.scad")?, Text::of(alloc, b"cube(1);")?))?;
-    files.push((Text::of(alloc, b"a.scad")?, Text::of(alloc, b"cube(2);")?))?;
-    files.push((
-        Text::of(alloc, b"long.scad")?,
-        Text::from_vec(vec![in alloc; b'\n'; LONG]?),
-    ))?;
-    files.push((
-        Text::of(alloc, long_name(alloc, 5_000)?.as_bytes())?,
-        Text::of(alloc, b"cube(3);")?,
-    ))?;
+    push_file(alloc, &mut files, "a.scad", b"cube(1);")?;
+    push_file(alloc, &mut files, "a.scad", b"cube(2);")?;
+    push_file(alloc, &mut files, "long.scad", &[b'\n'; LONG])?;
+    let name = long_name(alloc, 5_000)?;
+    push_file(alloc, &mut files, name.as_str(), b"cube(3);")?;
     Ok(files)
 }
 
@@ -100,16 +107,20 @@ fn the_first_file_of_a_name_is_read_to_its_end(rt: HostRuntime) {
 }
 
 #[test]
-fn unknown_names_and_listed_calls_fail(rt: HostRuntime) {
-    let mut nameless = desk(&rt, rt.alloc(), &[], 0);
-    assert!(rt; nameless.open("b.scad").is_err());
-    assert_eq!(rt; nameless.faults(), 1);
+fn unknown_names_fail(rt: HostRuntime) {
+    let mut desk = desk(&rt, rt.alloc(), &[], 0);
+    assert!(rt; desk.open("b.scad").is_err());
+    assert!(rt; desk.faults() == 1);
+}
+
+#[test]
+fn listed_calls_fail(rt: HostRuntime) {
     let mut desk = desk(&rt, rt.alloc(), &[3], 9);
     create(&rt, &mut desk, Out::Cli, "o.cli");
     open(&rt, &mut desk, "a.scad");
     write(&rt, &mut desk, Out::Report, b"ok", 2);
     assert!(rt; desk.read(&mut [0; 5]).is_err());
-    assert_eq!(rt; desk.faults(), 1);
+    assert!(rt; desk.faults() == 1);
 }
 
 #[test]
@@ -132,72 +143,102 @@ fn opened(rt: &impl Abort, alloc: Global, fails: &[u64], name: &str) -> MemoryDe
     desk
 }
 
-#[test]
-fn a_name_past_its_room_opens_and_fails_at_create(rt: HostRuntime) {
-    for (len, fits) in [(4_096, true), (4_097, false)] {
-        let name = long_name(rt.alloc(), len).expect(&rt, "a name");
-        let mut desk = desk(&rt, rt.alloc(), &[], 0);
-        assert_eq!(rt;
-            desk.create(Out::Cli, name.as_str()).is_ok(),
-            fits,
-            "{len} bytes"
-        );
+// What is read of the file up to the limit, and how many calls failed.
+fn read_whole(
+    rt: &impl Abort,
+    alloc: Global,
+    fails: &[u64],
+    name: &str,
+    limit: Option<usize>,
+) -> (Result<Text, ReadEnd>, u64) {
+    let mut desk = opened(rt, alloc, fails, name);
+    let text = read_all(alloc, &mut desk, limit);
+    (text, desk.faults())
+}
+
+fn is_text(read: &Result<Text, ReadEnd>, wanted: &[u8]) -> bool {
+    match read {
+        Ok(text) => text.as_slice() == wanted,
+        Err(_) => false,
     }
-    let name = long_name(rt.alloc(), 5_000).expect(&rt, "a name");
-    let mut desk = opened(&rt, rt.alloc(), &[], name.as_str());
-    let text = read_all(rt.alloc(), &mut desk, None).expect(&rt, "a text");
-    assert_eq!(rt; text.as_slice(), b"cube(3);".as_slice());
+}
+
+fn is_created(rt: &impl Abort, alloc: Global, name_len: usize) -> bool {
+    let name = long_name(alloc, name_len).expect(rt, "a name");
+    let mut desk = desk(rt, alloc, &[], 0);
+    desk.create(Out::Cli, name.as_str()).is_ok()
 }
 
 #[test]
-fn an_input_is_read_to_its_end_past_a_limit_or_to_a_fault(rt: HostRuntime) {
-    for (limit, fits) in [
+fn a_name_past_its_room_fails_at_create(rt: HostRuntime) {
+    assert!(rt; is_created(&rt, rt.alloc(), 4_096));
+    assert!(rt; !is_created(&rt, rt.alloc(), 4_097));
+}
+
+#[test]
+fn a_name_past_its_room_opens(rt: HostRuntime) {
+    let name = long_name(rt.alloc(), 5_000).expect(&rt, "a name");
+    let (read, _) = read_whole(&rt, rt.alloc(), &[], name.as_str(), None);
+    assert!(rt; is_text(&read, b"cube(3);"));
+}
+
+#[test]
+fn an_input_is_read_to_its_end_or_past_a_limit(rt: HostRuntime) {
+    for &(limit, fits) in &[
         (None, true),
         (Some(8), true),
         (Some(7), false),
         (Some(0), false),
     ] {
-        let mut desk = opened(&rt, rt.alloc(), &[], "a.scad");
-        match read_all(rt.alloc(), &mut desk, limit) {
-            Ok(text) => assert!(rt; fits && text.as_slice() == b"cube(1);".as_slice()),
-            Err(end) => assert!(rt; !fits && end == ReadEnd::Long),
-        }
-        assert_eq!(rt; desk.faults(), 0);
+        let (read, faults) = read_whole(&rt, rt.alloc(), &[], "a.scad", limit);
+        let is_long = matches!(&read, Err(ReadEnd::Long));
+        assert!(rt; is_text(&read, b"cube(1);") == fits && is_long != fits);
+        assert!(rt; faults == 0);
     }
-    let mut desk = opened(&rt, rt.alloc(), &[], "long.scad");
-    let text = read_all(rt.alloc(), &mut desk, None).expect(&rt, "a text");
-    assert_eq!(rt; text.as_slice().len(), LONG);
-    let mut desk = opened(&rt, rt.alloc(), &[2], "long.scad");
-    assert!(rt; matches!(read_all(rt.alloc(), &mut desk, None), Err(ReadEnd::Fault)));
-    assert_eq!(rt; desk.faults(), 1);
 }
 
 #[test]
-fn a_piece_is_written_whole_or_in_part(rt: HostRuntime) {
+fn a_long_input_is_read_to_its_end_or_to_a_fault(rt: HostRuntime) {
+    let (read, _) = read_whole(&rt, rt.alloc(), &[], "long.scad", None);
+    assert!(rt; is_text(&read, &[b'\n'; LONG]));
+    let (read, faults) = read_whole(&rt, rt.alloc(), &[2], "long.scad", None);
+    assert!(rt; matches!(&read, Err(ReadEnd::Fault)) && faults == 1);
+}
+
+#[test]
+fn a_piece_whose_write_is_listed_fails(rt: HostRuntime) {
     let mut desk = desk(&rt, rt.alloc(), &[0], 5);
     assert!(rt;
         write_all(&mut desk, Out::Report, b"").is_ok(),
         "no call is made"
     );
     assert!(rt; write_all(&mut desk, Out::Report, b"a").is_err());
-    let mut desk = self::desk(&rt, rt.alloc(), &[], 5);
+}
+
+#[test]
+fn a_piece_is_written_whole_or_in_part(rt: HostRuntime) {
+    let mut desk = desk(&rt, rt.alloc(), &[], 5);
     assert!(rt; write_all(&mut desk, Out::Report, b"abc").is_ok());
     assert!(rt; write_all(&mut desk, Out::Report, b"def").is_err());
-    assert_eq!(rt; desk.written(Out::Report), b"abcde".as_slice());
-    assert_eq!(rt; desk.faults(), 1);
+    assert!(rt; desk.written(Out::Report) == b"abcde".as_slice());
+    assert!(rt; desk.faults() == 1);
+}
+
+#[test]
+fn a_desk_that_keeps_nothing_reads_nothing(rt: HostRuntime) {
+    let mut desk = NullDesk::new();
+    assert!(rt; desk.open("a.scad").is_ok());
+    let read = read_all(rt.alloc(), &mut desk, None);
+    assert!(rt; is_text(&read, b""));
 }
 
 #[test]
 fn a_desk_that_keeps_nothing_takes_all(rt: HostRuntime) {
     let mut desk = NullDesk::new();
-    assert!(rt; desk.open("a.scad").is_ok());
-    let text = read_all(rt.alloc(), &mut desk, None).expect(&rt, "a text");
-    assert!(rt; text.as_slice().is_empty());
     assert!(rt; desk.create(Out::Gcode, "o.gcode").is_ok());
     assert!(rt; desk.create(Out::Cli, "o.cli").is_ok());
-    let piece = [b'x'; LONG];
-    assert_eq!(rt; desk.write(Out::Report, &piece).ok(), Some(LONG));
-    assert_eq!(rt; desk.write(Out::Gcode, &piece).ok(), Some(LONG));
+    assert!(rt; matches!(desk.write(Out::Report, &[b'x'; LONG]), Ok(LONG)));
+    assert!(rt; matches!(desk.write(Out::Gcode, &[b'x'; LONG]), Ok(LONG)));
     assert!(rt; write_all(&mut desk, Out::Cli, b"$$HEADERSTART\n").is_ok());
 }
 

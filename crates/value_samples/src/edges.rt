@@ -34,7 +34,7 @@ const SLANTED: Edge = Edge {
 
 #[test]
 fn an_edge_reaches_the_heights_of_its_ends(rt: HostRuntime) {
-    for (n, starts, ends) in [
+    for &(n, starts, ends) in &[
         (-1, false, true),
         (0, true, true),
         (6, true, true),
@@ -75,7 +75,7 @@ fn edges_lie_left_right_and_on(rt: HostRuntime) {
 
 #[test]
 fn squares_meet_edges_that_touch_them(rt: HostRuntime) {
-    for (x, y, half, width, meets) in [
+    for &(x, y, half, width, meets) in &[
         (0, 0, Half::Whole, 5, true),
         (0, 0, Half::Whole, 4, false),
         (0, 0, Half::Cell, 4, false),

@@ -42,7 +42,7 @@ fn values_past_64_bits_are_exact(rt: HostRuntime) {
 
 #[test]
 fn halves_are_rounded_downwards(rt: HostRuntime) {
-    for (n, d, want) in [
+    for &(n, d, want) in &[
         (1001, 2, 500),
         (-1001, 2, -501),
         (-1, 3, 0),

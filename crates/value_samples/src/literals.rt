@@ -66,14 +66,14 @@ const LITERALS: [(&str, i64); 42] = [
 
 #[test]
 fn literals_are_rounded_once(rt: HostRuntime) {
-    for (text, wanted) in LITERALS {
+    for &(text, wanted) in &LITERALS {
         assert!(rt; millionths(text.as_bytes()) == wanted, "at {text}");
     }
 }
 
 #[test]
 fn the_longest_literal_is_read(rt: HostRuntime) {
-    for (text, wanted) in [
+    for &(text, wanted) in &[
         ("12.5e3x", 6),
         ("1..2", 2),
         ("1.e5", 4),
@@ -109,7 +109,7 @@ fn has_text(alloc: Global, millionths: i64, wanted: &[u8]) -> bool {
 
 #[test]
 fn texts_have_no_ending_zeros(rt: HostRuntime) {
-    for (millionths, wanted) in [
+    for &(millionths, wanted) in &[
         (0, "0"),
         (1_000_000, "1"),
         (-500_000, "-0.5"),

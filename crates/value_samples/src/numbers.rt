@@ -76,7 +76,7 @@ const RESULTS: [(char, i64, i64, i64); 43] = [
 
 #[test]
 fn results_are_rounded_once(rt: HostRuntime) {
-    for (operator, a, b, wanted) in RESULTS {
+    for &(operator, a, b, wanted) in &RESULTS {
         assert!(rt;
             millionths(applied(operator, a, b)) == wanted,
             "{a} {operator} {b}"
@@ -157,7 +157,7 @@ fn root(square: i64) -> i64 {
 
 #[test]
 fn roots_are_cut(rt: HostRuntime) {
-    for (square, wanted) in [
+    for &(square, wanted) in &[
         (0, 0),
         (1, 1_000),
         (2, 1_414),
@@ -175,7 +175,7 @@ fn roots_are_cut(rt: HostRuntime) {
 
 #[test]
 fn numbers_end_at_a_thousand_million(rt: HostRuntime) {
-    for (given, wanted) in [
+    for &(given, wanted) in &[
         (1_000_000_000_000_001, RANGE),
         (-1_000_000_000_000_001, RANGE),
         (-1_000_000_000_000_000, -1_000_000_000_000_000),

@@ -20,7 +20,7 @@ const STEEP_LEFT: Edge = Edge {
 
 #[test]
 fn slants_are_rounded_down(rt: HostRuntime) {
-    for (c, short, sum) in [
+    for &(c, short, sum) in &[
         (1, 0, 1),
         (2, 0, 2),
         (3, 1, 4),
@@ -35,7 +35,7 @@ fn slants_are_rounded_down(rt: HostRuntime) {
 // Each row stands at a border: a neighbouring point has the other answer.
 #[test]
 fn an_octagon_meets_a_diagonal_edge_that_touches_it(rt: HostRuntime) {
-    for (x, y, half, s, u, meets) in [
+    for &(x, y, half, s, u, meets) in &[
         (-3, 8, Half::Cell, 3, 4, true),
         (2, 12, Half::Cell, 3, 4, false),
         (6, -4, Half::Cell, 5, 7, true),
@@ -52,7 +52,7 @@ fn an_octagon_meets_a_diagonal_edge_that_touches_it(rt: HostRuntime) {
 
 #[test]
 fn an_octagon_meets_a_rising_edge_that_touches_it(rt: HostRuntime) {
-    for (x, y, half, s, u, meets) in [
+    for &(x, y, half, s, u, meets) in &[
         (-3, -2, Half::Cell, 3, 4, true),
         (0, 3, Half::Cell, 3, 4, false),
         (-4, 3, Half::Whole, 5, 7, true),
@@ -69,7 +69,7 @@ fn an_octagon_meets_a_rising_edge_that_touches_it(rt: HostRuntime) {
 
 #[test]
 fn an_octagon_meets_a_steep_edge_that_touches_it(rt: HostRuntime) {
-    for (x, y, half, s, u, meets) in [
+    for &(x, y, half, s, u, meets) in &[
         (1, 7, Half::Whole, 3, 4, true),
         (2, 6, Half::Whole, 3, 4, false),
         (-6, 1, Half::Cell, 5, 7, true),

@@ -34,9 +34,12 @@ const DIAGONAL: [Edge; 1] = [Edge {
     b: Pt { x: FAR, y: FAR },
 }];
 
-const fn at(x: i32, y: i32) -> Pt {
-    Pt { x, y }
-}
+const POINTS: [Pt; 4] = [
+    Pt { x: 0, y: 0 },
+    Pt { x: 5, y: 0 },
+    Pt { x: 0, y: -5 },
+    Pt { x: 0, y: 0 },
+];
 
 fn outline_comes_back(alloc: Global, points: &[Pt]) -> bool {
     match Vec::from_slice(alloc, points) {
@@ -60,24 +63,26 @@ fn path_comes_back(alloc: Global, points: &[Pt]) -> bool {
 
 #[test]
 fn points_of_outlines_and_paths_come_back(rt: HostRuntime) {
-    assert!(rt; outline_comes_back(rt.alloc(), &[at(0, 0), at(5, 0), at(0, -5)]));
-    assert!(rt; path_comes_back(rt.alloc(), &[at(0, 0), at(5, 0), at(0, 0)]));
+    assert!(rt; outline_comes_back(rt.alloc(), &POINTS));
+    assert!(rt; path_comes_back(rt.alloc(), &POINTS));
 }
+
+/// Points, and how often the star winds round them.
+const TURNS: [(i32, i32, Half, i64); 9] = [
+    (0, 0, Half::Whole, 2),
+    (0, 0, Half::Cell, 2),
+    (0, 9, Half::Whole, 1),
+    (0, 9, Half::Cell, 0),
+    (-6, -8, Half::Whole, 0),
+    (-6, -8, Half::Cell, 1),
+    (2, 3, Half::Whole, 1),
+    (2, 3, Half::Cell, 0),
+    (9, 3, Half::Whole, 0),
+];
 
 #[test]
 fn a_star_winds_twice_round_its_middle(rt: HostRuntime) {
-    let cases = [
-        (0, 0, Half::Whole, 2),
-        (0, 0, Half::Cell, 2),
-        (0, 9, Half::Whole, 1),
-        (0, 9, Half::Cell, 0),
-        (-6, -8, Half::Whole, 0),
-        (-6, -8, Half::Cell, 1),
-        (2, 3, Half::Whole, 1),
-        (2, 3, Half::Cell, 0),
-        (9, 3, Half::Whole, 0),
-    ];
-    for (x, y, half, turns) in cases {
+    for &(x, y, half, turns) in &TURNS {
         assert!(rt; winding(&STAR, Pt { x, y }, half) == turns, "at {x}, {y}");
     }
     assert!(rt; winding(&[], Pt { x: 0, y: 0 }, Half::Cell) == 0);
@@ -85,7 +90,7 @@ fn a_star_winds_twice_round_its_middle(rt: HostRuntime) {
 
 #[test]
 fn widest_edges_are_counted_exactly(rt: HostRuntime) {
-    for (x, y, half, turns) in [
+    for &(x, y, half, turns) in &[
         (FAR - 1, FAR - 1, Half::Whole, 0),
         (FAR - 2, FAR - 1, Half::Cell, 1),
         (FAR - 1, FAR - 1, Half::Cell, 0),
@@ -100,37 +105,72 @@ fn widest_edges_are_counted_exactly(rt: HostRuntime) {
     }
 }
 
+/// Outlines, and twice their areas.
+const AREAS: [(&[Pt], i128); 7] = [
+    (&[], 0),
+    (&[Pt { x: 7, y: 5 }], 0),
+    (&[Pt { x: 3, y: 1 }, Pt { x: -7, y: 5 }], 0),
+    (
+        &[
+            Pt { x: 0, y: 0 },
+            Pt { x: 10, y: 0 },
+            Pt { x: 10, y: 10 },
+            Pt { x: 0, y: 10 },
+        ],
+        200,
+    ),
+    (
+        &[
+            Pt { x: 0, y: 0 },
+            Pt { x: 0, y: 10 },
+            Pt { x: 10, y: 10 },
+            Pt { x: 10, y: 0 },
+        ],
+        -200,
+    ),
+    (
+        &[
+            Pt { x: 0, y: 10 },
+            Pt { x: -6, y: -8 },
+            Pt { x: 9, y: 3 },
+            Pt { x: -9, y: 3 },
+            Pt { x: 6, y: -8 },
+        ],
+        282,
+    ),
+    (
+        &[
+            Pt {
+                x: i32::MIN,
+                y: i32::MIN,
+            },
+            Pt {
+                x: i32::MAX,
+                y: i32::MIN,
+            },
+            Pt {
+                x: i32::MAX,
+                y: i32::MAX,
+            },
+            Pt {
+                x: i32::MIN,
+                y: i32::MAX,
+            },
+        ],
+        36_893_488_130_239_234_050,
+    ),
+];
+
 #[test]
 fn counter_clockwise_areas_are_above_zero(rt: HostRuntime) {
-    let (least, most) = (i32::MIN, i32::MAX);
-    let cases: [(&[Pt], i128); 7] = [
-        (&[], 0),
-        (&[at(7, 5)], 0),
-        (&[at(3, 1), at(-7, 5)], 0),
-        (&[at(0, 0), at(10, 0), at(10, 10), at(0, 10)], 200),
-        (&[at(0, 0), at(0, 10), at(10, 10), at(10, 0)], -200),
-        (
-            &[at(0, 10), at(-6, -8), at(9, 3), at(-9, 3), at(6, -8)],
-            282,
-        ),
-        (
-            &[
-                at(least, least),
-                at(most, least),
-                at(most, most),
-                at(least, most),
-            ],
-            36_893_488_130_239_234_050,
-        ),
-    ];
-    for (points, area) in cases {
+    for &(points, area) in &AREAS {
         assert!(rt; twice_area(points) == area, "{area}");
     }
 }
 
 #[test]
 fn a_metre_is_in_range_and_a_micrometre_more_is_not(rt: HostRuntime) {
-    for (x, y, z, wanted) in [
+    for &(x, y, z, wanted) in &[
         (1_000_000, 1_000_000, 1_000_000, true),
         (-1_000_000, -1_000_000, -1_000_000, true),
         (1_000_001, 0, 0, false),
@@ -167,7 +207,7 @@ fn operations(alloc: Global) -> Result<[Shape; 3], AllocError> {
 #[test]
 fn operations_hold_by_their_members(rt: HostRuntime) {
     let [union, inter, diff] = operations(rt.alloc()).expect(&rt, "operations");
-    for (inside, wanted) in [
+    for &(inside, wanted) in &[
         ([false, false, false], [false, false, false]),
         ([true, false, false], [false, false, true]),
         ([true, true, false], [true, false, false]),

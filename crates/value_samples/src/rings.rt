@@ -124,7 +124,7 @@ const ROUND_SMALL: [Pt; 6] = [
 // An edge and the same one backwards have one ring.
 #[test]
 fn rings_of_sixteen_directions(rt: HostRuntime) {
-    for (x, y, corners) in [
+    for &(x, y, corners) in &[
         (400, 0, EAST.as_slice()),
         (400, 150, EAST_BY_NORTH.as_slice()),
         (300, 300, NORTH_EAST.as_slice()),

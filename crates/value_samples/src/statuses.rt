@@ -64,7 +64,7 @@ fn fault_ends_with(alloc: Global, kind: Kind, name: &str, line: &str) -> bool {
 
 #[test]
 fn faults_end_with_their_lines(rt: HostRuntime) {
-    for (kind, name, line) in FAULTS {
+    for &(kind, name, line) in &FAULTS {
         assert!(rt; fault_ends_with(rt.alloc(), kind, name, line), "{line}");
     }
     let unnamed = Fault::unnamed(rt.alloc(), Kind::MixedDimensions, Place::START);
@@ -77,40 +77,66 @@ fn faults_end_with_their_lines(rt: HostRuntime) {
     );
 }
 
+/// Budgets that are passed at a place.
+const PLACED: [(Limit, &str); 5] = [
+    (Limit::Steps, "budget 2 Steps at 1:27\n"),
+    (Limit::Depth, "budget 3 Depth at 1:27\n"),
+    (Limit::Leaves, "budget 4 Leaves at 1:27\n"),
+    (Limit::Triangles, "budget 5 Triangles at 1:27\n"),
+    (Limit::HullPoints, "budget 10 HullPoints at 1:27\n"),
+];
+
+/// Budgets of a layer, with its number and a count.
+const OF_LAYER: [(Limit, u32, u64, &str); 3] = [
+    (
+        Limit::LayerEdges,
+        4,
+        20010,
+        "budget 7 LayerEdges layer 4 count 20010\n",
+    ),
+    (
+        Limit::LayerCrossings,
+        0,
+        2000001,
+        "budget 8 LayerCrossings layer 0 count 2000001\n",
+    ),
+    (
+        Limit::LayerMoves,
+        4294967295,
+        18446744073709551615,
+        "budget 9 LayerMoves layer 4294967295 count 18446744073709551615\n",
+    ),
+];
+
+fn budget_ends_with(alloc: Global, budget: Budget, line: &str) -> bool {
+    ends_with(alloc, &Status::Over(budget), line)
+}
+
 #[test]
 fn budgets_end_with_their_lines(rt: HostRuntime) {
-    let at = Place { line: 1, col: 27 };
-    let edges = Budget::of_layer(Limit::LayerEdges, 4, 20010);
-    let crossings = Budget::of_layer(Limit::LayerCrossings, 0, 2000001);
-    let moves = Budget::of_layer(Limit::LayerMoves, 4294967295, 18446744073709551615);
-    let most = "budget 9 LayerMoves layer 4294967295 count 18446744073709551615\n";
-    for (budget, line) in [
-        (Budget::source_long(), "budget 1 SourceLong\n"),
-        (Budget::placed(Limit::Steps, at), "budget 2 Steps at 1:27\n"),
-        (Budget::placed(Limit::Depth, at), "budget 3 Depth at 1:27\n"),
-        (
-            Budget::placed(Limit::Leaves, at),
-            "budget 4 Leaves at 1:27\n",
-        ),
-        (
-            Budget::placed(Limit::Triangles, at),
-            "budget 5 Triangles at 1:27\n",
-        ),
-        (Budget::layers(50000), "budget 6 Layers count 50000\n"),
-        (edges, "budget 7 LayerEdges layer 4 count 20010\n"),
-        (crossings, "budget 8 LayerCrossings layer 0 count 2000001\n"),
-        (moves, most),
-        (
-            Budget::placed(Limit::HullPoints, at),
-            "budget 10 HullPoints at 1:27\n",
-        ),
-        (Budget::file_long(), "budget 12 FileLong\n"),
-    ] {
-        assert!(rt;
-            ends_with(rt.alloc(), &Status::Over(budget), line),
-            "{line}"
-        );
+    let alloc = rt.alloc();
+    for &(kind, line) in &PLACED {
+        let budget = Budget::placed(kind, Place { line: 1, col: 27 });
+        assert!(rt; budget_ends_with(alloc, budget, line), "{line}");
     }
+    for &(kind, layer, count, line) in &OF_LAYER {
+        let budget = Budget::of_layer(kind, layer, count);
+        assert!(rt; budget_ends_with(alloc, budget, line), "{line}");
+    }
+}
+
+#[test]
+fn other_budgets_end_with_their_lines(rt: HostRuntime) {
+    let alloc = rt.alloc();
+    assert!(rt; budget_ends_with(alloc, Budget::source_long(), "budget 1 SourceLong\n"));
+    assert!(rt;
+        budget_ends_with(
+            alloc,
+            Budget::layers(50000),
+            "budget 6 Layers count 50000\n"
+        )
+    );
+    assert!(rt; budget_ends_with(alloc, Budget::file_long(), "budget 12 FileLong\n"));
 }
 
 const BAD_FILES: [(BadKind, u64, u64, &str); 5] = [
@@ -157,7 +183,7 @@ fn settings_end_with(alloc: Global, kind: SetKind, key: &str, value: i64, line: 
 
 #[test]
 fn settings_faults_end_with_their_lines(rt: HostRuntime) {
-    for (kind, key, value, line) in SETTINGS {
+    for &(kind, key, value, line) in &SETTINGS {
         assert!(rt;
             settings_end_with(rt.alloc(), kind, key, value, line),
             "{line}"
@@ -173,7 +199,7 @@ fn judged_files_end_with_their_lines(rt: HostRuntime) {
         line: 15,
     };
     assert!(rt; ends_with(alloc, &outside, "outside: move 1 line 15\n"));
-    for (kind, first, second, line) in BAD_FILES {
+    for &(kind, first, second, line) in &BAD_FILES {
         let bad = Status::BadFile {
             kind,
             first,

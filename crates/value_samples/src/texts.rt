@@ -97,7 +97,7 @@ const CASES: [(&str, Option<u16>); 12] = [
 
 #[test]
 fn listed_names_are_found_and_no_others(rt: HostRuntime) {
-    for (name, id) in CASES {
+    for &(name, id) in &CASES {
         assert!(rt; find(keys(), name.as_bytes()) == id, "{name}");
     }
     assert!(rt; find(keys(), b"\xff").is_none());

@@ -105,7 +105,7 @@ fn is_sized(v: &Value, number: bool, size: u64, depth: u32) -> bool {
 
 #[test]
 fn values_have_sizes(rt: HostRuntime) {
-    for (form, number, size, depth) in SIZES {
+    for &(form, number, size, depth) in &SIZES {
         let all = values(rt.alloc(), form).expect(&rt, "values");
         for v in &all {
             assert!(rt; is_sized(v, number, size, depth), "{form}");

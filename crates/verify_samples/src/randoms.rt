@@ -290,7 +290,7 @@ const ROWS: [(&str, &str, Verdict); 40] = [
 #[test]
 fn random_moves(rt: HostRuntime) -> Result<(), Fail> {
     let alloc = rt.alloc();
-    for (outlines, program, wanted) in ROWS {
+    for &(outlines, program, wanted) in &ROWS {
         assert!(rt; judged(alloc, outlines.as_bytes(), program, 100) == Some(Ok(wanted)));
     }
     Ok(())

@@ -96,7 +96,7 @@ fn program_with(alloc: Global, fifteenth: &str) -> Result<String, AllocError> {
 #[test]
 fn programs_of_a_thin_plate(rt: HostRuntime) -> Result<(), Fail> {
     let alloc = rt.alloc();
-    for (outlines, fifteenth, wanted) in ROWS {
+    for &(outlines, fifteenth, wanted) in &ROWS {
         let program = program_with(alloc, fifteenth)?;
         assert!(rt; judged(alloc, outlines.as_bytes(), program.as_str(), 450) == Some(wanted));
     }

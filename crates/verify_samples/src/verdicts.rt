@@ -288,7 +288,7 @@ const MORE_ROWS: [(&str, &str, Verdict); 6] = [
 #[test]
 fn programs_over_a_plate(rt: HostRuntime) -> Result<(), Fail> {
     let alloc = rt.alloc();
-    for (program, wanted) in ROWS {
+    for &(program, wanted) in &ROWS {
         assert!(rt; judged(alloc, PLATE.as_bytes(), program, 450) == Some(wanted));
     }
     Ok(())
@@ -297,7 +297,7 @@ fn programs_over_a_plate(rt: HostRuntime) -> Result<(), Fail> {
 #[test]
 fn programs_over_more(rt: HostRuntime) -> Result<(), Fail> {
     let alloc = rt.alloc();
-    for (outlines, program, wanted) in MORE_ROWS {
+    for &(outlines, program, wanted) in &MORE_ROWS {
         assert!(rt; judged(alloc, outlines.as_bytes(), program, 450) == Some(Ok(wanted)));
     }
     Ok(())
