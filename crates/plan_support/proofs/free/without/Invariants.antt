@@ -1,0 +1,5 @@
+use Rattle.plan_support.proofs.Freed.{WithoutUpTo}
+use Rattle.plan_support.proofs.free.without.Given as goal
+
+abbrev pub invariant-runs : goal.invariant-runs
+invariant-runs l = WithoutUpTo l.runs l.holes l.run-index l.next l.out.items
