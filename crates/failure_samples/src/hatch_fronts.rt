@@ -3,7 +3,6 @@ use cli_read::{Cli, CliFault, read};
 use cli_text::{write_end, write_head, write_layer};
 use scad_geom::{Edge, Pt};
 use std::alloc::{AllocError, Global};
-use std::test::Fail;
 
 /// Each line of the text, the number that it says, and what is read of the fronts that end in it, the shortest first: `b` where
 /// the line is bad or wanting, `n` where it is well and the next one is wanting, a figure where it says another number of points
@@ -77,23 +76,26 @@ fn mark(answer: &Result<Cli, CliFault>, line: u64, said: u64) -> char {
 }
 
 #[test]
-fn each_front_of_hatches(rt: HostRuntime) -> Result<(), Fail> {
+fn each_front_of_hatches(rt: HostRuntime) {
     let alloc = rt.alloc();
     let mut text = Vec::new(alloc);
     let mut number = 0u64;
     for (line, said, wanted) in lines() {
         number = number.saturating_add(1);
         let mut marks = String::new(alloc);
-        marks.push(mark(&read(alloc, &text), number, *said))?;
+        marks
+            .push(mark(&read(alloc, &text), number, *said))
+            .expect(&rt, "memory");
         for byte in line.as_bytes() {
-            text.push(*byte)?;
-            marks.push(mark(&read(alloc, &text), number, *said))?;
+            text.push(*byte).expect(&rt, "memory");
+            marks
+                .push(mark(&read(alloc, &text), number, *said))
+                .expect(&rt, "memory");
         }
         assert_eq!(rt; marks.as_str(), *wanted, "{line}");
-        text.push(b'\n')?;
+        text.push(b'\n').expect(&rt, "memory");
     }
     assert!(rt; read(alloc, &text).is_ok());
-    Ok(())
 }
 
 const FRONT: [Edge; 2] = [
@@ -193,29 +195,34 @@ fn written(alloc: Global, cli: &Cli) -> Result<Vec<u8>, AllocError> {
     Ok(text)
 }
 
-#[test]
-fn hatches_are_joined(rt: HostRuntime) -> Result<(), Fail> {
-    let alloc = rt.alloc();
-    let Ok(cli) = read(alloc, &whole(alloc)?) else {
-        return Err(Fail::new("the text is of the form"));
-    };
-    let [lower, middle, upper] = cli.layers.as_slice() else {
-        return Err(Fail::new("there are three layers"));
-    };
-    assert_eq!(rt; lower.hatches.as_slice(), front());
-    assert_eq!(rt; middle.hatches.as_slice(), joined());
-    assert_eq!(rt; upper.hatches.as_slice(), last());
-    assert_eq!(rt; upper.loops.as_slice().len(), 0);
-    assert_eq!(rt; written(alloc, &cli)?.as_slice(), WRITTEN.as_bytes());
-    Ok(())
+fn are_joined(cli: &Cli) -> bool {
+    match cli.layers.as_slice() {
+        [lower, middle, upper] => {
+            lower.hatches.as_slice() == front()
+                && middle.hatches.as_slice() == joined()
+                && upper.hatches.as_slice() == last()
+                && upper.loops.as_slice().is_empty()
+        }
+        _ => false,
+    }
+}
+
+fn is_written(alloc: Global, cli: &Cli) -> bool {
+    match written(alloc, cli) {
+        Ok(text) => text.as_slice() == WRITTEN.as_bytes(),
+        Err(_) => false,
+    }
 }
 
 #[test]
-fn written_hatches_are_read(rt: HostRuntime) -> Result<(), Fail> {
-    let alloc = rt.alloc();
-    let Ok(cli) = read(alloc, WRITTEN.as_bytes()) else {
-        return Err(Fail::new("the text was written so"));
-    };
-    assert_eq!(rt; written(alloc, &cli)?.as_slice(), WRITTEN.as_bytes());
-    Ok(())
+fn hatches_are_joined(rt: HostRuntime) {
+    let text = whole(rt.alloc()).expect(&rt, "memory for a text");
+    let cli = read(rt.alloc(), &text).expect(&rt, "a text of the form");
+    assert!(rt; are_joined(&cli) && is_written(rt.alloc(), &cli));
+}
+
+#[test]
+fn written_hatches_are_read(rt: HostRuntime) {
+    let cli = read(rt.alloc(), WRITTEN.as_bytes()).expect(&rt, "the text was written so");
+    assert!(rt; is_written(rt.alloc(), &cli));
 }

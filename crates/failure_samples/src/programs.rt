@@ -1,7 +1,6 @@
 //! Every front of a printing program, fed to the machine.
 use gcode_text::{GFault, Machine, Move};
 use std::process::Abort;
-use std::test::Fail;
 
 /// The program of a plate of three millimetres, one layer thick.
 const PROGRAM: &str = "; scadslice
@@ -88,17 +87,19 @@ fn mark(answer: &Result<Option<Move>, GFault>, line: usize) -> char {
 
 /// The moves before the cut are those of the whole, since its lines are; a refused line changes none behind it either.
 #[test]
-fn each_front_of_a_program(rt: HostRuntime) -> Result<(), Fail> {
+fn each_front_of_a_program(rt: HostRuntime) {
     let mut lines = Vec::new(rt.alloc());
     for line in PROGRAM.split('\n') {
-        lines.push(line)?;
+        lines.push(line).expect(&rt, "memory");
     }
     let mut marks = String::new(rt.alloc());
     for (number, line) in lines.iter().enumerate() {
         for len in 0..=line.len() {
             let mut machine = driven(&rt, &lines[..number]);
             let answer = machine.step(&line.as_bytes()[..len]);
-            marks.push(mark(&answer, number.saturating_add(1)))?;
+            marks
+                .push(mark(&answer, number.saturating_add(1)))
+                .expect(&rt, "memory");
             if answer.is_err() {
                 let whole = driven(&rt, &lines[..number]).step(line.as_bytes());
                 assert!(rt; machine.step(line.as_bytes()) == whole, "{line}");
@@ -106,5 +107,4 @@ fn each_front_of_a_program(rt: HostRuntime) -> Result<(), Fail> {
         }
     }
     assert_eq!(rt; marks.as_str(), MARKS);
-    Ok(())
 }

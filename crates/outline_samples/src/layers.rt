@@ -1,59 +1,67 @@
 //! Outlines of small trees, worked out by another program.
 
-use scad_geom::{Loop, Pt, Pt3};
+use scad_geom::{Loop, Pt3};
 use scad_solid::{Face, Triangles};
 use scad_tree::{Tree, subtract, unite};
 use slice_bool::BoolFault;
 use slice_layer::layer_outlines;
 use std::alloc::{AllocError, Global};
-use std::test::Fail;
 
-fn polyhedron(alloc: Global, points: &[[i32; 3]], faces: Vec<Face>) -> Result<Tree, Fail> {
+const SIDES: [[u32; 3]; 4] = [[0, 1, 2], [0, 3, 1], [1, 3, 2], [0, 2, 3]];
+
+const BLOCK: [[u32; 4]; 6] = [
+    [0, 1, 2, 3],
+    [4, 7, 6, 5],
+    [0, 4, 5, 1],
+    [1, 5, 6, 2],
+    [2, 6, 7, 3],
+    [3, 7, 4, 0],
+];
+
+fn polyhedron(alloc: Global, points: &[[i32; 3]], faces: &[Face]) -> Option<Tree> {
     let mut corners = Vec::new(alloc);
-    for [x, y, z] in points {
-        corners.push(Pt3 {
-            x: *x,
-            y: *y,
-            z: *z,
-        })?;
+    for &[x, y, z] in points {
+        corners.push(Pt3 { x, y, z }).ok()?;
     }
-    let triangles = Triangles::from_faces(alloc, &corners, &faces)?;
+    let triangles = Triangles::from_faces(alloc, &corners, faces).ok()?;
     if triangles.count() == 0 {
-        return Ok(Tree::empty());
+        return None;
     }
-    Ok(Tree::leaf(triangles))
+    Some(Tree::leaf(triangles))
 }
 
-fn tetrahedron(alloc: Global, points: &[[i32; 3]; 4]) -> Result<Tree, Fail> {
+fn sides(alloc: Global) -> Result<Vec<Face>, AllocError> {
     let mut faces = Vec::new(alloc);
-    for face in [[0, 1, 2], [0, 3, 1], [1, 3, 2], [0, 2, 3]] {
+    for face in &SIDES {
         faces.push(Face::from_vec(face.to_vec(alloc)?))?;
     }
-    polyhedron(alloc, points, faces)
+    Ok(faces)
+}
+
+fn tetrahedron(alloc: Global, points: &[[i32; 3]; 4]) -> Option<Tree> {
+    let faces = sides(alloc).ok()?;
+    polyhedron(alloc, points, &faces)
 }
 
 // One whose sides lie along the axes.
-fn corner(alloc: Global, size: i32) -> Result<Tree, Fail> {
+fn corner(alloc: Global, size: i32) -> Option<Tree> {
     tetrahedron(
         alloc,
         &[[0, 0, 0], [size, 0, 0], [0, size, 0], [0, 0, size]],
     )
 }
 
-fn block(alloc: Global, low: [i32; 3], high: [i32; 3]) -> Result<Tree, Fail> {
-    let [left, front, bottom] = low;
-    let [right, back, top] = high;
+fn block_faces(alloc: Global) -> Result<Vec<Face>, AllocError> {
     let mut faces = Vec::new(alloc);
-    for face in [
-        [0, 1, 2, 3],
-        [4, 7, 6, 5],
-        [0, 4, 5, 1],
-        [1, 5, 6, 2],
-        [2, 6, 7, 3],
-        [3, 7, 4, 0],
-    ] {
+    for face in &BLOCK {
         faces.push(Face::from_vec(face.to_vec(alloc)?))?;
     }
+    Ok(faces)
+}
+
+fn block(alloc: Global, low: [i32; 3], high: [i32; 3]) -> Option<Tree> {
+    let [left, front, bottom] = low;
+    let [right, back, top] = high;
     let points = [
         [left, front, bottom],
         [right, front, bottom],
@@ -64,158 +72,150 @@ fn block(alloc: Global, low: [i32; 3], high: [i32; 3]) -> Result<Tree, Fail> {
         [right, back, top],
         [left, back, top],
     ];
-    polyhedron(alloc, &points, faces)
+    let faces = block_faces(alloc).ok()?;
+    polyhedron(alloc, &points, &faces)
 }
 
-fn without(alloc: Global, first: Tree, second: Tree) -> Result<Tree, Fail> {
+fn without(alloc: Global, first: Tree, second: Tree) -> Option<Tree> {
     let mut members = Vec::new(alloc);
-    members.push(first)?;
-    members.push(second)?;
-    Ok(subtract(alloc, members)?)
+    members.push(first).ok()?;
+    members.push(second).ok()?;
+    subtract(alloc, members).ok()
 }
 
 // Two millimetres square and one high, with a square hole.
-fn plate(alloc: Global) -> Result<Tree, Fail> {
+fn plate(alloc: Global) -> Option<Tree> {
     let whole = block(alloc, [0, 0, 0], [2000, 2000, 1000])?;
     let hole = block(alloc, [500, 500, -1000], [1500, 1500, 2000])?;
     without(alloc, whole, hole)
 }
 
+const LOW: [[i32; 3]; 4] = [[0, 0, 0], [2000, 300, 0], [700, 1900, 0], [900, 800, 1000]];
+
+const STEEP: [[i32; 3]; 4] = [
+    [500, 200, -100],
+    [1600, 500, -100],
+    [800, 1700, -100],
+    [950, 900, 2000],
+];
+
 // A tetrahedron without a steeper one.
-fn hollow(alloc: Global) -> Result<Tree, Fail> {
-    let whole = tetrahedron(
-        alloc,
-        &[[0, 0, 0], [2000, 300, 0], [700, 1900, 0], [900, 800, 1000]],
-    )?;
-    let steep = tetrahedron(
-        alloc,
-        &[
-            [500, 200, -100],
-            [1600, 500, -100],
-            [800, 1700, -100],
-            [950, 900, 2000],
-        ],
-    )?;
+fn hollow(alloc: Global) -> Option<Tree> {
+    let whole = tetrahedron(alloc, &LOW)?;
+    let steep = tetrahedron(alloc, &STEEP)?;
     without(alloc, whole, steep)
 }
 
-// Each vertex with the number of its loop.
-fn vertices(alloc: Global, loops: &[Loop]) -> Result<Vec<(usize, i32, i32)>, AllocError> {
-    let mut vertices = Vec::new(alloc);
-    for (number, outline) in loops.iter().enumerate() {
-        for Pt { x, y } in outline.as_slice() {
-            vertices.push((number, *x, *y))?;
+fn is_outline(outline: &Loop, wanted: &[(i32, i32)]) -> bool {
+    for (p, (x, y)) in outline.as_slice().iter().zip(wanted) {
+        if p.x != *x || p.y != *y {
+            return false;
         }
     }
-    Ok(vertices)
+    outline.as_slice().len() == wanted.len()
 }
 
-fn outlines(alloc: Global, tree: &Tree, layer: u32) -> Result<Vec<(usize, i32, i32)>, Fail> {
-    let loops = layer_outlines(alloc, tree, layer, 200, 20_000)?;
-    Ok(vertices(alloc, &loops)?)
+fn are_outlines(found: &[Loop], wanted: &[&[(i32, i32)]]) -> bool {
+    for (outline, vertices) in found.iter().zip(wanted) {
+        if !is_outline(outline, vertices) {
+            return false;
+        }
+    }
+    found.len() == wanted.len()
 }
+
+/// The tree has these outlines at the layer.
+fn has_outlines(alloc: Global, tree: &Tree, layer: u32, wanted: &[&[(i32, i32)]]) -> bool {
+    match layer_outlines(alloc, tree, layer, 200, 20_000) {
+        Ok(found) => are_outlines(&found, wanted),
+        Err(_) => false,
+    }
+}
+
+const PLATE: [&[(i32, i32)]; 2] = [
+    &[(0, 0), (2000, 0), (2000, 2000), (0, 2000)],
+    &[(500, 500), (500, 1500), (1500, 1500), (1500, 500)],
+];
 
 #[test]
-fn a_hole_is_an_outline_of_its_own(rt: HostRuntime) -> Result<(), Fail> {
-    let alloc = rt.alloc();
-    let plate = plate(alloc)?;
-    let expected = [
-        (0, 0, 0),
-        (0, 2000, 0),
-        (0, 2000, 2000),
-        (0, 0, 2000),
-        (1, 500, 500),
-        (1, 500, 1500),
-        (1, 1500, 1500),
-        (1, 1500, 500),
-    ];
-    for layer in [0, 2, 4] {
-        assert_eq!(rt;
-            outlines(alloc, &plate, layer)?.as_slice(),
-            expected.as_slice(),
+fn a_hole_is_an_outline_of_its_own(rt: HostRuntime) {
+    let plate = plate(rt.alloc()).expect(&rt, "a tree");
+    for &layer in &[0, 2, 4] {
+        assert!(rt;
+            has_outlines(rt.alloc(), &plate, layer, &PLATE),
             "layer {layer}"
         );
     }
-    Ok(())
 }
 
-#[test]
-fn a_hole_comes_to_the_border_and_parts_it(rt: HostRuntime) -> Result<(), Fail> {
-    let alloc = rt.alloc();
-    let hollow = hollow(alloc)?;
-    let apart = [
-        (0, 90, 80),
-        (0, 1889, 350),
-        (0, 720, 1789),
-        (1, 543, 267),
-        (1, 814, 1624),
-        (1, 1538, 538),
-    ];
-    assert_eq!(rt; outlines(alloc, &hollow, 0)?.as_slice(), apart.as_slice());
-    let open = [
-        (0, 270, 240),
-        (0, 1669, 450),
-        (0, 1062, 1197),
-        (0, 1476, 576),
-        (0, 586, 333),
-        (0, 819, 1497),
-        (0, 760, 1569),
-    ];
-    assert_eq!(rt; outlines(alloc, &hollow, 1)?.as_slice(), open.as_slice());
-    let parted = [
-        (0, 450, 400),
-        (0, 635, 428),
-        (0, 815, 1331),
-        (0, 800, 1349),
-        (1, 848, 460),
-        (1, 1449, 550),
-        (1, 1400, 610),
-    ];
-    assert_eq!(rt; outlines(alloc, &hollow, 2)?.as_slice(), parted.as_slice());
-    Ok(())
-}
+const APART: [&[(i32, i32)]; 2] = [
+    &[(90, 80), (1889, 350), (720, 1789)],
+    &[(543, 267), (814, 1624), (1538, 538)],
+];
+
+const OPEN: [&[(i32, i32)]; 1] = [&[
+    (270, 240),
+    (1669, 450),
+    (1062, 1197),
+    (1476, 576),
+    (586, 333),
+    (819, 1497),
+    (760, 1569),
+]];
+
+const PARTED: [&[(i32, i32)]; 2] = [
+    &[(450, 400), (635, 428), (815, 1331), (800, 1349)],
+    &[(848, 460), (1449, 550), (1400, 610)],
+];
 
 #[test]
-fn a_union_has_no_inner_edges(rt: HostRuntime) -> Result<(), Fail> {
-    let alloc = rt.alloc();
+fn a_hole_comes_to_the_border_and_parts_it(rt: HostRuntime) {
+    let hollow = hollow(rt.alloc()).expect(&rt, "a tree");
+    assert!(rt; has_outlines(rt.alloc(), &hollow, 0, &APART));
+    assert!(rt; has_outlines(rt.alloc(), &hollow, 1, &OPEN));
+    assert!(rt; has_outlines(rt.alloc(), &hollow, 2, &PARTED));
+}
+
+fn block_and_corner(alloc: Global) -> Option<Tree> {
     let mut members = Vec::new(alloc);
-    members.push(block(alloc, [0, 0, 0], [600, 600, 600])?)?;
-    members.push(corner(alloc, 1000)?)?;
-    let union = unite(alloc, members)?;
-    let expected = [
-        (0, 0, 0),
-        (0, 899, 0),
-        (0, 600, 299),
-        (0, 600, 600),
-        (0, 299, 600),
-        (0, 0, 899),
-    ];
-    assert_eq!(rt; outlines(alloc, &union, 0)?.as_slice(), expected.as_slice());
-    let top = [(0, 0, 0), (0, 99, 0), (0, 0, 99)];
-    assert_eq!(rt; outlines(alloc, &union, 4)?.as_slice(), top.as_slice());
-    Ok(())
+    members
+        .push(block(alloc, [0, 0, 0], [600, 600, 600])?)
+        .ok()?;
+    members.push(corner(alloc, 1000)?).ok()?;
+    unite(alloc, members).ok()
+}
+
+const UNITED: [&[(i32, i32)]; 1] = [&[
+    (0, 0),
+    (899, 0),
+    (600, 299),
+    (600, 600),
+    (299, 600),
+    (0, 899),
+]];
+
+const TOP: [&[(i32, i32)]; 1] = [&[(0, 0), (99, 0), (0, 99)]];
+
+#[test]
+fn a_union_has_no_inner_edges(rt: HostRuntime) {
+    let union = block_and_corner(rt.alloc()).expect(&rt, "a tree");
+    assert!(rt; has_outlines(rt.alloc(), &union, 0, &UNITED));
+    assert!(rt; has_outlines(rt.alloc(), &union, 4, &TOP));
 }
 
 #[test]
-fn there_is_nothing_above_the_top(rt: HostRuntime) -> Result<(), Fail> {
-    let alloc = rt.alloc();
-    assert_eq!(rt; outlines(alloc, &plate(alloc)?, 5)?.len(), 0);
-    assert_eq!(rt; outlines(alloc, &Tree::empty(), 0)?.len(), 0);
-    Ok(())
+fn there_is_nothing_above_the_top(rt: HostRuntime) {
+    let plate = plate(rt.alloc()).expect(&rt, "a tree");
+    assert!(rt; has_outlines(rt.alloc(), &plate, 5, &[]));
+    assert!(rt; has_outlines(rt.alloc(), &Tree::empty(), 0, &[]));
 }
 
 // The plate has 16 edges at each layer, two for each of its upright faces.
 #[test]
-fn edges_past_the_limit_are_refused(rt: HostRuntime) -> Result<(), Fail> {
-    let alloc = rt.alloc();
-    let plate = plate(alloc)?;
-    assert_eq!(rt; layer_outlines(alloc, &plate, 0, 200, 16)?.len(), 2);
-    assert_eq!(rt;
-        matches!(
-            layer_outlines(alloc, &plate, 0, 200, 15),
-            Err(BoolFault::Edges(16))
-        ),
-        true
-    );
-    Ok(())
+fn edges_past_the_limit_are_refused(rt: HostRuntime) {
+    let plate = plate(rt.alloc()).expect(&rt, "a tree");
+    let taken = layer_outlines(rt.alloc(), &plate, 0, 200, 16);
+    assert!(rt; matches!(&taken, Ok(outlines) if outlines.len() == 2));
+    let refused = layer_outlines(rt.alloc(), &plate, 0, 200, 15);
+    assert!(rt; matches!(&refused, Err(BoolFault::Edges(16))));
 }

@@ -3,7 +3,6 @@
 use scad_geom::{Edge, LeafEdge, Level, Pt, cmp_level};
 use slice_events::levels;
 use std::cmp::Ordering;
-use std::test::Fail;
 
 // Two edges that cross at (1000.5, 1000.5), one of them twice, and a flat one.
 const EDGES: [LeafEdge; 4] = [
@@ -38,24 +37,11 @@ const EDGES: [LeafEdge; 4] = [
 ];
 
 #[test]
-fn a_crossing_between_whole_heights_is_a_level(rt: HostRuntime) -> Result<(), Fail> {
-    let found = levels(rt.alloc(), &EDGES).ok().ok_or("refused")?;
-    assert_eq!(rt; found.len(), 4);
-    assert_eq!(rt;
-        cmp_level(&found[0], &Level { n: 0, d: 1 }),
-        Ordering::Equal
-    );
-    assert_eq!(rt;
-        cmp_level(&found[1], &Level { n: 2001, d: 2 }),
-        Ordering::Equal
-    );
-    assert_eq!(rt;
-        cmp_level(&found[2], &Level { n: 2000, d: 1 }),
-        Ordering::Equal
-    );
-    assert_eq!(rt;
-        cmp_level(&found[3], &Level { n: 2001, d: 1 }),
-        Ordering::Equal
-    );
-    Ok(())
+fn a_crossing_between_whole_heights_is_a_level(rt: HostRuntime) {
+    let found = levels(rt.alloc(), &EDGES).expect(&rt, "levels");
+    assert!(rt; found.len() == 4);
+    assert!(rt; cmp_level(&found[0], &Level { n: 0, d: 1 }) == Ordering::Equal);
+    assert!(rt; cmp_level(&found[1], &Level { n: 2001, d: 2 }) == Ordering::Equal);
+    assert!(rt; cmp_level(&found[2], &Level { n: 2000, d: 1 }) == Ordering::Equal);
+    assert!(rt; cmp_level(&found[3], &Level { n: 2001, d: 1 }) == Ordering::Equal);
 }

@@ -7,7 +7,6 @@ ghost use Rattle.slice_snap.specs.Pieces.{IsPieceWithin, HaveOneLevel};
 use scad_geom::{Edge, Level, Pt};
 use slice_snap::{Piece, Spot, cancel, merge, round};
 use std::alloc::{AllocError, Global};
-use std::test::Fail;
 
 // A point at whole coordinates.
 fn spot(x: u8, y: u8) -> Spot
@@ -86,33 +85,37 @@ fn merged(alloc: Global, text: &str) -> Result<Vec<u8>, AllocError> {
     told(alloc, &merged)
 }
 
-#[test]
-fn pieces_of_one_name_are_merged(rt: HostRuntime) -> Result<(), Fail> {
-    let rows = [
-        ("00111 11221", "00221"),
-        // Through three levels, in any order and direction.
-        ("00110 11220 22330", "00330"),
-        ("22330 00110 11220", "00330"),
-        ("22110 33220 11000", "33000"),
-        ("01110 11210 40414 21310", "01310 40414"),
-        // Stopped by another piece that starts or ends at the point, or by another name.
-        ("00110 11220 11302", "00110 11220 11302"),
-        ("00110 11220 30111", "00110 11220 30111"),
-        ("00110 11220 30110 11040", "00110 11220 30110 11040"),
-        ("00111 11222", "00111 11222"),
-        // Two that end at one point, two that start there.
-        ("00110 22110", "00110 22110"),
-        ("11000 11220", "11000 11220"),
-        ("", ""),
-    ];
-    for (text, expected) in rows {
-        assert_eq!(rt;
-            merged(rt.alloc(), text)?.as_slice(),
-            expected.as_bytes(),
-            "{text}"
-        );
+/// Pieces, and what they are merged to.
+const MERGED: [(&str, &str); 12] = [
+    ("00111 11221", "00221"),
+    // Through three levels, in any order and direction.
+    ("00110 11220 22330", "00330"),
+    ("22330 00110 11220", "00330"),
+    ("22110 33220 11000", "33000"),
+    ("01110 11210 40414 21310", "01310 40414"),
+    // Stopped by another piece that starts or ends at the point, or by another name.
+    ("00110 11220 11302", "00110 11220 11302"),
+    ("00110 11220 30111", "00110 11220 30111"),
+    ("00110 11220 30110 11040", "00110 11220 30110 11040"),
+    ("00111 11222", "00111 11222"),
+    // Two that end at one point, two that start there.
+    ("00110 22110", "00110 22110"),
+    ("11000 11220", "11000 11220"),
+    ("", ""),
+];
+
+fn is_merged(alloc: Global, text: &str, wanted: &str) -> bool {
+    match merged(alloc, text) {
+        Ok(told) => told.as_slice() == wanted.as_bytes(),
+        Err(_) => false,
     }
-    Ok(())
+}
+
+#[test]
+fn pieces_of_one_name_are_merged(rt: HostRuntime) {
+    for &(text, wanted) in &MERGED {
+        assert!(rt; is_merged(rt.alloc(), text, wanted), "{text}");
+    }
 }
 
 // The point (x / d, y / d), d not being 0.
@@ -131,7 +134,7 @@ fn point(x: u8, y: u8, d: u8) -> Spot
 }
 
 #[test]
-fn ends_are_rounded_halves_down(rt: HostRuntime) -> Result<(), Fail> {
+fn ends_are_rounded_halves_down(rt: HostRuntime) {
     let pieces = [
         Piece {
             from: point(3, 1, 2),
@@ -145,13 +148,12 @@ fn ends_are_rounded_halves_down(rt: HostRuntime) -> Result<(), Fail> {
             edge: 1,
         },
     ];
-    let edges = round(rt.alloc(), &pieces)?;
+    let edges = round(rt.alloc(), &pieces).expect(&rt, "edges");
     let expected = [Edge {
         a: Pt { x: 1, y: 0 },
         b: Pt { x: 2, y: 3 },
     }];
-    assert_eq!(rt; edges.as_slice(), expected.as_slice());
-    Ok(())
+    assert!(rt; edges.as_slice() == expected.as_slice());
 }
 
 const fn edge(ends: [i32; 4]) -> Edge {
@@ -162,17 +164,21 @@ const fn edge(ends: [i32; 4]) -> Edge {
     }
 }
 
+fn leaves(alloc: Global, edges: &[Edge], wanted: &[Edge]) -> bool {
+    match cancel(alloc, edges) {
+        Ok(left) => left.as_slice() == wanted,
+        Err(_) => false,
+    }
+}
+
 #[test]
-fn opposite_edges_cancel_one_for_one(rt: HostRuntime) -> Result<(), Fail> {
+fn opposite_edges_cancel_one_for_one(rt: HostRuntime) {
     let (there, back, aside) = (edge([0, 0, 3, 1]), edge([3, 1, 0, 0]), edge([0, 3, 1, 0]));
-    let left = cancel(rt.alloc(), &[there, back])?;
-    assert_eq!(rt; left.len(), 0);
+    assert!(rt; leaves(rt.alloc(), &[there, back], &[]));
     // Equal edges stay, and of three in one direction against one two are left.
-    let left = cancel(rt.alloc(), &[there, aside, there, back, there, aside])?;
-    assert_eq!(rt; left.as_slice(), [there, there, aside, aside].as_slice());
+    let many = [there, aside, there, back, there, aside];
+    assert!(rt; leaves(rt.alloc(), &many, &[there, there, aside, aside]));
     // An edge of no length is its own opposite.
     let point = edge([2, 2, 2, 2]);
-    let left = cancel(rt.alloc(), &[point, point, point])?;
-    assert_eq!(rt; left.as_slice(), [point].as_slice());
-    Ok(())
+    assert!(rt; leaves(rt.alloc(), &[point, point, point], &[point]));
 }

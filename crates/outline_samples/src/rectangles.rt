@@ -7,7 +7,6 @@ use scad_geom::{Edge, LeafEdge, Pt, Shape};
 use slice_bool::{BoolFault, pieces};
 use slice_snap::{Piece, Spot};
 use std::alloc::{AllocError, Global};
-use std::test::Fail;
 
 #[derive(Clone, Copy)]
 enum Operation {
@@ -96,134 +95,165 @@ fn are_pieces(border: &[Piece], rows: &[[u8; 5]]) -> bool {
     true
 }
 
-#[test]
-fn borders_of_two_rectangles(rt: HostRuntime) -> Result<(), Fail> {
-    let unit: [u8; 4] = [0, 0, 2, 2];
-    let overlap = [
-        [0, 0, 4, 0, 0],
-        [0, 2, 0, 0, 3],
-        [4, 0, 4, 2, 1],
-        [4, 2, 6, 2, 4],
-        [0, 4, 0, 2, 3],
-        [6, 2, 6, 4, 5],
-        [2, 4, 0, 4, 2],
-        [2, 6, 2, 4, 7],
-        [6, 4, 6, 6, 5],
-        [6, 6, 2, 6, 6],
-    ];
-    let beside = [
-        [0, 0, 2, 0, 0],
-        [2, 0, 4, 0, 4],
-        [0, 2, 0, 0, 3],
-        [4, 0, 4, 2, 5],
-        [2, 2, 0, 2, 2],
-        [4, 2, 2, 2, 6],
-    ];
-    let stacked = [
-        [0, 0, 2, 0, 0],
-        [0, 2, 0, 0, 3],
-        [2, 0, 2, 2, 1],
-        [0, 4, 0, 2, 7],
-        [2, 2, 2, 4, 5],
-        [2, 4, 0, 4, 6],
-    ];
-    let alone = [
-        [0, 0, 2, 0, 0],
-        [0, 2, 0, 0, 3],
-        [2, 0, 2, 2, 1],
-        [2, 2, 0, 2, 2],
-    ];
-    let other = [
-        [2, 0, 4, 0, 0],
-        [2, 2, 2, 0, 3],
-        [4, 0, 4, 2, 1],
-        [4, 2, 2, 2, 2],
-    ];
-    let notched = [
-        [0, 0, 4, 0, 0],
-        [0, 1, 0, 0, 3],
-        [4, 0, 4, 1, 1],
-        [2, 1, 0, 1, 4],
-        [2, 3, 2, 1, 5],
-        [4, 1, 4, 3, 1],
-        [0, 3, 2, 3, 6],
-        [0, 4, 0, 3, 3],
-        [4, 3, 4, 4, 1],
-        [4, 4, 0, 4, 2],
-    ];
-    let none: [[u8; 5]; 0] = [];
-    let cases = [
-        (
-            "overlap",
-            [0, 0, 4, 4],
-            [2, 2, 6, 6],
-            Operation::Union,
-            overlap.as_slice(),
-        ),
-        (
-            "side by side",
-            unit,
-            [2, 0, 4, 2],
-            Operation::Union,
-            beside.as_slice(),
-        ),
-        (
-            "side of one",
-            unit,
-            [2, 0, 4, 2],
-            Operation::Diff,
-            alone.as_slice(),
-        ),
-        (
-            "side of the other",
-            [2, 0, 4, 2],
-            unit,
-            Operation::Diff,
-            other.as_slice(),
-        ),
-        (
-            "one on the other",
-            unit,
-            [0, 2, 2, 4],
-            Operation::Union,
-            stacked.as_slice(),
-        ),
-        (
-            "top of one",
-            unit,
-            [0, 2, 2, 4],
-            Operation::Diff,
-            alone.as_slice(),
-        ),
-        (
-            "only a side",
-            unit,
-            [0, 2, 2, 4],
-            Operation::Inter,
-            none.as_slice(),
-        ),
-        (
-            "upright on one line",
-            [0, 0, 4, 4],
-            [0, 1, 2, 3],
-            Operation::Diff,
-            notched.as_slice(),
-        ),
-        ("less itself", unit, unit, Operation::Diff, none.as_slice()),
-    ];
-    for (name, first, second, operation, rows) in cases {
-        let edges = two_leaves(rt.alloc(), first, second)?;
-        let shape = shape(rt.alloc(), operation)?;
-        let border = pieces(rt.alloc(), &edges, &shape, 8).ok().ok_or("refused")?;
-        assert!(rt; are_pieces(&border, rows), "{name}");
+// The pieces of borders, each with the x and y of its start and of its end, and its name.
+const OVERLAP: [[u8; 5]; 10] = [
+    [0, 0, 4, 0, 0],
+    [0, 2, 0, 0, 3],
+    [4, 0, 4, 2, 1],
+    [4, 2, 6, 2, 4],
+    [0, 4, 0, 2, 3],
+    [6, 2, 6, 4, 5],
+    [2, 4, 0, 4, 2],
+    [2, 6, 2, 4, 7],
+    [6, 4, 6, 6, 5],
+    [6, 6, 2, 6, 6],
+];
+
+const BESIDE: [[u8; 5]; 6] = [
+    [0, 0, 2, 0, 0],
+    [2, 0, 4, 0, 4],
+    [0, 2, 0, 0, 3],
+    [4, 0, 4, 2, 5],
+    [2, 2, 0, 2, 2],
+    [4, 2, 2, 2, 6],
+];
+
+const STACKED: [[u8; 5]; 6] = [
+    [0, 0, 2, 0, 0],
+    [0, 2, 0, 0, 3],
+    [2, 0, 2, 2, 1],
+    [0, 4, 0, 2, 7],
+    [2, 2, 2, 4, 5],
+    [2, 4, 0, 4, 6],
+];
+
+const ALONE: [[u8; 5]; 4] = [
+    [0, 0, 2, 0, 0],
+    [0, 2, 0, 0, 3],
+    [2, 0, 2, 2, 1],
+    [2, 2, 0, 2, 2],
+];
+
+const OTHER: [[u8; 5]; 4] = [
+    [2, 0, 4, 0, 0],
+    [2, 2, 2, 0, 3],
+    [4, 0, 4, 2, 1],
+    [4, 2, 2, 2, 2],
+];
+
+const NOTCHED: [[u8; 5]; 10] = [
+    [0, 0, 4, 0, 0],
+    [0, 1, 0, 0, 3],
+    [4, 0, 4, 1, 1],
+    [2, 1, 0, 1, 4],
+    [2, 3, 2, 1, 5],
+    [4, 1, 4, 3, 1],
+    [0, 3, 2, 3, 6],
+    [0, 4, 0, 3, 3],
+    [4, 3, 4, 4, 1],
+    [4, 4, 0, 4, 2],
+];
+
+const UNIT: [u8; 4] = [0, 0, 2, 2];
+
+/// Two rectangles, an operation and its border.
+struct Case {
+    name: &'static str,
+    first: [u8; 4],
+    second: [u8; 4],
+    operation: Operation,
+    border: &'static [[u8; 5]],
+}
+
+const CASES: [Case; 9] = [
+    Case {
+        name: "overlap",
+        first: [0, 0, 4, 4],
+        second: [2, 2, 6, 6],
+        operation: Operation::Union,
+        border: &OVERLAP,
+    },
+    Case {
+        name: "side by side",
+        first: UNIT,
+        second: [2, 0, 4, 2],
+        operation: Operation::Union,
+        border: &BESIDE,
+    },
+    Case {
+        name: "side of one",
+        first: UNIT,
+        second: [2, 0, 4, 2],
+        operation: Operation::Diff,
+        border: &ALONE,
+    },
+    Case {
+        name: "side of the other",
+        first: [2, 0, 4, 2],
+        second: UNIT,
+        operation: Operation::Diff,
+        border: &OTHER,
+    },
+    Case {
+        name: "one on the other",
+        first: UNIT,
+        second: [0, 2, 2, 4],
+        operation: Operation::Union,
+        border: &STACKED,
+    },
+    Case {
+        name: "top of one",
+        first: UNIT,
+        second: [0, 2, 2, 4],
+        operation: Operation::Diff,
+        border: &ALONE,
+    },
+    Case {
+        name: "only a side",
+        first: UNIT,
+        second: [0, 2, 2, 4],
+        operation: Operation::Inter,
+        border: &[],
+    },
+    Case {
+        name: "upright on one line",
+        first: [0, 0, 4, 4],
+        second: [0, 1, 2, 3],
+        operation: Operation::Diff,
+        border: &NOTCHED,
+    },
+    Case {
+        name: "less itself",
+        first: UNIT,
+        second: UNIT,
+        operation: Operation::Diff,
+        border: &[],
+    },
+];
+
+fn has_border(alloc: Global, case: &Case) -> bool {
+    let Ok(edges) = two_leaves(alloc, case.first, case.second) else {
+        return false;
+    };
+    let Ok(shape) = shape(alloc, case.operation) else {
+        return false;
+    };
+    match pieces(alloc, &edges, &shape, 8) {
+        Ok(border) => are_pieces(&border, case.border),
+        Err(_) => false,
     }
-    Ok(())
 }
 
 #[test]
-fn more_edges_than_the_limit_are_refused(rt: HostRuntime) -> Result<(), Fail> {
-    let edges = two_leaves(rt.alloc(), [0, 0, 2, 2], [1, 1, 3, 3])?;
+fn borders_of_two_rectangles(rt: HostRuntime) {
+    for case in &CASES {
+        assert!(rt; has_border(rt.alloc(), case), "{}", case.name);
+    }
+}
+
+#[test]
+fn more_edges_than_the_limit_are_refused(rt: HostRuntime) {
+    let edges = two_leaves(rt.alloc(), [0, 0, 2, 2], [1, 1, 3, 3]).expect(&rt, "edges");
     let refused = pieces(rt.alloc(), &edges, &Shape::Leaf(0), 7);
-    assert!(rt; matches!(refused, Err(BoolFault::Edges(8))));
-    Ok(())
+    assert!(rt; matches!(&refused, Err(BoolFault::Edges(8))));
 }

@@ -14,7 +14,6 @@ use scad_tree::{Tree, subtract};
 use scad_words::Settings;
 use std::alloc::{AllocError, Global};
 use std::process::Abort;
-use std::test::Fail;
 use std::thread::Threads;
 
 const BLOCK: [[u32; 4]; 6] = [
@@ -26,19 +25,23 @@ const BLOCK: [[u32; 4]; 6] = [
     [3, 7, 4, 0],
 ];
 
-pub(crate) fn polyhedron(alloc: Global, corners: &[Pt3], faces: &[Face]) -> Result<Tree, Fail> {
-    let triangles = Triangles::from_faces(alloc, corners, faces)?;
+pub(crate) fn polyhedron(alloc: Global, corners: &[Pt3], faces: &[Face]) -> Option<Tree> {
+    let triangles = Triangles::from_faces(alloc, corners, faces).ok()?;
     if triangles.count() == 0 {
-        return Err(Fail::new("no triangles"));
+        return None;
     }
-    Ok(Tree::leaf(triangles))
+    Some(Tree::leaf(triangles))
 }
 
-pub(crate) fn block(alloc: Global, low: Pt3, high: Pt3) -> Result<Tree, Fail> {
+fn faces(alloc: Global) -> Result<Vec<Face>, AllocError> {
     let mut faces = Vec::new(alloc);
-    for face in BLOCK {
+    for face in &BLOCK {
         faces.push(Face::from_vec(face.to_vec(alloc)?))?;
     }
+    Ok(faces)
+}
+
+pub(crate) fn block(alloc: Global, low: Pt3, high: Pt3) -> Option<Tree> {
     let corners = [
         low,
         Pt3 { x: high.x, ..low },
@@ -49,6 +52,7 @@ pub(crate) fn block(alloc: Global, low: Pt3, high: Pt3) -> Result<Tree, Fail> {
         high,
         Pt3 { x: low.x, ..high },
     ];
+    let faces = faces(alloc).ok()?;
     polyhedron(alloc, &corners, &faces)
 }
 
@@ -56,15 +60,19 @@ pub(crate) const fn pt(x: i32, y: i32, z: i32) -> Pt3 {
     Pt3 { x, y, z }
 }
 
-fn cube(alloc: Global) -> Result<Tree, Fail> {
+fn cube(alloc: Global) -> Option<Tree> {
     block(alloc, pt(0, 0, 0), pt(3000, 3000, 200))
 }
 
-fn plate(alloc: Global) -> Result<Tree, Fail> {
+fn plate(alloc: Global) -> Option<Tree> {
     let mut members = Vec::new(alloc);
-    members.push(block(alloc, pt(0, 0, 0), pt(4000, 4000, 400))?)?;
-    members.push(block(alloc, pt(1000, 1000, -1000), pt(3000, 3000, 2000))?)?;
-    Ok(subtract(alloc, members)?)
+    members
+        .push(block(alloc, pt(0, 0, 0), pt(4000, 4000, 400))?)
+        .ok()?;
+    members
+        .push(block(alloc, pt(1000, 1000, -1000), pt(3000, 3000, 2000))?)
+        .ok()?;
+    subtract(alloc, members).ok()
 }
 
 /// A desk whose calls of these numbers fail.
@@ -97,17 +105,17 @@ fn answer_on(
     })
 }
 
-pub(crate) fn sliced<R: Threads + Sync>(
+pub(crate) fn sliced<R: Threads + Sync + Abort>(
     rt: &R,
     alloc: Global,
     tree: &Tree,
     workers: u32,
     fails: &[u64],
-) -> Result<Answer, AllocError>
+) -> Answer
     requires some { 1 ≤ workers }
     requires most { workers ≤ 64 }
 {
-    let mut desk = desk(alloc, fails)?;
+    let mut desk = desk(alloc, fails).expect(rt, "a desk");
     let piece = Workpiece {
         tree,
         settings: Settings::defaults(),
@@ -115,20 +123,20 @@ pub(crate) fn sliced<R: Threads + Sync>(
         gate: &Open,
     };
     let ended = slice(rt, alloc, &piece, "o.cli", &mut desk);
-    answer_on(alloc, ended, &desk)
+    answer_on(alloc, ended, &desk).expect(rt, "memory for an answer")
 }
 
-pub(crate) fn planned<R: Threads + Sync>(
+pub(crate) fn planned<R: Threads + Sync + Abort>(
     rt: &R,
     alloc: Global,
     tree: &Tree,
     workers: u32,
     fails: &[u64],
-) -> Result<Answer, AllocError>
+) -> Answer
     requires some { 1 ≤ workers }
     requires most { workers ≤ 64 }
 {
-    let mut desk = desk(alloc, fails)?;
+    let mut desk = desk(alloc, fails).expect(rt, "a desk");
     let piece = Workpiece {
         tree,
         settings: Settings::defaults(),
@@ -136,100 +144,98 @@ pub(crate) fn planned<R: Threads + Sync>(
         gate: &Open,
     };
     let ended = plan(rt, alloc, &piece, "o.cli", "o.gcode", &mut desk);
-    answer_on(alloc, ended, &desk)
+    answer_on(alloc, ended, &desk).expect(rt, "memory for an answer")
 }
 
-fn expect(rt: &impl Abort, answer: &Answer, line: &str, cli: &str, gcode: &str) {
-    let told = matches!(&answer.ended, Ok(text) if text.as_slice() == line.as_bytes());
-    assert!(rt; told && answer.faults == 0, "{line}");
-    let same = answer.cli.as_slice() == cli.as_bytes()
-        && answer.gcode.as_slice() == gcode.as_bytes();
-    assert!(rt; same, "files of {line}");
+fn is_done(answer: &Answer, line: &str, cli: &str, gcode: &str) -> bool {
+    matches!(&answer.ended, Ok(text) if text.as_slice() == line.as_bytes())
+        && answer.faults == 0
+        && answer.cli.as_slice() == cli.as_bytes()
+        && answer.gcode.as_slice() == gcode.as_bytes()
 }
 
-/// A tree, the last lines of its two commands, and their files.
-#[derive(Drop)]
-struct Sample<'a> {
-    tree: &'a Tree,
-    sliced: &'a str,
-    planned: &'a str,
-    outlines: &'a str,
-    hatched: &'a str,
-    gcode: &'a str,
+/// The last lines of a tree's two commands, and their files.
+struct Sample {
+    sliced: &'static str,
+    planned: &'static str,
+    outlines: &'static str,
+    hatched: &'static str,
+    gcode: &'static str,
 }
+
+const CUBE: Sample = Sample {
+    sliced: "done: 1 layers, 1 loops\n",
+    planned: "done: 1 layers, 1 loops, 9 moves, E 0.67351\n",
+    outlines: CUBE_OUTLINES,
+    hatched: CUBE_HATCHED,
+    gcode: CUBE_GCODE,
+};
+
+const PLATE: Sample = Sample {
+    sliced: "done: 2 layers, 4 loops\n",
+    planned: "done: 2 layers, 4 loops, 24 moves, E 1.77269\n",
+    outlines: PLATE_CLI,
+    hatched: PLATE_CLI,
+    gcode: PLATE_GCODE,
+};
 
 fn expect_sample<R: Threads + Sync + Abort>(
     rt: &R,
     alloc: Global,
     workers: u32,
+    tree: &Tree,
     sample: &Sample,
-) -> Result<(), AllocError>
+)
     requires some { 1 ≤ workers }
     requires most { workers ≤ 64 }
 {
-    let answer = sliced(rt, alloc, sample.tree, workers, &[])?;
-    expect(rt, &answer, sample.sliced, sample.outlines, "");
-    let answer = planned(rt, alloc, sample.tree, workers, &[])?;
-    expect(rt, &answer, sample.planned, sample.hatched, sample.gcode);
-    Ok(())
+    let answer = sliced(rt, alloc, tree, workers, &[]);
+    assert!(rt; is_done(&answer, sample.sliced, sample.outlines, ""));
+    let answer = planned(rt, alloc, tree, workers, &[]);
+    assert!(rt; is_done(&answer, sample.planned, sample.hatched, sample.gcode));
 }
 
 #[test]
-fn trees_are_sliced_and_planned(rt: HostRuntime) -> Result<(), Fail> {
-    let alloc = rt.alloc();
-    let samples = [
-        Sample {
-            tree: &cube(alloc)?,
-            sliced: "done: 1 layers, 1 loops\n",
-            planned: "done: 1 layers, 1 loops, 9 moves, E 0.67351\n",
-            outlines: CUBE_OUTLINES,
-            hatched: CUBE_HATCHED,
-            gcode: CUBE_GCODE,
-        },
-        Sample {
-            tree: &plate(alloc)?,
-            sliced: "done: 2 layers, 4 loops\n",
-            planned: "done: 2 layers, 4 loops, 24 moves, E 1.77269\n",
-            outlines: PLATE_CLI,
-            hatched: PLATE_CLI,
-            gcode: PLATE_GCODE,
-        },
-    ];
-    for sample in &samples {
-        expect_sample(&rt, alloc, 1, sample)?;
-        expect_sample(&rt, alloc, 3, sample)?;
-    }
-    Ok(())
+fn a_cube_is_sliced_and_planned(rt: HostRuntime) {
+    let tree = cube(rt.alloc()).expect(&rt, "a tree");
+    expect_sample(&rt, rt.alloc(), 1, &tree, &CUBE);
+    expect_sample(&rt, rt.alloc(), 3, &tree, &CUBE);
 }
 
 #[test]
-fn files_are_as_long_as_is_told(rt: HostRuntime) -> Result<(), Fail> {
-    let alloc = rt.alloc();
-    let mut desk = desk(alloc, &[])?;
-    if make(&mut desk, Out::Cli, "o.cli").is_err() {
-        return Err(Fail::new("a call failed"));
-    }
-    if make(&mut desk, Out::Gcode, "o.gcode").is_err() {
-        return Err(Fail::new("a call failed"));
-    }
-    let cube = cube(alloc)?;
+fn a_plate_is_sliced_and_planned(rt: HostRuntime) {
+    let tree = plate(rt.alloc()).expect(&rt, "a tree");
+    expect_sample(&rt, rt.alloc(), 1, &tree, &PLATE);
+    expect_sample(&rt, rt.alloc(), 3, &tree, &PLATE);
+}
+
+/// A desk on which both outputs are created.
+fn made(rt: &impl Abort, alloc: Global) -> MemoryDesk
+    ensures sound { Sound result.view }
+    ensures cli { result.view.cli.created ≡ true }
+    ensures gcode { result.view.gcode.created ≡ true }
+{
+    let mut desk = desk(alloc, &[]).expect(rt, "a desk");
+    make(&mut desk, Out::Cli, "o.cli").expect(rt, "outlines");
+    make(&mut desk, Out::Gcode, "o.gcode").expect(rt, "a program");
+    desk
+}
+
+#[test]
+fn files_are_as_long_as_is_told(rt: HostRuntime) {
+    let mut desk = made(&rt, rt.alloc());
+    let cube = cube(rt.alloc()).expect(&rt, "a tree");
     let piece = Workpiece {
         tree: &cube,
         settings: Settings::defaults(),
         workers: 2,
         gate: &Open,
     };
-    if count_layers(&cube, piece.settings.layer_height).is_err() {
-        return Err(Fail::new("a cube has few layers"));
-    }
-    let told = draw(&rt, alloc, &piece, Want::Plan, &mut desk);
-    let Ok(told) = told else {
-        return Err(Fail::new("a cube is drawn"));
-    };
-    let sizes = told.cli == CUBE_HATCHED.len() as u64 && told.gcode == CUBE_GCODE.len() as u64;
-    assert!(rt; sizes && told.summary.e == 67_351);
+    count_layers(&cube, piece.settings.layer_height).expect(&rt, "few layers");
+    let told = draw(&rt, rt.alloc(), &piece, Want::Plan, &mut desk).expect(&rt, "a drawing");
+    assert!(rt; told.cli == CUBE_HATCHED.len() as u64 && told.gcode == CUBE_GCODE.len() as u64);
+    assert!(rt; told.summary.e == 67_351);
     assert!(rt; desk.written(Out::Cli) == CUBE_HATCHED.as_bytes());
-    Ok(())
 }
 
 /// Whether the plate's files end where this call fails: what came before it is there.
@@ -244,14 +250,12 @@ fn stops_at(answer: &Answer, call: u64) -> bool {
 
 /// Both outputs are created, then come the heads, two layers for both, and the ends.
 #[test]
-fn each_call_fails_in_turn(rt: HostRuntime) -> Result<(), Fail> {
-    let alloc = rt.alloc();
-    let plate = plate(alloc)?;
+fn each_call_fails_in_turn(rt: HostRuntime) {
+    let plate = plate(rt.alloc()).expect(&rt, "a tree");
     for call in 0..10 {
-        let answer = planned(&rt, alloc, &plate, 3, &[call])?;
+        let answer = planned(&rt, rt.alloc(), &plate, 3, &[call]);
         assert!(rt; stops_at(&answer, call), "call {call}");
     }
-    let answer = planned(&rt, alloc, &plate, 3, &[10])?;
+    let answer = planned(&rt, rt.alloc(), &plate, 3, &[10]);
     assert!(rt; answer.ended.is_ok());
-    Ok(())
 }

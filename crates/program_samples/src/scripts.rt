@@ -8,17 +8,23 @@ use scad_io::{Desk, MemoryDesk, Out};
 use scad_script::{Input, Refusal, Stop, load, make, report, send};
 use std::alloc::{AllocError, Global};
 use std::process::Abort;
-use std::test::Fail;
 
 const ROOM: usize = 64;
 
-/// A desk that has a file `m` of three bytes.
-fn desk_with(alloc: Global, fails: Vec<u64>, room: usize) -> Result<MemoryDesk, AllocError>
-    ensures { IfOk result (λ desk. desk.view ≡ unused (Some [])) }
-{
+/// A file `m` of three bytes.
+fn files(alloc: Global) -> Result<Vec<(Text, Text)>, AllocError> {
     let mut files = Vec::new(alloc);
     files.push((Text::of(alloc, b"m")?, Text::of(alloc, b"abc")?))?;
-    MemoryDesk::new(alloc, files, fails, room)
+    Ok(files)
+}
+
+/// A desk that has this file.
+fn desk_with(rt: &impl Abort, alloc: Global, fails: &[u64], room: usize) -> MemoryDesk
+    ensures { result.view ≡ unused (Some []) }
+{
+    let files = files(alloc).expect(rt, "memory for the file");
+    let fails = fails.to_vec(alloc).expect(rt, "memory for the list");
+    MemoryDesk::new(alloc, files, fails, room).expect(rt, "a desk")
 }
 
 /// Reads the model and echoes.
@@ -78,106 +84,105 @@ fn draw<D: Desk>(alloc: Global, desk: &mut D) -> Result<(), Stop>
     }
 }
 
-fn expect(rt: &impl Abort, desk: &MemoryDesk, report: &str, cli: &str, gcode: &str) {
-    assert!(rt; desk.written(Out::Report) == report.as_bytes(), "{report}");
-    assert!(rt; desk.written(Out::Cli) == cli.as_bytes(), "{cli}");
-    assert!(rt; desk.written(Out::Gcode) == gcode.as_bytes(), "{gcode}");
+fn has_written(desk: &MemoryDesk, report: &str, cli: &str, gcode: &str) -> bool {
+    desk.written(Out::Report) == report.as_bytes()
+        && desk.written(Out::Cli) == cli.as_bytes()
+        && desk.written(Out::Gcode) == gcode.as_bytes()
+}
+
+/// A desk on which the command has drawn its layer.
+fn drawn(rt: &impl Abort, alloc: Global) -> MemoryDesk
+    ensures { Sound result.view }
+{
+    let mut desk = desk_with(rt, alloc, &[], ROOM);
+    draw(alloc, &mut desk).expect(rt, "drawing");
+    desk
 }
 
 #[test]
-fn all_is_written_and_the_last_line_follows(rt: HostRuntime) -> Result<(), Fail> {
-    let alloc = rt.alloc();
-    let mut desk = desk_with(alloc, Vec::new(alloc), ROOM)?;
-    match draw(alloc, &mut desk) {
-        Ok(()) => {
-            let line = Text::of(alloc, b"done\n")?;
-            let status = report(alloc, Ok(line), &mut desk);
-            assert!(rt; status.code() == 0);
-        }
-        Err(_) => assert!(rt; false, "drawing"),
-    }
-    expect(&rt, &desk, "ECHO: 1\ndone\n", "LAYER", "layer");
-    Ok(())
+fn all_is_written_and_the_last_line_follows(rt: HostRuntime) {
+    let mut desk = drawn(&rt, rt.alloc());
+    let line = Text::of(rt.alloc(), b"done\n").expect(&rt, "memory for a line");
+    let status = report(rt.alloc(), Ok(line), &mut desk);
+    assert!(rt; status.code() == 0);
+    assert!(rt; has_written(&desk, "ECHO: 1\ndone\n", "LAYER", "layer"));
 }
 
 #[test]
-fn a_budget_in_mid_file(rt: HostRuntime) -> Result<(), Fail> {
-    let alloc = rt.alloc();
-    let mut desk = desk_with(alloc, Vec::new(alloc), ROOM)?;
-    match draw(alloc, &mut desk) {
-        Ok(()) => {
-            let passed = Budget::of_layer(BudgetKind::LayerEdges, 4, 20_010);
-            let refusal = Refusal::Over(passed);
-            let status = report(alloc, Err(Stop::Ends(refusal)), &mut desk);
-            assert!(rt; status.code() == 6);
-        }
-        Err(_) => assert!(rt; false, "drawing"),
-    }
+fn a_budget_in_mid_file(rt: HostRuntime) {
+    let mut desk = drawn(&rt, rt.alloc());
+    let passed = Budget::of_layer(BudgetKind::LayerEdges, 4, 20_010);
+    let status = report(
+        rt.alloc(),
+        Err(Stop::Ends(Refusal::Over(passed))),
+        &mut desk,
+    );
+    assert!(rt; status.code() == 6);
     let lines = "ECHO: 1\nbudget 7 LayerEdges layer 4 count 20010\n";
-    expect(&rt, &desk, lines, "LAYER", "layer");
-    Ok(())
+    assert!(rt; has_written(&desk, lines, "LAYER", "layer"));
 }
 
 #[test]
-fn a_report_cut_within_its_echo_lines(rt: HostRuntime) -> Result<(), Fail> {
-    let alloc = rt.alloc();
-    let mut desk = desk_with(alloc, Vec::new(alloc), 4)?;
-    assert!(rt; matches!(draw(alloc, &mut desk), Err(Stop::Silent)));
-    expect(&rt, &desk, "ECHO", "", "");
-    let status = report(alloc, Err(Stop::Silent), &mut desk);
+fn a_report_cut_within_its_echo_lines(rt: HostRuntime) {
+    let mut desk = desk_with(&rt, rt.alloc(), &[], 4);
+    assert!(rt; matches!(draw(rt.alloc(), &mut desk), Err(Stop::Silent)));
+    assert!(rt; has_written(&desk, "ECHO", "", ""));
+    let status = report(rt.alloc(), Err(Stop::Silent), &mut desk);
     assert!(rt; status.code() == 5);
-    expect(&rt, &desk, "ECHO", "", "");
-    Ok(())
+    assert!(rt; has_written(&desk, "ECHO", "", ""));
 }
 
 #[test]
-fn the_second_of_two_outputs_fails(rt: HostRuntime) -> Result<(), Fail> {
-    let alloc = rt.alloc();
+fn the_second_of_two_outputs_fails(rt: HostRuntime) {
     // open, two reads, the echo line, two creates, the outlines' layer, and then the other one
-    let mut desk = desk_with(alloc, [7].to_vec(alloc)?, ROOM)?;
-    assert!(rt; matches!(draw(alloc, &mut desk), Err(Stop::Write)));
-    expect(&rt, &desk, "ECHO: 1\n", "LAYER", "");
-    Ok(())
+    let mut desk = desk_with(&rt, rt.alloc(), &[7], ROOM);
+    assert!(rt; matches!(draw(rt.alloc(), &mut desk), Err(Stop::Write)));
+    assert!(rt; has_written(&desk, "ECHO: 1\n", "LAYER", ""));
+}
+
+/// A refusal before anything is drawn ends with this status and this line.
+fn ends_with(rt: &impl Abort, alloc: Global, refusal: Refusal, code: u8, line: &str) -> bool {
+    let mut desk = desk_with(rt, alloc, &[], ROOM);
+    let status = report(alloc, Err(Stop::Ends(refusal)), &mut desk);
+    status.code() == code && has_written(&desk, line, "", "")
 }
 
 #[test]
-fn a_move_outside_and_a_bad_file_are_reported(rt: HostRuntime) -> Result<(), Fail> {
-    let alloc = rt.alloc();
-    let mut desk = desk_with(alloc, Vec::new(alloc), ROOM)?;
+fn a_move_outside_is_reported(rt: HostRuntime) {
     let outside = Refusal::Outside {
         number: 3,
         line: 17,
     };
-    let status = report(alloc, Err(Stop::Ends(outside)), &mut desk);
-    assert!(rt; status.code() == 8);
-    expect(&rt, &desk, "outside: move 3 line 17\n", "", "");
+    assert!(rt; ends_with(&rt, rt.alloc(), outside, 8, "outside: move 3 line 17\n"));
+}
 
-    let mut desk = desk_with(alloc, Vec::new(alloc), ROOM)?;
+#[test]
+fn a_bad_file_is_reported(rt: HostRuntime) {
     let bad = Refusal::BadFile {
         kind: BadKind::CliCount,
         first: 2,
         second: 1,
     };
-    let status = report(alloc, Err(Stop::Ends(bad)), &mut desk);
-    assert!(rt; status.code() == 9);
-    expect(&rt, &desk, "cli 2 CountDiffers 2 1\n", "", "");
-    Ok(())
+    assert!(rt; ends_with(&rt, rt.alloc(), bad, 9, "cli 2 CountDiffers 2 1\n"));
+}
+
+/// What is read of the file of this name up to the limit.
+fn loaded(rt: &impl Abort, alloc: Global, name: &str, limit: Option<usize>) -> Result<Input, Stop> {
+    let mut desk = desk_with(rt, alloc, &[], ROOM);
+    load(alloc, name, limit, &mut desk)
 }
 
 #[test]
-fn a_file_is_read_whole_or_is_long(rt: HostRuntime) -> Result<(), Fail> {
-    let alloc = rt.alloc();
-    let mut desk = desk_with(alloc, Vec::new(alloc), ROOM)?;
-    assert!(rt; matches!(load(alloc, "m", Some(3), &mut desk), Ok(Input::Whole(_))));
-    let mut desk = desk_with(alloc, Vec::new(alloc), ROOM)?;
-    assert!(rt; matches!(load(alloc, "m", Some(2), &mut desk), Ok(Input::Long)));
-    let mut desk = desk_with(alloc, Vec::new(alloc), ROOM)?;
-    assert!(rt; matches!(load(alloc, "n", None, &mut desk), Err(Stop::Read)));
-    Ok(())
+fn a_file_is_read_whole_or_is_long(rt: HostRuntime) {
+    let whole = loaded(&rt, rt.alloc(), "m", Some(3));
+    assert!(rt; matches!(&whole, Ok(Input::Whole(_))));
+    let long = loaded(&rt, rt.alloc(), "m", Some(2));
+    assert!(rt; matches!(&long, Ok(Input::Long)));
+    let missing = loaded(&rt, rt.alloc(), "n", None);
+    assert!(rt; matches!(&missing, Err(Stop::Read)));
 }
 
 #[test]
-fn refusals_have_their_status(rt: HostRuntime) -> Result<(), Fail> {
+fn refusals_have_their_status(rt: HostRuntime) {
     assert!(rt; matches!(Refusal::Usage.into_status(), Status::Usage));
-    Ok(())
 }

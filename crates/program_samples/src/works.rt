@@ -2,6 +2,7 @@
 ghost use Rattle.std.specs.Prelude.{◌≡◌, ◌≤◌, ◌<◌, true, Some, [], IfOk, OnOk};
 ghost use Rattle.scad_io.specs.Desk.{unused};
 ghost use Rattle.scad_script.specs.Run.{Sound};
+ghost use Rattle.slice_work.specs.Part.{layer_limit};
 
 use scad_fault::{Budget, BudgetKind};
 use scad_geom::{Loop, Path, Pt};
@@ -10,8 +11,8 @@ use scad_script::make;
 use scad_words::Settings;
 use slice_work::{LayerEnd, LayerPlan, LayerWork, Print, Summary, Want, WorkFault, work};
 use std::alloc::{AllocError, Global};
+use std::process::Abort;
 use std::sync::atomic::{AtomicU64, Ordering};
-use std::test::Fail;
 use std::thread;
 use std::thread::Threads;
 
@@ -57,20 +58,16 @@ fn print(want: Want, workers: u32) -> Print
 }
 
 /// A desk on which both outputs are created, and whose calls of these numbers fail.
-fn desk(alloc: Global, fails: &[u64]) -> Result<MemoryDesk, Fail>
-    ensures sound { IfOk result (λ d. Sound d.view) }
-    ensures cli { IfOk result (λ d. d.view.cli.created ≡ true) }
-    ensures gcode { IfOk result (λ d. d.view.gcode.created ≡ true) }
+fn desk(rt: &impl Abort, alloc: Global, fails: &[u64]) -> MemoryDesk
+    ensures sound { Sound result.view }
+    ensures cli { result.view.cli.created ≡ true }
+    ensures gcode { result.view.gcode.created ≡ true }
 {
-    let fails = Vec::from_slice(alloc, fails)?;
-    let mut desk = MemoryDesk::new(alloc, Vec::new(alloc), fails, 1 << 16)?;
-    if make(&mut desk, Out::Cli, "o.cli").is_err() {
-        return Err(Fail::new("a call failed"));
-    }
-    if make(&mut desk, Out::Gcode, "o.gcode").is_err() {
-        return Err(Fail::new("a call failed"));
-    }
-    Ok(desk)
+    let fails = Vec::from_slice(alloc, fails).expect(rt, "memory for the list");
+    let mut desk = MemoryDesk::new(alloc, Vec::new(alloc), fails, 1 << 16).expect(rt, "a desk");
+    make(&mut desk, Out::Cli, "o.cli").expect(rt, "outlines");
+    make(&mut desk, Out::Gcode, "o.gcode").expect(rt, "a program");
+    desk
 }
 
 /// What so many layers write.
@@ -138,10 +135,30 @@ fn stopped_in(desk: &MemoryDesk, cli: &[u8], gcode: &[u8]) -> bool {
         && gcode.starts_with(desk.written(Out::Gcode))
 }
 
-#[test]
-fn layers_are_written_in_order(rt: HostRuntime) -> Result<(), Fail> {
-    let alloc = rt.alloc();
-    let (cli, gcode) = written(alloc, 130)?;
+/// What the work on so many layers answers and leaves.
+#[derive(Drop)]
+struct Answer {
+    told: Result<Summary, WorkFault>,
+    desk: MemoryDesk,
+}
+
+fn worked<R: Threads + Sync + Abort>(
+    rt: &R,
+    alloc: Global,
+    layers: u32,
+    squares: &Squares,
+    print: &Print,
+    fails: &[u64],
+) -> Answer
+    requires { layers ≤ layer_limit }
+{
+    let mut desk = desk(rt, alloc, fails);
+    let told = work(rt, alloc, layers, squares, print, &mut desk);
+    Answer { told, desk }
+}
+
+/// All that so many layers write is written, and told.
+fn is_whole(answer: &Answer, cli: &[u8], gcode: &[u8]) -> bool {
     let all = Summary {
         layers: 130,
         loops: 130,
@@ -150,85 +167,61 @@ fn layers_are_written_in_order(rt: HostRuntime) -> Result<(), Fail> {
         cli: cli.len() as u64,
         gcode: gcode.len() as u64,
     };
-    for workers in [1, 3, 64] {
-        let mut desk = desk(alloc, &[])?;
-        let told = work(
-            &rt,
-            alloc,
-            130,
-            &Squares { over: 130 },
-            &print(Want::Plan, workers),
-            &mut desk,
-        );
-        assert!(rt; matches!(&told, Ok(told) if *told == all));
-        assert!(rt; has_written(&desk, &cli, &gcode));
-    }
-    Ok(())
+    matches!(&answer.told, Ok(told) if *told == all) && has_written(&answer.desk, cli, gcode)
 }
 
 #[test]
-fn the_least_layer_over_a_budget_is_answered(rt: HostRuntime) -> Result<(), Fail> {
-    let alloc = rt.alloc();
-    let (cli, _gcode) = written(alloc, 70)?;
+fn layers_are_written_in_order(rt: HostRuntime) {
+    let (cli, gcode) = written(rt.alloc(), 130).expect(&rt, "memory for the texts");
+    for &workers in &[1, 3, 64] {
+        let print = print(Want::Plan, workers);
+        let answer = worked(&rt, rt.alloc(), 130, &Squares { over: 130 }, &print, &[]);
+        assert!(rt; is_whole(&answer, &cli, &gcode));
+    }
+}
+
+fn is_over(answer: &Answer, cli: &[u8]) -> bool {
     let passed = Budget::of_layer(BudgetKind::LayerEdges, 70, 20_010);
-    for workers in [1, 2, 64] {
-        let mut desk = desk(alloc, &[])?;
-        let told = work(
-            &rt,
-            alloc,
-            130,
-            &Squares { over: 69 },
-            &print(Want::Outlines, workers),
-            &mut desk,
-        );
-        assert!(rt; matches!(&told, Err(WorkFault::Over(budget)) if *budget == passed));
-        assert!(rt; has_written(&desk, &cli, b""));
+    matches!(&answer.told, Err(WorkFault::Over(budget)) if *budget == passed)
+        && has_written(&answer.desk, cli, b"")
+}
+
+#[test]
+fn the_least_layer_over_a_budget_is_answered(rt: HostRuntime) {
+    let (cli, _gcode) = written(rt.alloc(), 70).expect(&rt, "memory for the texts");
+    for &workers in &[1, 2, 64] {
+        let print = print(Want::Outlines, workers);
+        let answer = worked(&rt, rt.alloc(), 130, &Squares { over: 69 }, &print, &[]);
+        assert!(rt; is_over(&answer, &cli));
     }
-    Ok(())
+}
+
+const NOTHING: Summary = Summary {
+    layers: 0,
+    loops: 0,
+    moves: 0,
+    e: 0,
+    cli: 0,
+    gcode: 0,
+};
+
+#[test]
+fn a_part_without_layers_writes_nothing(rt: HostRuntime) {
+    let print = print(Want::Plan, 5);
+    let answer = worked(&rt, rt.alloc(), 0, &Squares { over: 0 }, &print, &[]);
+    assert!(rt; matches!(&answer.told, Ok(told) if *told == NOTHING));
+    assert!(rt; answer.desk.faults() == 0);
 }
 
 #[test]
-fn a_part_without_layers_writes_nothing(rt: HostRuntime) -> Result<(), Fail> {
-    let mut desk = desk(rt.alloc(), &[])?;
-    let told = work(
-        &rt,
-        rt.alloc(),
-        0,
-        &Squares { over: 0 },
-        &print(Want::Plan, 5),
-        &mut desk,
-    );
-    let none = Summary {
-        layers: 0,
-        loops: 0,
-        moves: 0,
-        e: 0,
-        cli: 0,
-        gcode: 0,
-    };
-    assert!(rt; matches!(&told, Ok(told) if *told == none));
-    assert!(rt; desk.faults() == 0);
-    Ok(())
-}
-
-#[test]
-fn each_write_fails_in_turn(rt: HostRuntime) -> Result<(), Fail> {
-    let alloc = rt.alloc();
-    let (cli, gcode) = written(alloc, 3)?;
+fn each_write_fails_in_turn(rt: HostRuntime) {
+    let (cli, gcode) = written(rt.alloc(), 3).expect(&rt, "memory for the texts");
     for call in 2..8 {
-        let mut desk = desk(alloc, &[call])?;
-        let told = work(
-            &rt,
-            alloc,
-            3,
-            &Squares { over: 3 },
-            &print(Want::Plan, 3),
-            &mut desk,
-        );
-        assert!(rt; matches!(told, Err(WorkFault::Write)));
-        assert!(rt; stopped_in(&desk, &cli, &gcode));
+        let print = print(Want::Plan, 3);
+        let answer = worked(&rt, rt.alloc(), 3, &Squares { over: 3 }, &print, &[call]);
+        assert!(rt; matches!(&answer.told, Err(WorkFault::Write)));
+        assert!(rt; stopped_in(&answer.desk, &cli, &gcode));
     }
-    Ok(())
 }
 
 /// Squares whose work holds one layer until the four others are done, or gives up.
@@ -271,30 +264,22 @@ impl Holding {
     }
 }
 
+/// Whether the layer was held until all others were done.
+fn is_held<R: Threads + Sync + Abort>(rt: &R, alloc: Global, layer: u32) -> bool {
+    let squares = Holding {
+        layer,
+        others: AtomicU64::new(0),
+        met: AtomicU64::new(0),
+    };
+    let mut desk = desk(rt, alloc, &[]);
+    let print = print(Want::Outlines, 2);
+    let told = work(rt, alloc, 5, &squares, &print, &mut desk);
+    told.is_ok() && squares.met.load(Ordering::SeqCst) == 1
+}
+
 #[test]
-fn two_at_once(rt: HostRuntime) -> Result<(), Fail> {
-    let alloc = rt.alloc();
+fn two_at_once(rt: HostRuntime) {
     for layer in 0..5 {
-        let squares = Holding {
-            layer,
-            others: AtomicU64::new(0),
-            met: AtomicU64::new(0),
-        };
-        let mut desk = desk(alloc, &[])?;
-        let told = work(
-            &rt,
-            alloc,
-            5,
-            &squares,
-            &print(Want::Outlines, 2),
-            &mut desk,
-        );
-        assert!(rt; told.is_ok());
-        assert_eq!(rt;
-            squares.met.load(Ordering::SeqCst),
-            1,
-            "layer {layer} is held until all others are done"
-        );
+        assert!(rt; is_held(&rt, rt.alloc(), layer), "layer {layer}");
     }
-    Ok(())
 }

@@ -4,14 +4,12 @@ ghost use Rattle.std.specs.Prelude.{◌≡◌, Some, [], IfOk};
 ghost use Rattle.scad_io.specs.Desk.{unused};
 
 use crate::plans::sample_of_plate;
-use crate::runs::{Answer, ROOM, answer_of, answer_on, expect, push_file};
+use crate::runs::{Answer, ROOM, answer_of, answer_on, expect, push_file, run_on};
 use scad_fault::Text;
-use scad_io::{MemoryDesk, Open};
-use scad_run::run;
+use scad_io::MemoryDesk;
 use scad_script::{Stop, report};
 use std::alloc::{AllocError, Global};
 use std::process::Abort;
-use std::test::Fail;
 use std::thread::Threads;
 
 /// The words of a run over settings and a source with a line of `echo`. Then the number of the call that writes this
@@ -34,17 +32,13 @@ const RUNS: [(&str, u64, u64); 9] = [
 
 const SOURCE: &[u8] = b"echo(1); cube([3,3,0.2]);";
 
-fn desk_with_settings(
-    alloc: Global,
-    source: &[u8],
-    fails: Vec<u64>,
-) -> Result<MemoryDesk, AllocError>
+fn desk_with_settings(alloc: Global, source: &[u8], fails: &[u64]) -> Result<MemoryDesk, AllocError>
     ensures { IfOk result (λ desk. desk.view ≡ unused (Some [])) }
 {
     let mut files = Vec::new(alloc);
     push_file(alloc, &mut files, b"m.scad", source)?;
     push_file(alloc, &mut files, b"s.toml", b"walls = 1\n")?;
-    MemoryDesk::new(alloc, files, fails, ROOM)
+    MemoryDesk::new(alloc, files, fails.to_vec(alloc)?, ROOM)
 }
 
 fn parted(alloc: Global, words: &str) -> Result<Vec<String>, AllocError> {
@@ -56,17 +50,16 @@ fn parted(alloc: Global, words: &str) -> Result<Vec<String>, AllocError> {
 }
 
 /// Runs the words, parted by blanks, where the calls of these numbers fail.
-fn answer_to<R: Threads + Sync>(
+fn answer_to<R: Threads + Sync + Abort>(
     rt: &R,
     alloc: Global,
     words: &str,
     source: &[u8],
-    fails: Vec<u64>,
-) -> Result<Answer, AllocError> {
-    let words = parted(alloc, words)?;
-    let mut desk = desk_with_settings(alloc, source, fails)?;
-    let status = run(rt, alloc, &words, &mut desk, &Open);
-    answer_on(alloc, status, &desk)
+    fails: &[u64],
+) -> Answer {
+    let words = parted(alloc, words).expect(rt, "memory");
+    let mut desk = desk_with_settings(alloc, source, fails).expect(rt, "memory");
+    run_on(rt, alloc, &words, &mut desk)
 }
 
 /// This call and those from another one on.
@@ -126,16 +119,16 @@ fn expect_stopped_at<R: Threads + Sync + Abort>(
     row: (&str, u64, u64),
     whole: &Answer,
     call: u64,
-) -> Result<Answer, AllocError> {
+) -> Answer {
     let (words, echo, last) = row;
-    let answer = answer_to(rt, alloc, words, SOURCE, [call].to_vec(alloc)?)?;
+    let answer = answer_to(rt, alloc, words, SOURCE, &[call]);
     expect_stopped(rt, whole, &answer, end_without(call, echo, last), words);
     let is_cut = call < last && !whole.cli.is_empty();
     assert!(rt;
         answer.faults == 1 && is_short(whole, &answer) == is_cut,
         "{words}"
     );
-    Ok(answer)
+    answer
 }
 
 /// After the call that failed comes one at most, for the last line: that the calls behind it would fail changes
@@ -146,13 +139,12 @@ fn expect_one_call_more<R: Threads + Sync + Abort>(
     row: (&str, u64, u64),
     alone: &Answer,
     call: u64,
-) -> Result<(), AllocError> {
+) {
     let (words, echo, last) = row;
-    let but_the_next = fails_from(alloc, call, call.saturating_add(2))?;
-    let same = answer_to(rt, alloc, words, SOURCE, but_the_next)?;
+    let but_the_next = fails_from(alloc, call, call.saturating_add(2)).expect(rt, "memory");
+    let same = answer_to(rt, alloc, words, SOURCE, &but_the_next);
     expect_stopped(rt, alone, &same, end_without(call, echo, last), words);
     assert!(rt; has_same_files(&same, alone) && same.faults == 1, "{words}");
-    Ok(())
 }
 
 /// Where that one fails too, the report has nothing more.
@@ -162,16 +154,21 @@ fn expect_silence<R: Threads + Sync + Abort>(
     row: (&str, u64, u64),
     alone: &Answer,
     call: u64,
-) -> Result<(), AllocError> {
+) {
     let (words, echo, last) = row;
-    let silent = answer_to(rt, alloc, words, SOURCE, fails_from(alloc, call, call)?)?;
+    let silent = answer_to(
+        rt,
+        alloc,
+        words,
+        SOURCE,
+        &fails_from(alloc, call, call).expect(rt, "memory"),
+    );
     expect_stopped(rt, alone, &silent, end_from(call, echo), words);
     let faults = if call == echo || call == last { 1 } else { 2 };
     assert!(rt;
         has_same_files(&silent, alone) && silent.faults == faults,
         "{words}"
     );
-    Ok(())
 }
 
 fn has_same_files(answer: &Answer, other: &Answer) -> bool {
@@ -179,84 +176,70 @@ fn has_same_files(answer: &Answer, other: &Answer) -> bool {
 }
 
 #[test]
-fn each_call_failing_in_turn(rt: HostRuntime) -> Result<(), Fail> {
+fn each_call_failing_in_turn(rt: HostRuntime) {
     let alloc = rt.alloc();
-    for row in RUNS {
+    for &row in &RUNS {
         let (words, _, last) = row;
-        let whole = answer_to(&rt, alloc, words, SOURCE, Vec::new(alloc))?;
+        let whole = answer_to(&rt, alloc, words, SOURCE, &[]);
         assert!(rt; whole.code == 0 && whole.faults == 0, "{words}");
         for call in 0..last.saturating_add(1) {
-            let alone = expect_stopped_at(&rt, alloc, row, &whole, call)?;
-            expect_one_call_more(&rt, alloc, row, &alone, call)?;
-            expect_silence(&rt, alloc, row, &alone, call)?;
+            let alone = expect_stopped_at(&rt, alloc, row, &whole, call);
+            expect_one_call_more(&rt, alloc, row, &alone, call);
+            expect_silence(&rt, alloc, row, &alone, call);
         }
-        let behind = [last.saturating_add(1)].to_vec(alloc)?;
-        let done = answer_to(&rt, alloc, words, SOURCE, behind)?;
+        let behind = &[last.saturating_add(1)];
+        let done = answer_to(&rt, alloc, words, SOURCE, behind);
         assert!(rt; done.code == 0 && done.faults == 0, "{words}");
         assert!(rt;
             done.report == whole.report && done.cli == whole.cli,
             "{words}"
         );
     }
-    Ok(())
 }
 
 /// A sample makes no call but for its last line.
 #[test]
-fn a_sample_with_a_failing_report(rt: HostRuntime) -> Result<(), Fail> {
+fn a_sample_with_a_failing_report(rt: HostRuntime) {
     let alloc = rt.alloc();
     for workers in [1, 2, 64] {
         for &(call, code) in &[(0, 5), (1, 0)] {
-            let line = sample_of_plate(&rt, alloc, workers)?;
-            expect_reported(&rt, alloc, line, call, code)?;
+            let line = sample_of_plate(&rt, alloc, workers);
+            expect_reported(&rt, alloc, line, call, code);
         }
     }
-    Ok(())
 }
 
 /// A report of this end over a desk of which this call fails.
-fn expect_reported(
-    rt: &impl Abort,
-    alloc: Global,
-    ended: Result<Text, Stop>,
-    call: u64,
-    code: u8,
-) -> Result<(), AllocError> {
-    let mut desk = desk_with_settings(alloc, b"", [call].to_vec(alloc)?)?;
+fn expect_reported(rt: &impl Abort, alloc: Global, ended: Result<Text, Stop>, call: u64, code: u8) {
+    let mut desk = desk_with_settings(alloc, b"", &[call]).expect(rt, "memory");
     let status = report(alloc, ended, &mut desk);
-    let answer = answer_on(alloc, status, &desk)?;
+    let answer = answer_on(alloc, status, &desk).expect(rt, "memory");
     let is_told = answer.code == code && answer.report.is_empty() == (code == 5);
     let is_alone = answer.cli.is_empty() && answer.gcode.is_empty();
     assert!(rt; is_told && is_alone && (answer.faults == 0) == (code == 0));
-    Ok(())
 }
 
 /// A plate with a square hole.
 const HOLED: &str = "difference(){cube(10); translate([2,2,-1]) cube([6,6,12]);}";
 
-fn checked<R: Threads + Sync>(rt: &R, alloc: Global, source: &[u8]) -> Result<Answer, AllocError> {
+fn checked<R: Threads + Sync + Abort>(rt: &R, alloc: Global, source: &[u8]) -> Answer {
     let words = ["check", "m.scad"];
-    answer_of(rt, alloc, &words, source, Vec::new(alloc), ROOM)
+    answer_of(rt, alloc, &words, source, &[], ROOM)
 }
 
-fn expect_early_end<R: Threads + Sync + Abort>(
-    rt: &R,
-    alloc: Global,
-    front: &[u8],
-) -> Result<(), AllocError> {
+fn expect_early_end<R: Threads + Sync + Abort>(rt: &R, alloc: Global, front: &[u8]) {
     let column = front.len().wrapping_add(1);
-    let report = format!(in alloc; "fault 2 Syntax at 1:{column}\n")?;
-    let answer = checked(rt, alloc, front)?;
+    let report = format!(in alloc; "fault 2 Syntax at 1:{column}\n").expect(rt, "memory");
+    let answer = checked(rt, alloc, front);
     expect(rt, &answer, 1, report.as_str(), "a front");
     assert!(rt; answer.cli.is_empty() && answer.faults == 0);
-    Ok(())
 }
 
 /// Each front ends early, where it isn't empty: the fault stands behind its last byte.
 #[test]
-fn each_front_of_a_source(rt: HostRuntime) -> Result<(), Fail> {
+fn each_front_of_a_source(rt: HostRuntime) {
     let alloc = rt.alloc();
-    let nothing = checked(&rt, alloc, b"")?;
+    let nothing = checked(&rt, alloc, b"");
     expect(
         &rt,
         &nothing,
@@ -265,9 +248,9 @@ fn each_front_of_a_source(rt: HostRuntime) -> Result<(), Fail> {
         "",
     );
     for len in 1..HOLED.len() {
-        expect_early_end(&rt, alloc, &HOLED.as_bytes()[..len])?;
+        expect_early_end(&rt, alloc, &HOLED.as_bytes()[..len]);
     }
-    let whole = checked(&rt, alloc, HOLED.as_bytes())?;
+    let whole = checked(&rt, alloc, HOLED.as_bytes());
     expect(
         &rt,
         &whole,
@@ -275,7 +258,6 @@ fn each_front_of_a_source(rt: HostRuntime) -> Result<(), Fail> {
         "ok: 2 leaves, 24 triangles, 50 layers\n",
         HOLED,
     );
-    Ok(())
 }
 
 /// The beginning of a source, what stands behind it and how often, the status of `check` and its report.
@@ -321,15 +303,14 @@ fn lengthened(alloc: Global, front: &str, unit: char, times: u32) -> Result<Stri
 }
 
 #[test]
-fn sources_that_ask_for_too_much(rt: HostRuntime) -> Result<(), Fail> {
+fn sources_that_ask_for_too_much(rt: HostRuntime) {
     let alloc = rt.alloc();
     for &(front, unit, times, code, report) in &HOSTILE {
-        let source = lengthened(alloc, front, unit, times)?;
-        let answer = checked(&rt, alloc, source.as_bytes())?;
+        let source = lengthened(alloc, front, unit, times).expect(&rt, "memory");
+        let answer = checked(&rt, alloc, source.as_bytes());
         expect(&rt, &answer, code, report, front);
         assert!(rt; answer.cli.is_empty() && answer.faults == 0, "{front}");
     }
-    Ok(())
 }
 
 /// The section of the layer at 0.8 to 1 mm has too many edges.
@@ -356,14 +337,14 @@ const CUT: [(&str, u64, &str); 3] = [
     ),
 ];
 
-fn answer_by<R: Threads + Sync>(
+fn answer_by<R: Threads + Sync + Abort>(
     rt: &R,
     alloc: Global,
     front: &str,
     workers: &str,
-    fails: Vec<u64>,
-) -> Result<Answer, AllocError> {
-    let words = format!(in alloc; "{front}{workers}")?;
+    fails: &[u64],
+) -> Answer {
+    let words = format!(in alloc; "{front}{workers}").expect(rt, "memory");
     answer_to(rt, alloc, words.as_str(), WIDE, fails)
 }
 
@@ -374,26 +355,24 @@ fn expect_cut<R: Threads + Sync + Abort>(
     row: (&str, u64, &str),
     whole: &Answer,
     workers: &str,
-) -> Result<(), AllocError> {
+) {
     let (front, call, lines) = row;
-    let answer = answer_by(rt, alloc, front, workers, [call].to_vec(alloc)?)?;
+    let answer = answer_by(rt, alloc, front, workers, &[call]);
     expect_stopped(rt, whole, &answer, (5, "write fault\n"), front);
     let is_cut = is_short(whole, &answer) && answer.cli.ends_with(lines.as_bytes());
     assert!(rt; answer.faults == 1 && is_cut, "{front}");
-    Ok(())
 }
 
 /// A file that fails comes before the budget of a later layer, by however many workers it was met.
 #[test]
-fn a_write_that_fails_before_a_budget(rt: HostRuntime) -> Result<(), Fail> {
+fn a_write_that_fails_before_a_budget(rt: HostRuntime) {
     let alloc = rt.alloc();
-    for row in CUT {
-        let whole = answer_by(&rt, alloc, row.0, "1", Vec::new(alloc))?;
+    for &row in &CUT {
+        let whole = answer_by(&rt, alloc, row.0, "1", &[]);
         let over = (6, "budget 7 LayerEdges layer 4 count 20010\n");
         expect_stopped(&rt, &whole, &whole, over, row.0);
-        for workers in ["1", "2", "64"] {
-            expect_cut(&rt, alloc, row, &whole, workers)?;
+        for workers in &["1", "2", "64"] {
+            expect_cut(&rt, alloc, row, &whole, workers);
         }
     }
-    Ok(())
 }

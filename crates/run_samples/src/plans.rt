@@ -11,7 +11,6 @@ use scad_slice::Workpiece;
 use scad_words::Settings;
 use std::alloc::{AllocError, Global};
 use std::process::Abort;
-use std::test::Fail;
 use std::thread::Threads;
 
 /// A plate of three millimetres, one layer thick.
@@ -62,14 +61,14 @@ M84
 
 const PLATE_LINE: &str = "done: 1 layers, 1 loops, 9 moves, E 0.67351\n";
 
-fn planned<R: Threads + Sync>(
+fn planned<R: Threads + Sync + Abort>(
     rt: &R,
     alloc: Global,
     source: &str,
     workers: &str,
-    fails: Vec<u64>,
+    fails: &[u64],
     room: usize,
-) -> Result<Answer, AllocError> {
+) -> Answer {
     let words = ["plan", "m.scad", "o.cli", "o.gcode", "--workers", workers];
     answer_of(rt, alloc, &words, source.as_bytes(), fails, room)
 }
@@ -82,26 +81,20 @@ fn expect_report(rt: &impl Abort, answer: &Answer, code: u8, report: &str, case:
 }
 
 #[test]
-fn a_plate_is_planned(rt: HostRuntime) -> Result<(), Fail> {
+fn a_plate_is_planned(rt: HostRuntime) {
     let alloc = rt.alloc();
-    for workers in ["1", "3"] {
-        let answer = planned(&rt, alloc, PLATE, workers, Vec::new(alloc), ROOM)?;
+    for workers in &["1", "3"] {
+        let answer = planned(&rt, alloc, PLATE, workers, &[], ROOM);
         expect_report(&rt, &answer, 0, PLATE_LINE, workers);
         let same = answer.cli.as_slice() == PLATE_OUTLINES.as_bytes()
             && answer.gcode.as_slice() == PLATE_PROGRAM.as_bytes();
         assert!(rt; same);
     }
-    Ok(())
 }
 
 /// A run of `plan` over the plate in which the call of this number fails: whether it was done all the same.
-fn done_but_for<R: Threads + Sync + Abort>(
-    rt: &R,
-    alloc: Global,
-    call: u64,
-) -> Result<bool, AllocError> {
-    let fails = [call].to_vec(alloc)?;
-    let answer = planned(rt, alloc, PLATE, "3", fails, ROOM)?;
+fn done_but_for<R: Threads + Sync + Abort>(rt: &R, alloc: Global, call: u64) -> bool {
+    let answer = planned(rt, alloc, PLATE, "3", &[call], ROOM);
     let (code, report) = end_without(call);
     expect_report(rt, &answer, code, report, "a call fails");
     let fronts = PLATE_OUTLINES.as_bytes().starts_with(&answer.cli)
@@ -110,7 +103,7 @@ fn done_but_for<R: Threads + Sync + Abort>(
         fronts && (answer.faults == 0) == (code == 0),
         "call {call}"
     );
-    Ok(code == 0)
+    code == 0
 }
 
 /// The status and the report of a run of `plan` over the plate in which this call fails.
@@ -127,13 +120,12 @@ fn end_without(call: u64) -> (u8, &'static str) {
 }
 
 #[test]
-fn each_call_of_a_plan_failing_in_turn(rt: HostRuntime) -> Result<(), Fail> {
+fn each_call_of_a_plan_failing_in_turn(rt: HostRuntime) {
     let alloc = rt.alloc();
     for call in 0..12 {
-        assert!(rt; !done_but_for(&rt, alloc, call)?);
+        assert!(rt; !done_but_for(&rt, alloc, call));
     }
-    assert!(rt; done_but_for(&rt, alloc, 12)?);
-    Ok(())
+    assert!(rt; done_but_for(&rt, alloc, 12));
 }
 
 const FIFTEEN: &[u8] = b"$$HEADERSTART\n$$ASCII\n$$UNITS/0.001\n$$VERSION/200\n$$LAYERS/15\n";
@@ -143,13 +135,13 @@ const FOURTH: &[u8] = b"$$LAYER/800\n$$POLYLINE/1,1,5,0,0,1000,0,1000,1000,0,100
 /// The sections of the layers at 0.8 to 1 mm and at 1.8 to 2 mm have 20,010 edges: both files end before the lower one, whatever
 /// the number of workers.
 #[test]
-fn the_least_layer_with_a_budget_is_answered(rt: HostRuntime) -> Result<(), Fail> {
+fn the_least_layer_with_a_budget_is_answered(rt: HostRuntime) {
     let alloc = rt.alloc();
     let source =
         "cube([1,1,3]); translate([0,0,0.8]) cylinder(h=0.2,r=50,$fn=10001); translate([0,0,1.8]) cylinder(h=0.2,r=50,$fn=10001);";
-    for workers in ["1", "2", "64"] {
+    for workers in &["1", "2", "64"] {
         let words = ["slice", "m.scad", "o.cli", "--workers", workers];
-        let answer = answer_of(&rt, alloc, &words, source.as_bytes(), Vec::new(alloc), ROOM)?;
+        let answer = answer_of(&rt, alloc, &words, source.as_bytes(), &[], ROOM);
         expect_report(
             &rt,
             &answer,
@@ -162,7 +154,6 @@ fn the_least_layer_with_a_budget_is_answered(rt: HostRuntime) -> Result<(), Fail
             layers.starts_with(FIFTEEN) && layers.ends_with(FOURTH) && answer.gcode.is_empty()
         );
     }
-    Ok(())
 }
 
 /// The last line of a sample that is the plate: its numbers, and the sizes of both files.
@@ -170,38 +161,33 @@ const PLATE_SAMPLE: &str =
     "sample 7: 1 layers, 1 loops, 9 moves, E 0.67351, 197 cli bytes, 481 gcode bytes\n";
 
 /// The end of a sample, over the plate in the place of its own tree.
-pub fn sample_of_plate<R: Threads + Sync>(
+pub fn sample_of_plate<R: Threads + Sync + Abort>(
     rt: &R,
     alloc: Global,
     workers: u32,
-) -> Result<Result<Text, Stop>, Fail>
+) -> Result<Text, Stop>
     requires some { 1 ≤ workers }
     requires most { workers ≤ 64 }
 {
-    let mut desk = desk_with(alloc, b"", Vec::new(alloc), ROOM)?;
-    let Ok(tree) = evaluate(alloc, PLATE.as_bytes(), &mut desk) else {
-        return Err(Fail::new("the plate has a tree"));
-    };
+    let mut desk = desk_with(alloc, b"", &[], ROOM).expect(rt, "memory");
+    let tree = evaluate(alloc, PLATE.as_bytes(), &mut desk).expect(rt, "a tree");
     let piece = Workpiece {
         tree: &tree,
         settings: Settings::defaults(),
         workers,
         gate: &Open,
     };
-    Ok(sampled(rt, alloc, 7, &piece))
+    sampled(rt, alloc, 7, &piece)
 }
 
 #[test]
-fn a_sample_tells_sizes(rt: HostRuntime) -> Result<(), Fail> {
-    let Ok(line) = sample_of_plate(&rt, rt.alloc(), 3)? else {
-        return Err(Fail::new("the plate is planned"));
-    };
+fn a_sample_tells_sizes(rt: HostRuntime) {
+    let line = sample_of_plate(&rt, rt.alloc(), 3).expect(&rt, "a plan");
     assert!(rt; line.as_slice() == PLATE_SAMPLE.as_bytes());
-    Ok(())
 }
 
 #[test]
-fn plans_of_settings(rt: HostRuntime) -> Result<(), Fail> {
+fn plans_of_settings(rt: HostRuntime) {
     let alloc = rt.alloc();
     let source = "difference(){cube([10,10,0.2]); translate([4,4,-1]) cube([2,2,3]);}";
     let words = ["plan", "m.scad", "o.cli", "o.gcode", "--settings", "s.toml"];
@@ -211,7 +197,7 @@ fn plans_of_settings(rt: HostRuntime) -> Result<(), Fail> {
         &words,
         b"walls = 1\ninfill_spacing = 0\n",
         source.as_bytes(),
-    )?;
+    );
     expect_report(
         &rt,
         &answer,
@@ -219,5 +205,4 @@ fn plans_of_settings(rt: HostRuntime) -> Result<(), Fail> {
         "done: 1 layers, 2 loops, 12 moves, E 1.78437\n",
         source,
     );
-    Ok(())
 }

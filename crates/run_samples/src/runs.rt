@@ -7,7 +7,6 @@ use scad_io::{MemoryDesk, Open, Out};
 use scad_run::run;
 use std::alloc::{AllocError, Global};
 use std::process::Abort;
-use std::test::Fail;
 use std::thread::Threads;
 
 pub const ROOM: usize = 1 << 20;
@@ -34,14 +33,14 @@ pub fn texts_of(alloc: Global, words: &[&str]) -> Result<Vec<String>, AllocError
 pub fn desk_with(
     alloc: Global,
     source: &[u8],
-    fails: Vec<u64>,
+    fails: &[u64],
     room: usize,
 ) -> Result<MemoryDesk, AllocError>
     ensures { IfOk result (λ desk. desk.view ≡ unused (Some [])) }
 {
     let mut files = Vec::new(alloc);
     push_file(alloc, &mut files, b"m.scad", source)?;
-    MemoryDesk::new(alloc, files, fails, room)
+    MemoryDesk::new(alloc, files, fails.to_vec(alloc)?, room)
 }
 
 pub fn push_file(
@@ -65,30 +64,35 @@ pub fn answer_on(alloc: Global, status: Status, desk: &MemoryDesk) -> Result<Ans
     })
 }
 
+/// Runs the words over a new desk.
+pub fn run_on<R: Threads + Sync + Abort>(
+    rt: &R,
+    alloc: Global,
+    words: &[String],
+    desk: &mut MemoryDesk,
+) -> Answer
+    requires { desk.old.view ≡ unused (Some []) }
+{
+    let status = run(rt, alloc, words, desk, &Open);
+    answer_on(alloc, status, desk).expect(rt, "memory")
+}
+
 /// Runs these words over a desk that has a source as `m.scad`, where the calls of these numbers fail.
-pub fn answer_of<R: Threads + Sync>(
+pub fn answer_of<R: Threads + Sync + Abort>(
     rt: &R,
     alloc: Global,
     words: &[&str],
     source: &[u8],
-    fails: Vec<u64>,
+    fails: &[u64],
     room: usize,
-) -> Result<Answer, AllocError> {
-    let words = texts_of(alloc, words)?;
-    let mut desk = desk_with(alloc, source, fails, room)?;
-    let status = run(rt, alloc, &words, &mut desk, &Open);
-    answer_on(alloc, status, &desk)
+) -> Answer {
+    let words = texts_of(alloc, words).expect(rt, "memory");
+    let mut desk = desk_with(alloc, source, fails, room).expect(rt, "memory");
+    run_on(rt, alloc, &words, &mut desk)
 }
 
-fn sliced<R: Threads + Sync>(rt: &R, alloc: Global, source: &[u8]) -> Result<Answer, AllocError> {
-    answer_of(
-        rt,
-        alloc,
-        &["slice", "m.scad", "o.cli"],
-        source,
-        Vec::new(alloc),
-        ROOM,
-    )
+fn sliced<R: Threads + Sync + Abort>(rt: &R, alloc: Global, source: &[u8]) -> Answer {
+    answer_of(rt, alloc, &["slice", "m.scad", "o.cli"], source, &[], ROOM)
 }
 
 pub fn expect(rt: &impl Abort, answer: &Answer, code: u8, report: &str, case: &str) {
@@ -115,43 +119,39 @@ const STRANGE: [&[&str]; 11] = [
 ];
 
 #[test]
-fn words_of_another_form(rt: HostRuntime) -> Result<(), Fail> {
+fn words_of_another_form(rt: HostRuntime) {
     let alloc = rt.alloc();
-    for words in STRANGE {
-        let answer = answer_of(&rt, alloc, words, b"cube(1);", Vec::new(alloc), ROOM)?;
+    for &words in &STRANGE {
+        let answer = answer_of(&rt, alloc, words, b"cube(1);", &[], ROOM);
         expect(&rt, &answer, 2, "usage: scadslice COMMAND\n", "words");
         assert!(rt; answer.cli.is_empty() && answer.faults == 0);
     }
-    Ok(())
 }
 
 #[test]
-fn unknown_model(rt: HostRuntime) -> Result<(), Fail> {
+fn unknown_model(rt: HostRuntime) {
     let alloc = rt.alloc();
     let words = ["slice", "n.scad", "o.cli"];
-    let answer = answer_of(&rt, alloc, &words, b"cube(1);", Vec::new(alloc), ROOM)?;
+    let answer = answer_of(&rt, alloc, &words, b"cube(1);", &[], ROOM);
     expect(&rt, &answer, 4, "read fault\n", "unknown model");
     assert!(rt; answer.cli.is_empty() && answer.faults == 1);
-    Ok(())
 }
 
 /// One byte more than a source may have.
 #[test]
-fn a_source_that_is_too_long(rt: HostRuntime) -> Result<(), Fail> {
+fn a_source_that_is_too_long(rt: HostRuntime) {
     let alloc = rt.alloc();
-    let source = vec![in alloc; b'\n'; 4_194_305]?;
-    let long = sliced(&rt, alloc, &source)?;
+    let source = vec![in alloc; b'\n'; 4_194_305].expect(&rt, "memory");
+    let long = sliced(&rt, alloc, &source);
     expect(&rt, &long, 6, "budget 1 SourceLong\n", "long");
     assert!(rt; long.cli.is_empty());
-    Ok(())
 }
 
 #[test]
-fn longest_source(rt: HostRuntime) -> Result<(), Fail> {
+fn longest_source(rt: HostRuntime) {
     let alloc = rt.alloc();
-    let mut source = b"cube(1);".to_vec(alloc)?;
-    source.resize(4_194_304, b'\n')?;
-    let within = sliced(&rt, alloc, &source)?;
+    let mut source = b"cube(1);".to_vec(alloc).expect(&rt, "memory");
+    source.resize(4_194_304, b'\n').expect(&rt, "memory");
+    let within = sliced(&rt, alloc, &source);
     expect(&rt, &within, 0, "done: 5 layers, 5 loops\n", "within");
-    Ok(())
 }

@@ -1,26 +1,24 @@
 //! Settings: where they are named, what they change, and how they are refused.
-use crate::runs::{Answer, ROOM, answer_on, expect, push_file, texts_of};
-use scad_io::{MemoryDesk, Open};
-use scad_run::run;
+use crate::runs::{Answer, ROOM, expect, push_file, run_on, texts_of};
+use scad_io::MemoryDesk;
 use std::alloc::{AllocError, Global};
-use std::test::Fail;
+use std::process::Abort;
 use std::thread::Threads;
 
 /// Runs these words over a desk that has settings as `s.toml` and a source as `m.scad`.
-pub fn settled<R: Threads + Sync>(
+pub fn settled<R: Threads + Sync + Abort>(
     rt: &R,
     alloc: Global,
     words: &[&str],
     settings: &[u8],
     source: &[u8],
-) -> Result<Answer, AllocError> {
-    let words = texts_of(alloc, words)?;
+) -> Answer {
+    let words = texts_of(alloc, words).expect(rt, "memory");
     let mut files = Vec::new(alloc);
-    push_file(alloc, &mut files, b"s.toml", settings)?;
-    push_file(alloc, &mut files, b"m.scad", source)?;
-    let mut desk = MemoryDesk::new(alloc, files, Vec::new(alloc), ROOM)?;
-    let status = run(rt, alloc, &words, &mut desk, &Open);
-    answer_on(alloc, status, &desk)
+    push_file(alloc, &mut files, b"s.toml", settings).expect(rt, "memory");
+    push_file(alloc, &mut files, b"m.scad", source).expect(rt, "memory");
+    let mut desk = MemoryDesk::new(alloc, files, Vec::new(alloc), ROOM).expect(rt, "memory");
+    run_on(rt, alloc, &words, &mut desk)
 }
 
 /// Settings, the status of `check` and its report.
@@ -42,14 +40,13 @@ const JUDGED: [(&str, u8, &str); 6] = [
 ];
 
 #[test]
-fn settings_are_judged(rt: HostRuntime) -> Result<(), Fail> {
+fn settings_are_judged(rt: HostRuntime) {
     let alloc = rt.alloc();
     for &(settings, code, report) in &JUDGED {
         let words = ["check", "m.scad", "--settings", "s.toml"];
-        let answer = settled(&rt, alloc, &words, settings.as_bytes(), b"cube(1);")?;
+        let answer = settled(&rt, alloc, &words, settings.as_bytes(), b"cube(1);");
         expect(&rt, &answer, code, report, settings);
     }
-    Ok(())
 }
 
 /// A model and where its settings are, the status of `check` and its report.
@@ -66,26 +63,24 @@ const BEFORE: [(&str, &str, u8, &str); 4] = [
 ];
 
 #[test]
-fn settings_go_before_the_source(rt: HostRuntime) -> Result<(), Fail> {
+fn settings_go_before_the_source(rt: HostRuntime) {
     let alloc = rt.alloc();
     for &(model, settings, code, report) in &BEFORE {
         let words = ["check", model, settings];
-        let answer = settled(&rt, alloc, &words, b"walls", b"cube(")?;
+        let answer = settled(&rt, alloc, &words, b"walls", b"cube(");
         expect(&rt, &answer, code, report, settings);
     }
-    Ok(())
 }
 
 #[test]
-fn layers_are_of_the_given_height(rt: HostRuntime) -> Result<(), Fail> {
+fn layers_are_of_the_given_height(rt: HostRuntime) {
     let alloc = rt.alloc();
     let words = ["slice", "--settings", "s.toml", "m.scad", "o.cli"];
-    let answer = settled(&rt, alloc, &words, b"layer_height = 500", b"cube(1);")?;
+    let answer = settled(&rt, alloc, &words, b"layer_height = 500", b"cube(1);");
     expect(&rt, &answer, 0, "done: 2 layers, 2 loops\n", "two layers");
     let text =
         "$$HEADERSTART\n$$ASCII\n$$UNITS/0.001\n$$VERSION/200\n$$LAYERS/2\n$$HEADEREND\n$$GEOMETRYSTART\n\
         $$LAYER/500\n$$POLYLINE/1,1,5,0,0,1000,0,1000,1000,0,1000,0,0\n\
         $$LAYER/1000\n$$POLYLINE/1,1,5,0,0,1000,0,1000,1000,0,1000,0,0\n$$GEOMETRYEND\n";
     assert_eq!(rt; answer.cli.as_slice(), text.as_bytes());
-    Ok(())
 }

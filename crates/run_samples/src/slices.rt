@@ -2,7 +2,6 @@
 use crate::runs::{Answer, ROOM, answer_of, expect};
 use std::alloc::{AllocError, Global};
 use std::process::Abort;
-use std::test::Fail;
 use std::thread::Threads;
 
 /// A source, how many layers and loops it has, and the polylines of each layer; `|` parts those of the lowest from
@@ -116,27 +115,31 @@ fn push_polylines(alloc: Global, text: &mut Vec<u8>, lines: &str) -> Result<(), 
     Ok(())
 }
 
-fn sliced<R: Threads + Sync>(
+fn sliced<R: Threads + Sync + Abort>(
     rt: &R,
     alloc: Global,
     source: &str,
-    fails: Vec<u64>,
+    fails: &[u64],
     room: usize,
-) -> Result<Answer, AllocError> {
+) -> Answer {
     let words = ["slice", "m.scad", "o.cli"];
     answer_of(rt, alloc, &words, source.as_bytes(), fails, room)
 }
 
 #[test]
-fn trees_sliced(rt: HostRuntime) -> Result<(), Fail> {
+fn trees_sliced(rt: HostRuntime) {
     let alloc = rt.alloc();
     for &(source, count, loops, layers) in &SLICED {
-        let answer = sliced(&rt, alloc, source, Vec::new(alloc), ROOM)?;
-        let report = format!(in alloc; "done: {count} layers, {loops} loops\n")?;
+        let answer = sliced(&rt, alloc, source, &[], ROOM);
+        let report = format!(in alloc; "done: {count} layers, {loops} loops\n").expect(
+            &rt, "memory",
+        );
         expect(&rt, &answer, 0, report.as_str(), source);
-        assert!(rt; answer.cli == outlines(alloc, count, layers)?, "{source}");
+        assert!(rt;
+            answer.cli == outlines(alloc, count, layers).expect(&rt, "memory"),
+            "{source}"
+        );
     }
-    Ok(())
 }
 
 /// Sources that aren't sliced, and their reports.
@@ -155,22 +158,21 @@ const REFUSED: [(&str, &str); 4] = [
 
 /// No file is created.
 #[test]
-fn refused(rt: HostRuntime) -> Result<(), Fail> {
+fn refused(rt: HostRuntime) {
     let alloc = rt.alloc();
     for &(source, report) in &REFUSED {
-        let answer = sliced(&rt, alloc, source, Vec::new(alloc), ROOM)?;
+        let answer = sliced(&rt, alloc, source, &[], ROOM);
         expect(&rt, &answer, 1, report, source);
         assert!(rt; answer.cli.is_empty() && answer.faults == 0, "{source}");
     }
-    Ok(())
 }
 
 /// The section of the layer at 0.8 to 1 mm has 20,010 edges: the outlines end before it.
 #[test]
-fn a_layer_with_too_many_edges(rt: HostRuntime) -> Result<(), Fail> {
+fn a_layer_with_too_many_edges(rt: HostRuntime) {
     let alloc = rt.alloc();
     let source = "cube([1,1,3]); translate([0,0,0.8]) cylinder(h=0.2,r=50,$fn=10001);";
-    let answer = sliced(&rt, alloc, source, Vec::new(alloc), ROOM)?;
+    let answer = sliced(&rt, alloc, source, &[], ROOM);
     expect(
         &rt,
         &answer,
@@ -178,8 +180,9 @@ fn a_layer_with_too_many_edges(rt: HostRuntime) -> Result<(), Fail> {
         "budget 7 LayerEdges layer 4 count 20010\n",
         source,
     );
-    assert!(rt; answer.cli == begun(alloc, 15, 4, SQUARE)? && answer.faults == 0);
-    Ok(())
+    assert!(rt;
+        answer.cli == begun(alloc, 15, 4, SQUARE).expect(&rt, "memory") && answer.faults == 0
+    );
 }
 
 /// A source with a line of `echo` and two layers.
@@ -188,23 +191,18 @@ const TWO: &str = "echo(1); cube([1,1,0.4]);";
 const SQUARE: &str = "1,1,5,0,0,1000,0,1000,1000,0,1000,0,0";
 
 /// A run in which the call of this number fails: whether it was done all the same.
-fn done_but_for<R: Threads + Sync + Abort>(
-    rt: &R,
-    alloc: Global,
-    call: u64,
-) -> Result<bool, AllocError> {
-    let fails = [call].to_vec(alloc)?;
-    let answer = sliced(rt, alloc, TWO, fails, ROOM)?;
+fn done_but_for<R: Threads + Sync + Abort>(rt: &R, alloc: Global, call: u64) -> bool {
+    let answer = sliced(rt, alloc, TWO, &[call], ROOM);
     let (code, report) = end_without(call);
     expect(rt, &answer, code, report, "a call fails");
-    let whole = outlines(alloc, 2, SQUARE)?;
+    let whole = outlines(alloc, 2, SQUARE).expect(rt, "memory");
     let is_front = whole.starts_with(&answer.cli)
         && (answer.cli.len() == whole.len()) == (call >= 9);
     assert!(rt;
         is_front && (answer.faults == 0) == (code == 0),
         "call {call}"
     );
-    Ok(code == 0)
+    code == 0
 }
 
 /// The status and the report of a run in which this call fails.
@@ -223,26 +221,24 @@ fn end_without(call: u64) -> (u8, &'static str) {
 }
 
 #[test]
-fn each_call_of_a_slice_failing_in_turn(rt: HostRuntime) -> Result<(), Fail> {
+fn each_call_of_a_slice_failing_in_turn(rt: HostRuntime) {
     let alloc = rt.alloc();
     for call in 0..10 {
-        assert!(rt; !done_but_for(&rt, alloc, call)?);
+        assert!(rt; !done_but_for(&rt, alloc, call));
     }
-    assert!(rt; done_but_for(&rt, alloc, 10)?);
-    Ok(())
+    assert!(rt; done_but_for(&rt, alloc, 10));
 }
 
 #[test]
-fn room_for_a_part_of_the_outlines(rt: HostRuntime) -> Result<(), Fail> {
+fn room_for_a_part_of_the_outlines(rt: HostRuntime) {
     let alloc = rt.alloc();
-    let whole = outlines(alloc, 2, SQUARE)?;
+    let whole = outlines(alloc, 2, SQUARE).expect(&rt, "memory");
     for room in 20..whole.len() {
-        let answer = sliced(&rt, alloc, TWO, Vec::new(alloc), room)?;
+        let answer = sliced(&rt, alloc, TWO, &[], room);
         expect(&rt, &answer, 5, "ECHO: 1\nwrite fault\n", "room");
         assert!(rt;
             answer.cli.len() == room && whole.starts_with(&answer.cli),
             "room {room}"
         );
     }
-    Ok(())
 }

@@ -119,14 +119,14 @@ const SHOWN: [(&str, u8, &str); 6] = [
     ),
 ];
 
-fn told<R: Threads + Sync>(
+fn told<R: Threads + Sync + Abort>(
     rt: &R,
     alloc: Global,
     command: &str,
     source: &str,
-    fails: Vec<u64>,
+    fails: &[u64],
     room: usize,
-) -> Result<Answer, AllocError> {
+) -> Answer {
     let words = [command, "m.scad"];
     answer_of(rt, alloc, &words, source.as_bytes(), fails, room)
 }
@@ -136,28 +136,25 @@ fn expect_told<R: Threads + Sync + Abort>(
     alloc: Global,
     command: &str,
     row: (&str, u8, &str),
-) -> Result<(), AllocError> {
+) {
     let (source, code, report) = row;
-    let answer = told(rt, alloc, command, source, Vec::new(alloc), ROOM)?;
+    let answer = told(rt, alloc, command, source, &[], ROOM);
     expect(rt, &answer, code, report, source);
     assert!(rt; answer.cli.is_empty() && answer.faults == 0, "{source}");
-    Ok(())
 }
 
 #[test]
-fn sources_checked(rt: HostRuntime) -> Result<(), Fail> {
-    for row in CHECKED {
-        expect_told(&rt, rt.alloc(), "check", row)?;
+fn sources_checked(rt: HostRuntime) {
+    for &row in &CHECKED {
+        expect_told(&rt, rt.alloc(), "check", row);
     }
-    Ok(())
 }
 
 #[test]
-fn trees_shown(rt: HostRuntime) -> Result<(), Fail> {
-    for row in SHOWN {
-        expect_told(&rt, rt.alloc(), "tree", row)?;
+fn trees_shown(rt: HostRuntime) {
+    for &row in &SHOWN {
+        expect_told(&rt, rt.alloc(), "tree", row);
     }
-    Ok(())
 }
 
 const ECHOES: &str = "ECHO: \"a\"\nECHO: 2\n";
@@ -167,20 +164,15 @@ const WHOLE: &str = "ECHO: \"a\"\nECHO: 2\nok: 1 leaves, 12 triangles, 5 layers\
 const SOURCE: &str = "echo(\"a\"); echo(2); cube(1);";
 
 /// A check of a source with echo lines in which the call of this number fails: whether it was done all the same.
-fn checked_but_for<R: Threads + Sync + Abort>(
-    rt: &R,
-    alloc: Global,
-    call: u64,
-) -> Result<bool, AllocError> {
-    let fails = [call].to_vec(alloc)?;
-    let answer = told(rt, alloc, "check", SOURCE, fails, ROOM)?;
+fn checked_but_for<R: Threads + Sync + Abort>(rt: &R, alloc: Global, call: u64) -> bool {
+    let answer = told(rt, alloc, "check", SOURCE, &[call], ROOM);
     let (code, report) = end_without(call);
     expect(rt, &answer, code, report, "a call fails");
     assert!(rt;
         answer.cli.is_empty() && (answer.faults == 0) == (code == 0),
         "call {call}"
     );
-    Ok(code == 0)
+    code == 0
 }
 
 /// The status and the report of a check in which this call fails.
@@ -197,38 +189,35 @@ fn end_without(call: u64) -> (u8, &'static str) {
 }
 
 #[test]
-fn each_call_of_a_check_failing_in_turn(rt: HostRuntime) -> Result<(), Fail> {
+fn each_call_of_a_check_failing_in_turn(rt: HostRuntime) {
     let alloc = rt.alloc();
     for call in 0..5 {
-        assert!(rt; !checked_but_for(&rt, alloc, call)?);
+        assert!(rt; !checked_but_for(&rt, alloc, call));
     }
-    assert!(rt; checked_but_for(&rt, alloc, 5)?);
-    Ok(())
+    assert!(rt; checked_but_for(&rt, alloc, 5));
 }
 
 /// Behind a part of the echo lines stands no line; behind all of them a part of the last one.
 #[test]
-fn room_for_a_part_of_the_report(rt: HostRuntime) -> Result<(), Fail> {
+fn room_for_a_part_of_the_report(rt: HostRuntime) {
     let alloc = rt.alloc();
     for room in 0..WHOLE.len() {
-        let answer = told(&rt, alloc, "check", SOURCE, Vec::new(alloc), room)?;
+        let answer = told(&rt, alloc, "check", SOURCE, &[], room);
         let is_front = answer.report.len() == room && WHOLE.as_bytes().starts_with(&answer.report);
         assert!(rt;
             is_front && answer.code == 5 && answer.faults == 1,
             "room {room}"
         );
     }
-    let answer = told(&rt, alloc, "check", SOURCE, Vec::new(alloc), WHOLE.len())?;
+    let answer = told(&rt, alloc, "check", SOURCE, &[], WHOLE.len());
     expect(&rt, &answer, 0, WHOLE, "room for all");
-    Ok(())
 }
 
 #[test]
-fn longest_source_checked(rt: HostRuntime) -> Result<(), Fail> {
+fn longest_source_checked(rt: HostRuntime) {
     let alloc = rt.alloc();
-    let long = vec![in alloc; b'\n'; 4_194_305]?;
+    let long = vec![in alloc; b'\n'; 4_194_305].expect(&rt, "memory");
     let words = ["check", "m.scad"];
-    let answer = answer_of(&rt, alloc, &words, &long, Vec::new(alloc), ROOM)?;
+    let answer = answer_of(&rt, alloc, &words, &long, &[], ROOM);
     expect(&rt, &answer, 6, "budget 1 SourceLong\n", "long");
-    Ok(())
 }

@@ -1,11 +1,9 @@
 //! What `verify` answers. The answers come from an independent program.
 use crate::plans::{PLATE_OUTLINES, PLATE_PROGRAM};
-use crate::runs::{Answer, ROOM, answer_on, expect, push_file, texts_of};
-use scad_io::{MemoryDesk, Open};
-use scad_run::run;
+use crate::runs::{Answer, ROOM, expect, push_file, run_on, texts_of};
+use scad_io::MemoryDesk;
 use std::alloc::{AllocError, Global};
 use std::process::Abort;
-use std::test::Fail;
 use std::thread::Threads;
 
 /// Outlines, a printing program, and settings.
@@ -40,21 +38,21 @@ const PLAIN: [&str; 3] = ["verify", "o.cli", "o.gcode"];
 
 const BY_SETTINGS: [&str; 4] = ["verify", "o.cli", "o.gcode", "--settings=s.toml"];
 
-fn judged<R: Threads + Sync>(
+fn judged<R: Threads + Sync + Abort>(
     rt: &R,
     alloc: Global,
     words: &[&str],
     case: &Case,
-    fails: Vec<u64>,
-) -> Result<Answer, AllocError> {
-    let words = texts_of(alloc, words)?;
+    fails: &[u64],
+) -> Answer {
+    let words = texts_of(alloc, words).expect(rt, "memory");
     let mut files = Vec::new(alloc);
-    push_file(alloc, &mut files, b"o.cli", case.outlines.as_bytes())?;
-    push_file(alloc, &mut files, b"o.gcode", case.program.as_bytes())?;
-    push_file(alloc, &mut files, b"s.toml", case.settings.as_bytes())?;
-    let mut desk = MemoryDesk::new(alloc, files, fails, ROOM)?;
-    let status = run(rt, alloc, &words, &mut desk, &Open);
-    answer_on(alloc, status, &desk)
+    push_file(alloc, &mut files, b"o.cli", case.outlines.as_bytes()).expect(rt, "memory");
+    push_file(alloc, &mut files, b"o.gcode", case.program.as_bytes()).expect(rt, "memory");
+    push_file(alloc, &mut files, b"s.toml", case.settings.as_bytes()).expect(rt, "memory");
+    let fails = fails.to_vec(alloc).expect(rt, "memory");
+    let mut desk = MemoryDesk::new(alloc, files, fails, ROOM).expect(rt, "memory");
+    run_on(rt, alloc, &words, &mut desk)
 }
 
 fn expect_answer<R: Threads + Sync + Abort>(
@@ -64,20 +62,19 @@ fn expect_answer<R: Threads + Sync + Abort>(
     case: &Case,
     code: u8,
     report: &str,
-) -> Result<(), Fail> {
-    let answer = judged(rt, alloc, words, case, Vec::new(alloc))?;
+) {
+    let answer = judged(rt, alloc, words, case, &[]);
     expect(rt, &answer, code, report, report);
     assert!(rt; answer.cli.is_empty());
-    Ok(())
 }
 
 #[test]
-fn a_plan_is_inside(rt: HostRuntime) -> Result<(), Fail> {
+fn a_plan_is_inside(rt: HostRuntime) {
     let alloc = rt.alloc();
     let line = "inside: 1 layers, 9 moves\n";
-    expect_answer(&rt, alloc, &PLAIN, &PLATE, 0, line)?;
+    expect_answer(&rt, alloc, &PLAIN, &PLATE, 0, line);
     let shared = ["verify", "o.cli", "o.gcode", "--workers", "3"];
-    expect_answer(&rt, alloc, &shared, &PLATE, 0, line)?;
+    expect_answer(&rt, alloc, &shared, &PLATE, 0, line);
     let none = Case {
         program: "",
         ..PLATE
@@ -94,13 +91,12 @@ const WIDTHS: [(&str, u8, &str); 4] = [
 ];
 
 #[test]
-fn the_width_of_a_line_decides(rt: HostRuntime) -> Result<(), Fail> {
+fn the_width_of_a_line_decides(rt: HostRuntime) {
     let alloc = rt.alloc();
     for &(settings, code, report) in &WIDTHS {
         let case = Case { settings, ..PLATE };
-        expect_answer(&rt, alloc, &BY_SETTINGS, &case, code, report)?;
+        expect_answer(&rt, alloc, &BY_SETTINGS, &case, code, report);
     }
-    Ok(())
 }
 
 /// The program with another text in the place of one.
@@ -139,19 +135,17 @@ const PROGRAMS: [(&str, &str, u8, &str); 6] = [
 ];
 
 #[test]
-fn the_first_line_that_is_not_of_the_form_goes_before_a_move_outside(
-    rt: HostRuntime,
-) -> Result<(), Fail> {
+fn the_first_line_that_is_not_of_the_form_goes_before_a_move_outside(rt: HostRuntime) {
     let alloc = rt.alloc();
     for &(old, new, code, report) in &PROGRAMS {
-        let program = turned(alloc, PLATE_PROGRAM, old, new)?;
+        let program = turned(alloc, PLATE_PROGRAM, old, new).expect(&rt, "memory");
         let case = Case {
             program: program.as_str(),
             ..PLATE
         };
-        expect_answer(&rt, alloc, &PLAIN, &case, code, report)?;
+        expect_answer(&rt, alloc, &PLAIN, &case, code, report);
     }
-    let program = turned(alloc, PLATE_PROGRAM, "M84", "M99")?;
+    let program = turned(alloc, PLATE_PROGRAM, "M84", "M99").expect(&rt, "memory");
     let case = Case {
         program: program.as_str(),
         settings: "line_width = 452",
@@ -175,42 +169,42 @@ const OUTLINES: [(&str, &str, &str); 3] = [
 ];
 
 #[test]
-fn outlines_are_judged_before_the_program(rt: HostRuntime) -> Result<(), Fail> {
+fn outlines_are_judged_before_the_program(rt: HostRuntime) {
     let alloc = rt.alloc();
     for &(old, new, report) in &OUTLINES {
-        let outlines = turned(alloc, PLATE_OUTLINES, old, new)?;
+        let outlines = turned(alloc, PLATE_OUTLINES, old, new).expect(&rt, "memory");
         let case = Case {
             outlines: outlines.as_str(),
             program: "M99\n",
             ..PLATE
         };
-        expect_answer(&rt, alloc, &PLAIN, &case, 9, report)?;
+        expect_answer(&rt, alloc, &PLAIN, &case, 9, report);
     }
     let empty = Case {
         outlines: "",
         ..PLATE
     };
-    expect_answer(&rt, alloc, &PLAIN, &empty, 9, "cli 1 BadLine 1\n")?;
+    expect_answer(&rt, alloc, &PLAIN, &empty, 9, "cli 1 BadLine 1\n");
     let small = Case {
         outlines: SMALL_OUTLINES,
         ..PLATE
     };
-    expect_answer(&rt, alloc, &PLAIN, &small, 8, "outside: move 1 line 15\n")?;
+    expect_answer(&rt, alloc, &PLAIN, &small, 8, "outside: move 1 line 15\n");
     let swapped = ["verify", "o.gcode", "o.cli"];
     expect_answer(&rt, alloc, &swapped, &PLATE, 9, "cli 1 BadLine 1\n")
 }
 
 #[test]
-fn files_that_are_missing(rt: HostRuntime) -> Result<(), Fail> {
+fn files_that_are_missing(rt: HostRuntime) {
     let alloc = rt.alloc();
     let outlines = ["verify", "n.cli", "o.gcode"];
-    expect_answer(&rt, alloc, &outlines, &PLATE, 4, "read fault\n")?;
+    expect_answer(&rt, alloc, &outlines, &PLATE, 4, "read fault\n");
     let empty = Case {
         outlines: "",
         ..PLATE
     };
     let program = ["verify", "o.cli", "n.gcode"];
-    expect_answer(&rt, alloc, &program, &empty, 4, "read fault\n")?;
+    expect_answer(&rt, alloc, &program, &empty, 4, "read fault\n");
     let strange = Case {
         settings: "speed = 1",
         ..PLATE
@@ -223,20 +217,18 @@ fn files_that_are_missing(rt: HostRuntime) -> Result<(), Fail> {
         &strange,
         3,
         "settings 2 UnknownKey speed\n",
-    )?;
+    );
     let same = ["verify", "o.cli", "o.cli"];
     expect_answer(&rt, alloc, &same, &PLATE, 2, "usage: scadslice COMMAND\n")
 }
 
 /// The calls on the input fail first, and then the one that writes the report.
 #[test]
-fn each_call_of_a_verdict_failing_in_turn(rt: HostRuntime) -> Result<(), Fail> {
+fn each_call_of_a_verdict_failing_in_turn(rt: HostRuntime) {
     let alloc = rt.alloc();
     let mut last_read = 0;
     for call in 0..64 {
-        let mut fails = Vec::new(alloc);
-        fails.push(call)?;
-        let answer = judged(&rt, alloc, &PLAIN, &PLATE, fails)?;
+        let answer = judged(&rt, alloc, &PLAIN, &PLATE, &[call]);
         if answer.code == 4 {
             expect(&rt, &answer, 4, "read fault\n", "read");
             last_read = call;
@@ -246,5 +238,4 @@ fn each_call_of_a_verdict_failing_in_turn(rt: HostRuntime) -> Result<(), Fail> {
         }
     }
     assert!(rt; last_read >= 5);
-    Ok(())
 }

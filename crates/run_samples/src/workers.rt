@@ -5,7 +5,6 @@ use scad_run::run;
 use std::alloc::{AllocError, Global};
 use std::process::Abort;
 use std::sync::atomic::{AtomicU64, Ordering};
-use std::test::Fail;
 use std::thread;
 use std::thread::Threads;
 
@@ -74,21 +73,21 @@ impl Gate for Meeting {
 }
 
 /// The status code of a run over this source with this gate.
-fn code_of<R: Threads + Sync, G: Gate>(
+fn code_of<R: Threads + Sync + Abort, G: Gate>(
     rt: &R,
     alloc: Global,
     words: &[&str],
     source: &str,
     gate: &G,
-) -> Result<u8, AllocError> {
-    let mut desk = desk_with(alloc, source.as_bytes(), Vec::new(alloc), ROOM)?;
-    let texts = texts_of(alloc, words)?;
+) -> u8 {
+    let mut desk = desk_with(alloc, source.as_bytes(), &[], ROOM).expect(rt, "memory");
+    let texts = texts_of(alloc, words).expect(rt, "memory");
     let status = run(rt, alloc, &texts, &mut desk, gate);
-    Ok(answer_on(alloc, status, &desk)?.code)
+    answer_on(alloc, status, &desk).expect(rt, "memory").code
 }
 
 #[test]
-fn two_at_once(rt: HostRuntime) -> Result<(), Fail> {
+fn two_at_once(rt: HostRuntime) {
     let alloc = rt.alloc();
     let words = ["slice", "m.scad", "o.cli", "--workers", "2"];
     for layer in 0..5 {
@@ -97,14 +96,13 @@ fn two_at_once(rt: HostRuntime) -> Result<(), Fail> {
             others: AtomicU64::new(0),
             met: AtomicU64::new(0),
         };
-        let code = code_of(&rt, alloc, &words, "cube(1);", &gate)?;
+        let code = code_of(&rt, alloc, &words, "cube(1);", &gate);
         let met = gate.met.load(Ordering::SeqCst);
         assert!(rt;
             code == 0 && met == 1,
             "layer {layer} is held until the others are done"
         );
     }
-    Ok(())
 }
 
 /// From which of 70 layers on so many workers meet, and how many are awaited; the last six are a round of their own.
@@ -117,7 +115,7 @@ const MEETINGS: [(u32, &str, u64); 5] = [
 ];
 
 #[test]
-fn each_worker_has_a_layer_at_once(rt: HostRuntime) -> Result<(), Fail> {
+fn each_worker_has_a_layer_at_once(rt: HostRuntime) {
     let alloc = rt.alloc();
     for &(from, workers, wanted) in &MEETINGS {
         let words = ["plan", "m.scad", "o.cli", "o.gcode", "--workers", workers];
@@ -127,12 +125,11 @@ fn each_worker_has_a_layer_at_once(rt: HostRuntime) -> Result<(), Fail> {
             inside: AtomicU64::new(0),
             met: AtomicU64::new(0),
         };
-        let code = code_of(&rt, alloc, &words, "cube([1,1,14]);", &gate)?;
+        let code = code_of(&rt, alloc, &words, "cube([1,1,14]);", &gate);
         let met = gate.met.load(Ordering::SeqCst);
         assert!(rt;
             code == 0 && met == 1,
             "{workers} workers from layer {from} on"
         );
     }
-    Ok(())
 }

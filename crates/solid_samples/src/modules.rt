@@ -10,7 +10,8 @@ use scad_modules::{
 };
 use scad_num::Num;
 use scad_value::Value;
-use std::alloc::{AllocError, Global};
+use std::alloc::Global;
+use std::process::Abort;
 
 fn number(n: u8) -> Num {
     Num::within(i64::from(n) * 1_000_000)
@@ -21,20 +22,20 @@ fn value(n: u8) -> Value {
 }
 
 // An argument with a name, or without one where that is empty.
-fn arg(alloc: Global, name: &[u8]) -> Result<Arg, AllocError> {
+fn arg(rt: &impl Abort, alloc: Global, name: &[u8]) -> Arg {
     let name = if name.is_empty() {
         None
     } else {
-        Some(Text::of(alloc, name)?)
+        Some(Text::of(alloc, name).expect(rt, "memory for a name"))
     };
     let at = Place { line: 1, col: 1 };
-    Ok(Arg {
+    Arg {
         name,
         value: Expr {
             at,
             node: Node::Undef,
         },
-    })
+    }
 }
 
 #[test]
@@ -60,31 +61,31 @@ fn is_number(found: Option<&Value>, n: u8) -> bool {
     }
 }
 
-/// Three arguments, of which the second is named `size`.
-fn arguments(alloc: Global) -> Result<[Arg; 3], AllocError> {
-    Ok([arg(alloc, b"")?, arg(alloc, b"size")?, arg(alloc, b"")?])
-}
-
 #[test]
 fn later_arguments_win_and_undef_is_none(rt: HostRuntime) {
-    let args = arguments(rt.alloc()).expect(&rt, "arguments");
+    let alloc = rt.alloc();
+    let args = [
+        arg(&rt, alloc, b""),
+        arg(&rt, alloc, b"size"),
+        arg(&rt, alloc, b""),
+    ];
     let values = [value(1), value(2), Value::Undef];
     assert!(rt; is_number(taken(Some(0), b"size", &args, &values), 2));
     assert!(rt; taken(Some(1), b"center", &args, &values).is_none());
     assert!(rt; taken(None, b"r", &args, &values).is_none());
 }
 
-fn vector(alloc: Global) -> Result<Value, AllocError> {
-    let elements = Vec::from_array(alloc, [value(1), value(2)])?;
-    Ok(Value::vector(alloc, elements)?)
+fn vector(rt: &impl Abort, alloc: Global) -> Value {
+    let elements = Vec::from_array(alloc, [value(1), value(2)]).expect(rt, "memory for elements");
+    Value::vector(alloc, elements).expect(rt, "memory for a vector")
 }
 
 #[test]
 fn transformations_give_matrices(rt: HostRuntime) {
-    let args = [arg(rt.alloc(), b"").expect(&rt, "an argument")];
+    let args = [arg(&rt, rt.alloc(), b"")];
     let turned = matrix_of(Transform::Rotate, &args, &[value(90)]);
     assert!(rt; turned == Ok(turn(Axis::Z, 90_000)));
-    let shift = [vector(rt.alloc()).expect(&rt, "a vector")];
+    let shift = [vector(&rt, rt.alloc())];
     let moved = matrix_of(Transform::Translate, &args, &shift);
     assert!(rt; moved == Ok(translate(number(1), number(2), number(0))));
     let bad = matrix_of(Transform::Mirror, &args, &[value(1)]);
@@ -113,7 +114,7 @@ fn has_triangles(alloc: Global, shape: Shape, args: &[Arg], count: u64) -> bool 
 
 #[test]
 fn arguments_give_primitives_and_these_solids(rt: HostRuntime) {
-    let args = [arg(rt.alloc(), b"").expect(&rt, "an argument")];
+    let args = [arg(&rt, rt.alloc(), b"")];
     assert!(rt; has_triangles(rt.alloc(), Shape::Cube, &args, 12));
     assert!(rt; has_triangles(rt.alloc(), Shape::Sphere, &args, 12));
     assert!(rt; has_triangles(rt.alloc(), Shape::Cylinder, &args, 12));
@@ -132,29 +133,24 @@ fn has_points(alloc: Global, flat: Flat, args: &[Arg], points: usize) -> bool {
     let Ok(outlines) = outlines_of(alloc, flat, &fineness(5), args, &[value(3)]) else {
         return false;
     };
+    let mut are_told = outlines.len() == 1;
     for outline in &outlines {
         let found = match ring_of(alloc, outline) {
             Ok(ring) => ring.len(),
             Err(_) => 0,
         };
-        if found != points || points_in(outline) != points {
-            return false;
-        }
+        are_told = are_told && found == points && points_in(outline) == points;
     }
-    outlines.len() == 1
+    are_told
 }
 
 #[test]
 fn arguments_give_outlines_and_their_points(rt: HostRuntime) {
-    let args = [arg(rt.alloc(), b"").expect(&rt, "an argument")];
+    let args = [arg(&rt, rt.alloc(), b"")];
     assert!(rt; has_points(rt.alloc(), Flat::Square, &args, 4));
     assert!(rt; has_points(rt.alloc(), Flat::Circle, &args, 5));
     let none = outlines_of(rt.alloc(), Flat::Polygon, &fineness(5), &args, &[value(3)]);
     assert!(rt; matches!(&none, Err(ArgumentFault::BadArgument)));
-}
-
-fn height_and_twist(alloc: Global) -> Result<[Arg; 2], AllocError> {
-    Ok([arg(alloc, b"height")?, arg(alloc, b"twist")?])
 }
 
 fn resolution() -> Resolution {
@@ -167,7 +163,8 @@ fn resolution() -> Resolution {
 
 #[test]
 fn arguments_give_heights_and_turns(rt: HostRuntime) {
-    let args = height_and_twist(rt.alloc()).expect(&rt, "arguments");
+    let alloc = rt.alloc();
+    let args = [arg(&rt, alloc, b"height"), arg(&rt, alloc, b"twist")];
     let plain = linear_by(&args, &[value(3), value(0)]);
     assert!(rt; plain == Ok((number(3), false)));
     let twisted = linear_by(&args, &[value(3), value(1)]);
