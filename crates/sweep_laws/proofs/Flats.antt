@@ -1,7 +1,7 @@
 -- The flat edges of a height.
 use Rattle.std.proofs.Common.{◌≡◌, ℕ, ◌+◌, Bool, true, false, true≢false, List, [], ◌∷◌, length, refl, sym, ap, ◌∙◌, subst, arith}
-use Rattle.std.specs.Prelude.{if◌then◌else◌, slice_index_or, Option, None, Some}
-use Rattle.std.specs.List.{AllByRecursion, position}
+use Rattle.std.specs.Prelude.{if◌then◌else◌, slice_index_or, None, Some}
+use Rattle.std.specs.List.{AllByRecursion}
 use Rattle.scad_geom.specs.declared.level.Level.{Level}
 use Rattle.scad_geom.specs.declared.level.LeafEdge.{LeafEdge}
 use Rattle.slice_slab.specs.Bundles.{no_edge}
