@@ -29,7 +29,7 @@ use Rattle.sweep_laws.specs.Fronts.{Strand, bundles_of}
 use Rattle.sweep_laws.specs.Crossing.{Place, spots_of, all_below, all_above}
 use Rattle.sweep_laws.specs.Staying.{IsUncovered}
 use Rattle.sweep_laws.specs.Stops.{AreMet}
-use Rattle.sweep_laws.specs.Balance.{AreBoundariesBalanced, BoundariesAreBalanced, StayingValues}
+use Rattle.sweep_laws.specs.Balance.{AreBoundariesBalanced, BoundariesAreBalanced, StayingValues, HeadingsAdd}
 use Rattle.sweep_laws.proofs.Balance.{CountsBeside, counts_below, counts_above, headings_beside}
 use Rattle.sweep_laws.proofs.Counted.{headings_are}
 use Rattle.sweep_laws.proofs.FlatPieces.{HasSide, next_side, passed_at, past_all}
@@ -145,3 +145,6 @@ staying_values es shape b below above h =
     (headings_both es leaf b (concat below)
     ∙ ap (λ (z : ℤ). headings es leaf b +ℤ z) (h leaf)
     ∙ sym (headings_both es leaf b (concat above)))))
+
+pub headings_add : HeadingsAdd
+headings_add es leaf b bs = headings_both es leaf b (concat bs)

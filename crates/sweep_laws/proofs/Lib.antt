@@ -27,3 +27,4 @@ pub mod Edges
 pub mod ClosedEdges
 pub mod Steps
 pub mod Plain
+pub mod Flats

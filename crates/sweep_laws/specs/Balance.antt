@@ -1,5 +1,5 @@
 -- Balance at a height: what the edges to the right of a place sum up to below it and above it.
-use Rattle.std.specs.Prelude.{◌≡◌, ⊤, true, List, [], ◌∷◌, ℕ, ◌<◌, ◌*ℤ◌, int_lt}
+use Rattle.std.specs.Prelude.{◌≡◌, ⊤, true, List, [], ◌∷◌, ℕ, ◌<◌, ◌+ℤ◌, ◌*ℤ◌, int_lt}
 use Rattle.std.specs.List.{AllByRecursion, concat}
 use Rattle.scad_geom.specs.declared.level.Level.{Level}
 use Rattle.scad_geom.specs.declared.level.LeafEdge.{LeafEdge}
@@ -66,3 +66,8 @@ StayingValues =
     (es : List LeafEdge) (shape : Shape) (b : List ℕ) (below above : List (List ℕ))
     → ((leaf : ℕ) → headings es leaf (concat below) ≡ headings es leaf (concat above))
     → left_value es shape (b ∷ below) ≡ left_value es shape (b ∷ above)
+
+-- A bundle's headings and those of the bundles to its right add up.
+abbrev pub HeadingsAdd : Type 0
+HeadingsAdd = (es : List LeafEdge) (leaf : ℕ) (b : List ℕ) (bs : List (List ℕ))
+    → headings es leaf (concat (b ∷ bs)) ≡ headings es leaf b +ℤ headings es leaf (concat bs)

@@ -10,3 +10,4 @@ pub mod Values
 pub mod Edges
 pub mod Steps
 pub mod Plain
+pub mod Flats

@@ -3,8 +3,10 @@ ghost use Rattle.sweep_laws.specs.Visits.{WalksMerge};
 ghost use Rattle.sweep_laws.specs.Sweeps.{SweepsMerge, MergedEdgesMakeOutlines, MergedEdgesAreBalanced};
 ghost use Rattle.sweep_laws.specs.Sweeps.{SweepsBegin, SweepsGoOn, SweepsEnd};
 ghost use Rattle.sweep_laws.specs.Staying.{PlainPlacesPass, StrandsStay, GroupsEnd, GroupsGoOn};
+ghost use Rattle.sweep_laws.specs.Flats.{FlatsCover, HeightsWithoutFlats};
 ghost use Rattle.sweep_laws.specs.Stops.{PlacesAreStops, SpotsAreThere};
 ghost use Rattle.sweep_laws.specs.Balance.{HeadingsAreBalanced, ValuesAreKept, BoundariesAreBalanced, StayingValues};
+ghost use Rattle.sweep_laws.specs.Balance.{HeadingsAdd};
 ghost use Rattle.sweep_laws.specs.Values.{ValuesGoOn};
 ghost use Rattle.sweep_laws.specs.Steps.{StepsLift};
 ghost use Rattle.sweep_laws.specs.Plain.{PlainHeightsPass, LastHeightsPass};
@@ -50,12 +52,19 @@ pub fn places_are_stops()
     ensures spots { SpotsAreThere }
 {}
 
+/// A stretch is covered by flat edges of its height alone; where none lies there, nothing leads from place to place.
+pub fn flats_cover()
+    ensures cover { FlatsCover }
+    ensures none { HeightsWithoutFlats }
+{}
+
 /// Where the edges of each leaf are balanced and no flat edge leads from a place to its right, the headings of each
 /// leaf's edges to the right have one sum below the height and above it, and a shape one value.
 pub fn headings_are_balanced()
     ensures headings { HeadingsAreBalanced }
     ensures values { ValuesAreKept }
     ensures boundaries { BoundariesAreBalanced }
+    ensures add { HeadingsAdd }
 {}
 
 /// The values of strands that stay are kept, so only new strands need one.
