@@ -117,3 +117,10 @@ module _ (es : List LeafEdge) (m : Level) (dm : pos 0 <ℤ m.d) (k : ℕ) (o : k
       by_case (inl a) = from_below l a
       by_case (inr a) = absurd (apart_levels (level_of (low e).y) (level_of (high e).y) (rising_gap e t.rises)
           (at_most_chain (level_of (high e).y) m (level_of (low e).y) one dm one top a))
+
+  -- with neither there is none
+  pub never : AllByRecursion (IsAtMost m) (heights es) → AllByRecursion (λ h. IsAtMost h m) (heights es) → ⊥
+  never a b = apart_levels (level_of (low e).y) (level_of (high e).y) (rising_gap e t.rises)
+      (at_most_chain (level_of (high e).y) m (level_of (low e).y) one dm one
+      (upper_end (λ h. IsAtMost h m) e (all_ends (λ h. IsAtMost h m) es k no_edge b o))
+      (lower_end (IsAtMost m) e (all_ends (IsAtMost m) es k no_edge a o)))

@@ -87,4 +87,12 @@ steps_lift = record {
     meet_above = met.above;
     passed = pass;
   };
+  only = λ es m dm a b places none nothing met pass. record {
+    stops = places_are_stops.only es m places dm a b met;
+    below_is = sym none;
+    above_is = sym nothing;
+    meet_below = met.below;
+    meet_above = met.above;
+    passed = pass;
+  };
 }

@@ -24,7 +24,7 @@ use Rattle.sweep_laws.specs.Fronts.{Strand, bundles_of}
 use Rattle.sweep_laws.specs.Crossing.{Place, spots_of, all_below, all_above, MeetsAt}
 use Rattle.sweep_laws.specs.Stops.{AreMet, PlacesAreStops, SpotsAreThere}
 use Rattle.sweep_laws.proofs.LevelPieces.{gathered, gathered_below, gathered_above}
-use Rattle.sweep_laws.proofs.BelowOrAbove.{Passes, passes_is, either, only_above, only_below}
+use Rattle.sweep_laws.proofs.BelowOrAbove.{Passes, passes_is, either, only_above, only_below, never}
 use Rattle.sweep_laws.proofs.StrandSpots.{met_by_side}
 
 -- ---- all spots of the height
@@ -83,6 +83,9 @@ places_are_stops = record {
       from_side es m lm.upper_divisor places met l m lm.lower_divisor (λ p. p.below) (all_below places)
       (gathered_below places) b met.below k o
       (only_below es m lm.upper_divisor k o t l lm (recursion_from_All (λ h. IsAtMost h m) (heights es) h)));
+  only = λ es m places dm a b met. stops_by es m dm places met (λ k o t.
+      absurd (never es m dm k o t (recursion_from_All (IsAtMost m) (heights es) a)
+      (recursion_from_All (λ h. IsAtMost h m) (heights es) b)));
 }
 
 -- ---- where an edge meets the height is a spot

@@ -1,5 +1,5 @@
 -- One step of a sweep, from what is known at each place of a height.
-use Rattle.std.specs.Prelude.{false, ◌≡◌, ⊤, List, [], ◌∷◌, All}
+use Rattle.std.specs.Prelude.{false, ◌≡◌, ⊤, List, [], ◌∷◌, All, pos, ◌<ℤ◌}
 use Rattle.scad_geom.specs.declared.level.Level.{Level}
 use Rattle.scad_geom.specs.declared.level.LeafEdge.{LeafEdge}
 use Rattle.scad_geom.specs.declared.shape.Shape.{Shape}
@@ -23,7 +23,7 @@ AreAlikeBeside es (p ∷ ps) = (IsUncovered es p ps → value_before (all_below 
 -- ---- the laws
 -- Where the edges of each leaf are balanced, a front is lifted over a height by places that its edges meet, with new
 -- strands that have their values, if the ways pass at each place; that both sides tell one value may be used for
--- that. So it is at the first height, between two others, and at the last.
+-- that. So it is at the first height, between two others, at the last, and where there is one alone.
 pub record StepsLift : Type 0 where
   pub first : (es : List LeafEdge) (shape : Shape) → AreLeavesBalanced es → (m u : Level)
       → All (IsAtMost m) (heights es) → AreNeighbours es m u → (places : List Place) → all_below places ≡ []
@@ -38,3 +38,6 @@ pub record StepsLift : Type 0 where
   pub last : (es : List LeafEdge) (l m : Level) → AreNeighbours es l m → All (λ h. IsAtMost h m) (heights es)
       → (places : List Place) → AreBundles es l m (bundles_of (all_below places)) → all_above places ≡ []
       → AreMet es m places → ArePassed es m m [] places → IsCrossing es m m (all_below places) [] places
+  pub only : (es : List LeafEdge) (m : Level) → pos 0 <ℤ m.d → All (IsAtMost m) (heights es)
+      → All (λ h. IsAtMost h m) (heights es) → (places : List Place) → all_below places ≡ [] → all_above places ≡ []
+      → AreMet es m places → ArePassed es m m [] places → IsCrossing es m m [] [] places

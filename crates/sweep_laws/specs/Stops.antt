@@ -1,6 +1,6 @@
 -- When places are the stops of a height: each is met by an edge, and each edge that meets the
 -- height does so at one of them.
-use Rattle.std.specs.Prelude.{◌≡◌, true, List, ℕ, ◌<◌, length, All}
+use Rattle.std.specs.Prelude.{◌≡◌, true, List, ℕ, ◌<◌, length, All, pos, ◌<ℤ◌}
 use Rattle.std.specs.List.{AllByRecursion}
 use Rattle.scad_geom.specs.declared.level.Level.{Level}
 use Rattle.scad_geom.specs.declared.level.LeafEdge.{LeafEdge}
@@ -34,6 +34,8 @@ pub record PlacesAreStops : Type 0 where
   pub last : (es : List LeafEdge) (l m : Level) (places : List Place) → AreNeighbours es l m
       → All (λ h. IsAtMost h m) (heights es) → AreBundles es l m (bundles_of (all_below places))
       → AreMet es m places → AreStops es m (spots_of places)
+  pub only : (es : List LeafEdge) (m : Level) (places : List Place) → pos 0 <ℤ m.d → All (IsAtMost m) (heights es)
+      → All (λ h. IsAtMost h m) (heights es) → AreMet es m places → AreStops es m (spots_of places)
 
 -- Where an edge that isn't flat meets a height is one of the height's spots.
 abbrev pub SpotsAreThere : Type 0
