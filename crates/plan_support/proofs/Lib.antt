@@ -1,0 +1,14 @@
+pub mod Cut
+pub mod Stretched
+pub mod Listed
+pub mod Extents
+pub mod Multiples
+pub mod Wound
+pub mod Spanned
+mod Examples
+mod CoverExamples
+pub mod United
+pub mod Canonical
+pub mod Without
+pub mod Starts
+pub mod NearRow

@@ -1,0 +1,20 @@
+use Rattle.std.proofs.Common.{◌≡◌, ◌++◌, ◌∷◌, [], List, false, sym, ap, ap₂, ◌∙◌, rules, ℤ}
+use Rattle.std.specs.Prelude.{is_err}
+use Rattle.scad_geom.proofs.Casts.{casts}
+use Rattle.plan_infill.specs.declared.run.Run.{Run}
+use Rattle.plan_support.specs.Rows.{Row, row_list}
+use Rattle.plan_support.proofs.Cut.{from_ok, to_ok}
+use Rattle.plan_support.proofs.Listed.{row_push}
+use Rattle.plan_support.proofs.rows.Rows.push.Goals as goal
+
+pub returns-else-is_err : goal.returns-else-is_err
+returns-else-is_err c =
+    let pushed = c.push-pushed in
+    let fine : is_err pushed.result ≡ false = sym c.is_err.ensures.value ∙ c.if-is_err.false in
+    let lists : pushed.new.self ≡ c.self.inside.lists ++ c.args.runs.now ∷ [] =
+    from_ok pushed.result _ fine pushed.ensures.ok in
+    let heights : c.push.new.self.items ≡ c.self.inside.heights.items ++ c.args.y ∷ [] = search (rules, casts) in
+    to_ok pushed.result _
+    (ap₂ (λ (ys : List ℤ) (ls : List (List Run)). row_list ys ls) heights lists
+    ∙ row_push c.self.inside.heights.items c.self.inside.lists c.args.y c.args.runs.now c.self.invariant
+    ∙ ap (λ (rows : List Row). rows ++ record { y = c.args.y; runs = c.args.runs.now } ∷ []) c.self.view_is)

@@ -1,0 +1,14 @@
+pub mod Lists
+pub mod Stretches
+pub mod Rows
+pub mod Extent
+pub mod Multiple
+pub mod Spans
+pub mod On
+pub mod Covers
+pub mod Supports
+pub mod Lines
+pub mod Free
+pub mod Shares
+pub mod Near
+pub mod Unite

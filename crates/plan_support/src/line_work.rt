@@ -1,0 +1,58 @@
+//! The work on one line: what lies below higher layers, from the top layer down.
+ghost use Rattle.std.specs.Prelude.{◌≡◌, ◌||◌, ℤ, IfOk, All};
+ghost use Rattle.plan_support.specs.Rows.{AreApart, AreRows};
+ghost use Rattle.plan_support.specs.On.{is_on};
+ghost use Rattle.plan_support.specs.Lines.{IsLine};
+
+use crate::line::{Line, Want};
+use crate::lists::Lists;
+use crate::rows::Rows;
+use crate::union::united;
+use plan_infill::Run;
+use std::alloc::{AllocError, Global};
+
+/// Works the line at a height.
+pub(crate) fn work_line(
+    alloc: Global,
+    layers: &[Rows],
+    y: i32,
+    number: u32,
+    want: Want,
+) -> Result<Line, AllocError>
+    requires { All AreRows layers.now }
+    ensures line { IfOk result (IsLine layers.now y want) }
+    ensures number { IfOk result (λ l. l.number ≡ number) }
+{
+    let mut above = Vec::new(alloc);
+    let mut count: u64 = 0;
+    let mut covers = Lists::new(alloc);
+    let mut n = layers.len();
+    'layers: while 0 < n {
+        n -= 1;
+        count = count.saturating_add(above.len() as u64);
+        if want == Want::Stretches && !above.is_empty() {
+            covers.push(&above)?;
+        }
+        above = with_runs(alloc, above, layers[n].runs_at(y))?;
+    }
+    Ok(Line {
+        number,
+        count,
+        covers,
+    })
+}
+
+// What runs cover together with those of one more layer.
+fn with_runs(alloc: Global, above: Vec<Run>, runs: &[Run]) -> Result<Vec<Run>, AllocError>
+    requires above { AreApart above.items }
+    requires runs { AreApart runs.now }
+    ensures apart { IfOk result (λ v. AreApart v.items) }
+    ensures on { IfOk result (λ v. (x : ℤ) → is_on v.items x ≡ (is_on above.items x || is_on runs.now x)) }
+{
+    if runs.is_empty() {
+        return Ok(above);
+    }
+    let mut all = above;
+    all.extend_from_slice(runs)?;
+    united(alloc, all)
+}
