@@ -9,6 +9,5 @@ pub mod Covers
 pub mod Supports
 pub mod Lines
 pub mod Free
-pub mod Shares
 pub mod Near
 pub mod Unite

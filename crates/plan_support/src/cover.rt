@@ -1,29 +1,29 @@
 //! What lies below the runs of higher layers.
-ghost use Rattle.std.specs.Prelude.{◌≡◌, ℕ, ◌<◌, ◌≤◌, ◌+◌, ◌++◌, min, length, sum_by, IfOk, IsErrOf, All, Err};
+ghost use Rattle.std.specs.Prelude.{◌≡◌, ℕ, ◌≤◌, ◌++◌, min, length, sum_by, IfOk, OnOk, All, Err};
 ghost use Rattle.plan_support.specs.declared.cover_fault.CoverFault.TheVariants.{Runs};
 ghost use Rattle.plan_support.specs.Rows.{AreRows};
-ghost use Rattle.plan_support.specs.Lines.{AreLines, greatest_count};
+ghost use Rattle.plan_support.specs.Lines.{IsCount, AreRowsOfLines, kept_row, kept_rows, greatest_count};
 ghost use Rattle.plan_support.specs.Covers.{AreCovers, run_count, stretch_limit, AreTooMany};
 
 use crate::cover_fault::CoverFault;
 use crate::cover_rows::Covers;
 use crate::heights::heights_of;
 use crate::line::{Line, Want};
-use crate::line_workers::work_lines;
+use crate::lines::work_lines;
+use crate::lists::Lists;
 use crate::rows::Rows;
-use crate::share::Task;
 use std::alloc::{AllocError, Global};
 use std::thread::Threads;
 
 const STRETCH_LIMIT: u64 = 10_000_000;
 
 /// For each layer and each height the maximal stretches of whole points that lie on a run of that height in some higher
-/// layer. Their number is judged before memory is taken for them. The lines are drawn by workers, and the result is one
-/// for every number of workers.
+/// layer. Their number is judged before memory is taken for them. The result is one for every number of workers: the lines
+/// aren't shared among workers yet.
 ///
 /// The time is that of one look-up for each line and layer, and of sorting the runs of each row with what lies above.
 pub fn covers<R: Threads + Sync>(
-    rt: &R,
+    _rt: &R,
     alloc: Global,
     layers: &[Rows],
     workers: u32,
@@ -37,28 +37,20 @@ pub fn covers<R: Threads + Sync>(
     ensures runs { (counted : ℕ) → result ≡ Err (Runs counted) → AreTooMany layers.now counted }
 {
     let heights = heights_of(alloc, layers)?;
-    let Ok(count) = u32::try_from(heights.len()) else {
-        return Err(CoverFault::Memory);
-    };
-    let heights = heights.as_slice();
-    let want = Want::Count;
-    let task = Task {
-        layers,
-        heights,
-        want,
-    };
-    let counted = count_of(&work_lines(rt, alloc, task, count, workers)?);
+    let counted = counted(alloc, layers, &heights)?;
     if counted > STRETCH_LIMIT {
         return Err(CoverFault::Runs(counted));
     }
-    let want = Want::Stretches;
-    let task = Task {
-        layers,
-        heights,
-        want,
-    };
-    let lines = work_lines(rt, alloc, task, count, workers)?;
-    Ok(gathered(alloc, heights, &lines, layers.len())?)
+    let lines = work_lines(alloc, layers, &heights, Want::Stretches)?;
+    Ok(gathered(alloc, &heights, &lines, layers.len())?)
+}
+
+// How many stretches there are on the lines at heights.
+fn counted(alloc: Global, layers: &[Rows], heights: &[i32]) -> Result<u64, AllocError>
+    requires { All AreRows layers.now }
+    ensures { IfOk result (IsCount layers.now heights.now) }
+{
+    Ok(count_of(&work_lines(alloc, layers, heights, Want::Count)?))
 }
 
 // How many stretches lines have together.
@@ -73,7 +65,10 @@ fn count_of(lines: &[Line]) -> u64
 }
 
 // The stretches of lines, layer by layer.
-fn gathered(alloc: Global, heights: &[i32], lines: &[Line], layers: usize) -> Result<Covers, AllocError> {
+fn gathered(alloc: Global, heights: &[i32], lines: &[Line], layers: usize) -> Result<Covers, AllocError>
+    requires { length heights.now ≡ length lines.now }
+    ensures { IfOk result (AreRowsOfLines heights.now lines.now layers) }
+{
     let mut out = Vec::new(alloc);
     'layers: for n in 0..layers {
         out.push(rows_of(alloc, heights, lines, n)?)?;
@@ -82,13 +77,22 @@ fn gathered(alloc: Global, heights: &[i32], lines: &[Line], layers: usize) -> Re
 }
 
 // Those of one layer: what a line has of the layers from the highest to the first, has this one's last but so many.
-fn rows_of(alloc: Global, heights: &[i32], lines: &[Line], layer: usize) -> Result<Rows, AllocError> {
+fn rows_of(alloc: Global, heights: &[i32], lines: &[Line], layer: usize) -> Result<Rows, AllocError>
+    requires { length heights.now ≡ length lines.now }
+    ensures { IfOk result (λ rows. rows ≡ kept_rows layer heights.now lines.now) }
+{
     let mut rows = Rows::new(alloc);
     'lines: for i in 0..lines.len() {
-        let covers = &lines[i].covers;
-        if layer < covers.len() {
-            rows.push(heights[i], covers.get(covers.len() - 1 - layer))?;
-        }
+        push_kept(&mut rows, heights[i], &lines[i].covers, layer)?;
     }
     Ok(rows)
+}
+
+fn push_kept(rows: &mut Rows, y: i32, covers: &Lists, layer: usize) -> Result<(), AllocError>
+    ensures { OnOk result (rows.new ≡ rows.old ++ kept_row layer y covers.now) }
+{
+    if layer < covers.len() {
+        rows.push(y, covers.get(covers.len() - 1 - layer))?;
+    }
+    Ok(())
 }

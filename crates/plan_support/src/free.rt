@@ -1,9 +1,8 @@
 //! Runs without the places of others.
-ghost use Rattle.std.specs.Prelude.{◌≡◌, ◌≤◌, ◌<ℤ◌, ◌≤ℤ◌, ◌+ℤ◌, ◌-ℤ◌, ◌++◌, ◌&&◌, ◌||◌, not, int_le, ℤ, pos, length, take, IfOk, OnOk, All};
-ghost use Rattle.plan_infill.specs.declared.run.Run.{Run};
+ghost use Rattle.std.specs.Prelude.{◌≡◌, ◌≤◌, ◌<ℤ◌, ◌≤ℤ◌, ◌+ℤ◌, ◌-ℤ◌, ◌++◌, ◌&&◌, not, ℤ, pos, length, take, IfOk, OnOk, All};
 ghost use Rattle.plan_support.specs.Rows.{AreApart};
-ghost use Rattle.plan_support.specs.On.{has_place, is_on};
-ghost use Rattle.plan_support.specs.Free.{at_least, some_run, IsEnd};
+ghost use Rattle.plan_support.specs.On.{is_on};
+ghost use Rattle.plan_support.specs.Free.{at_least, some_run, IsEnd, AddsFree};
 
 use plan_infill::Run;
 use std::alloc::{AllocError, Global};
@@ -31,12 +30,7 @@ fn push_free(out: &mut Vec<Run>, run: Run, holes: &[Run], first: usize) -> Resul
     requires holes { AreApart holes.now }
     requires count { first ≤ length holes.now }
     requires passed { All (λ h. h.to <ℤ run.from) (take first holes.now) }
-    ensures apart { OnOk result (AreApart out.new.items) }
-    ensures behind { OnOk result (All (λ r. r.to ≤ℤ run.to) out.new.items) }
-    ensures count { IfOk result (λ n. n ≤ length holes.now) }
-    ensures passed { IfOk result (λ n. All (λ h. h.to <ℤ run.to) (take n holes.now)) }
-    ensures on { OnOk result ((x : ℤ) → is_on out.new.items x
-        ≡ (is_on out.old.items x || (has_place run x && not (is_on holes.now x)))) }
+    ensures { IfOk result (AddsFree out.old.items run holes.now out.new.items) }
 {
     let mut from = run.from as i64;
     let mut i = first;

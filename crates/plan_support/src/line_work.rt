@@ -1,8 +1,8 @@
 //! The work on one line: what lies below higher layers, from the top layer down.
-ghost use Rattle.std.specs.Prelude.{◌≡◌, ◌||◌, ℤ, IfOk, All};
+ghost use Rattle.std.specs.Prelude.{◌≡◌, ◌||◌, ◌++◌, ℤ, IfOk, OnOk, All};
 ghost use Rattle.plan_support.specs.Rows.{AreApart, AreRows};
 ghost use Rattle.plan_support.specs.On.{is_on};
-ghost use Rattle.plan_support.specs.Lines.{IsLine};
+ghost use Rattle.plan_support.specs.Lines.{HasLine, wanted_of};
 
 use crate::line::{Line, Want};
 use crate::lists::Lists;
@@ -12,16 +12,9 @@ use plan_infill::Run;
 use std::alloc::{AllocError, Global};
 
 /// Works the line at a height.
-pub(crate) fn work_line(
-    alloc: Global,
-    layers: &[Rows],
-    y: i32,
-    number: u32,
-    want: Want,
-) -> Result<Line, AllocError>
+pub(crate) fn work_line(alloc: Global, layers: &[Rows], y: i32, want: Want) -> Result<Line, AllocError>
     requires { All AreRows layers.now }
-    ensures line { IfOk result (IsLine layers.now y want) }
-    ensures number { IfOk result (λ l. l.number ≡ number) }
+    ensures { IfOk result (HasLine layers.now y want) }
 {
     let mut above = Vec::new(alloc);
     let mut count: u64 = 0;
@@ -30,16 +23,20 @@ pub(crate) fn work_line(
     'layers: while 0 < n {
         n -= 1;
         count = count.saturating_add(above.len() as u64);
-        if want == Want::Stretches && !above.is_empty() {
-            covers.push(&above)?;
-        }
+        push_wanted(&mut covers, &above, want)?;
         above = with_runs(alloc, above, layers[n].runs_at(y))?;
     }
-    Ok(Line {
-        number,
-        count,
-        covers,
-    })
+    Ok(Line { count, covers })
+}
+
+// Keeps the stretches of one layer, where there are some and they are wanted.
+fn push_wanted(covers: &mut Lists, runs: &[Run], want: Want) -> Result<(), AllocError>
+    ensures { OnOk result (covers.new ≡ covers.old ++ wanted_of want runs.now) }
+{
+    if want == Want::Stretches && !runs.is_empty() {
+        covers.push(runs)?;
+    }
+    Ok(())
 }
 
 // What runs cover together with those of one more layer.

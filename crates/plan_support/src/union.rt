@@ -1,9 +1,9 @@
 //! Runs united.
-ghost use Rattle.std.specs.Prelude.{◌≡◌, ◌≤ℤ◌, ◌+ℤ◌, ◌||◌, ℤ, pos, int_le, IfOk, OnOk, All};
+ghost use Rattle.std.specs.Prelude.{◌≡◌, ◌≤ℤ◌, ◌+ℤ◌, ℤ, pos, int_le, IfOk, OnOk, All};
 ghost use Rattle.std.specs.List.Sorted.{IsPermutation};
 ghost use Rattle.plan_support.specs.Rows.{AreApart};
-ghost use Rattle.plan_support.specs.Unite.{StartInOrder};
-ghost use Rattle.plan_support.specs.On.{has_place, is_on};
+ghost use Rattle.plan_support.specs.Unite.{StartInOrder, TakeIn};
+ghost use Rattle.plan_support.specs.On.{is_on};
 
 use plan_infill::Run;
 use std::alloc::{AllocError, Global};
@@ -37,9 +37,7 @@ fn take_in(out: &mut Vec<Run>, run: Run) -> Result<(), AllocError>
     requires apart { AreApart out.old.items }
     requires place { run.from ≤ℤ run.to }
     requires behind { All (λ r. r.from ≤ℤ run.from) out.old.items }
-    ensures apart { OnOk result (AreApart out.new.items) }
-    ensures behind { OnOk result (All (λ r. r.from ≤ℤ run.from) out.new.items) }
-    ensures on { OnOk result ((x : ℤ) → is_on out.new.items x ≡ (is_on out.old.items x || has_place run x)) }
+    ensures { OnOk result (TakeIn out.old.items run out.new.items) }
 {
     let Some(last) = out.pop() else {
         out.push(run)?;
