@@ -10,5 +10,9 @@ mod CoverExamples
 pub mod United
 pub mod Canonical
 pub mod Without
+pub mod Freed
 pub mod Starts
 pub mod NearRow
+pub mod NearEdge
+pub mod Wholly
+pub mod Holes

@@ -53,7 +53,7 @@ lies_of gap s t a b x h =
     let w = weight (pos gap) s t in
     record { from = omega (arith, ints, f, p, w); to = omega (arith, ints, g, p, w) }
 
-abbrev FoundFor : ℕ → ℤ → ℤ → Pt → Pt → Type 0
+abbrev pub FoundFor : ℕ → ℤ → ℤ → Pt → Pt → Type 0
 FoundFor gap x y a b = Found (pos gap) (a.x -ℤ x) (a.y -ℤ y) (b.x -ℤ x) (b.y -ℤ y)
 
 meets_if : (gap : ℕ) (x y : ℤ) (a b : Pt) → FoundFor gap x y a b
@@ -86,7 +86,7 @@ turned_lies w s t a b l = let f = l.from in let g = l.to in record { from = omeg
     e : w *ℤ (t +ℤ s) ≡ w *ℤ (s +ℤ t)
     e = ring (w ∷ s ∷ t ∷ []) (v0 ⊗ (v2 ⊕ v1)) (v0 ⊗ (v1 ⊕ v2)) refl
 
-turned : (w ax ay bx by : ℤ) → Found w ax ay bx by → Found w bx by ax ay
+pub turned : (w ax ay bx by : ℤ) → Found w ax ay bx by → Found w bx by ax ay
 turned w ax ay bx by f =
     let n = f.some in
     record {
@@ -100,13 +100,13 @@ turned w ax ay bx by f =
     }
 
 -- and mirrored across
-mirrored_lies : (w s t a b x : ℤ) → Lies w s t (a -ℤ x) (b -ℤ x) → Lies w s t (x -ℤ a) (x -ℤ b)
+pub mirrored_lies : (w s t a b x : ℤ) → Lies w s t (a -ℤ x) (b -ℤ x) → Lies w s t (x -ℤ a) (x -ℤ b)
 mirrored_lies w s t a b x l = let f = l.from in let g = l.to in record { from = omega (arith, ints, g, e); to = omega (arith, ints, f, e) }
   where
     e : s *ℤ (x -ℤ a) +ℤ t *ℤ (x -ℤ b) ≡ pos 0 -ℤ (s *ℤ (a -ℤ x) +ℤ t *ℤ (b -ℤ x))
     e = ring (s ∷ t ∷ a ∷ b ∷ x ∷ []) (v0 ⊗ (v4 ⊖ v2) ⊕ v1 ⊗ (v4 ⊖ v3)) (num (pos 0) ⊖ (v0 ⊗ (v2 ⊖ v4) ⊕ v1 ⊗ (v3 ⊖ v4))) refl
 
-mirrored_back : (w s t a b x : ℤ) → Lies w s t (x -ℤ a) (x -ℤ b) → Lies w s t (a -ℤ x) (b -ℤ x)
+pub mirrored_back : (w s t a b x : ℤ) → Lies w s t (x -ℤ a) (x -ℤ b) → Lies w s t (a -ℤ x) (b -ℤ x)
 mirrored_back w s t a b x l = let f = l.from in let g = l.to in record { from = omega (arith, ints, g, e); to = omega (arith, ints, f, e) }
   where
     e : s *ℤ (a -ℤ x) +ℤ t *ℤ (b -ℤ x) ≡ pos 0 -ℤ (s *ℤ (x -ℤ a) +ℤ t *ℤ (x -ℤ b))
@@ -114,7 +114,7 @@ mirrored_back w s t a b x l = let f = l.from in let g = l.to in record { from = 
 
 -- ---- the tests of an edge read upwards, from (lx, ly) to (hx, hy)
 -- how far a point lies to the side of its line, times its length
-cross_is : (lx ly hx hy x y : ℤ) → (hx -ℤ x) *ℤ (ly -ℤ y) -ℤ (lx -ℤ x) *ℤ (hy -ℤ y)
+pub cross_is : (lx ly hx hy x y : ℤ) → (hx -ℤ x) *ℤ (ly -ℤ y) -ℤ (lx -ℤ x) *ℤ (hy -ℤ y)
     ≡ x *ℤ (hy -ℤ ly) -ℤ ((hx -ℤ lx) *ℤ y +ℤ ((hy -ℤ ly) *ℤ lx -ℤ (hx -ℤ lx) *ℤ ly) *ℤ pos 1)
 cross_is lx ly hx hy x y = ring (lx ∷ ly ∷ hx ∷ hy ∷ x ∷ y ∷ [])
     ((v2 ⊖ v4) ⊗ (v1 ⊖ v5) ⊖ (v0 ⊖ v4) ⊗ (v3 ⊖ v5))
@@ -127,15 +127,15 @@ weights_are g lx ly hx hy x y = ring (g ∷ lx ∷ ly ∷ hx ∷ hy ∷ x ∷ y 
     (v0 ⊗ ((v3 ⊖ v1) ⊕ (v4 ⊖ v2))) refl
 
 -- what is told of the place x of a row at the height y, beside an edge that doesn't run to the left on its way up
-record IsTold (g lx ly hx hy x y : ℤ) : Type 0 where
-  left : (lx -ℤ g) ≤ℤ x
-  right : x ≤ℤ (hx +ℤ g)
-  below : (ly -ℤ g) ≤ℤ y
-  above : y ≤ℤ (hy +ℤ g)
-  most : ((hx -ℤ x) *ℤ (ly -ℤ y) -ℤ (lx -ℤ x) *ℤ (hy -ℤ y)) ≤ℤ (g *ℤ ((hx -ℤ lx) +ℤ (hy -ℤ ly)))
-  least : (pos 0 -ℤ ((hx -ℤ x) *ℤ (ly -ℤ y) -ℤ (lx -ℤ x) *ℤ (hy -ℤ y))) ≤ℤ (g *ℤ ((hx -ℤ lx) +ℤ (hy -ℤ ly)))
+pub record IsTold (g lx ly hx hy x y : ℤ) : Type 0 where
+  pub left : (lx -ℤ g) ≤ℤ x
+  pub right : x ≤ℤ (hx +ℤ g)
+  pub below : (ly -ℤ g) ≤ℤ y
+  pub above : y ≤ℤ (hy +ℤ g)
+  pub most : ((hx -ℤ x) *ℤ (ly -ℤ y) -ℤ (lx -ℤ x) *ℤ (hy -ℤ y)) ≤ℤ (g *ℤ ((hx -ℤ lx) +ℤ (hy -ℤ ly)))
+  pub least : (pos 0 -ℤ ((hx -ℤ x) *ℤ (ly -ℤ y) -ℤ (lx -ℤ x) *ℤ (hy -ℤ y))) ≤ℤ (g *ℤ ((hx -ℤ lx) +ℤ (hy -ℤ ly)))
 
-found_by : (g lx ly hx hy x y : ℤ) → pos 0 ≤ℤ g → lx ≤ℤ hx → ly ≤ℤ hy → IsTold g lx ly hx hy x y
+pub found_by : (g lx ly hx hy x y : ℤ) → pos 0 ≤ℤ g → lx ≤ℤ hx → ly ≤ℤ hy → IsTold g lx ly hx hy x y
     → Found g (lx -ℤ x) (ly -ℤ y) (hx -ℤ x) (hy -ℤ y)
 found_by g lx ly hx hy x y some rx ry k =
     let a = k.left in
@@ -154,7 +154,7 @@ found_by g lx ly hx hy x y some rx ry k =
       least = omega (arith, ints, n, w);
     })
 
-told_of : (g lx ly hx hy x y : ℤ) → lx ≤ℤ hx → ly ≤ℤ hy → Found g (lx -ℤ x) (ly -ℤ y) (hx -ℤ x) (hy -ℤ y)
+pub told_of : (g lx ly hx hy x y : ℤ) → lx ≤ℤ hx → ly ≤ℤ hy → Found g (lx -ℤ x) (ly -ℤ y) (hx -ℤ x) (hy -ℤ y)
     → IsTold g lx ly hx hy x y
 told_of g lx ly hx hy x y rx ry f =
     let p = passes g (lx -ℤ x) (ly -ℤ y) (hx -ℤ x) (hy -ℤ y) (omega (arith, ints, rx)) (omega (arith, ints, ry)) f in

@@ -1,14 +1,17 @@
 -- Runs united one after another.
-use Rattle.std.proofs.Common.{◌≡◌, Bool, true, false, List, [], ◌∷◌, ◌++◌, refl, sym, ap, ap₂, ◌∙◌, arith, ℤ, pos, ◌+ℤ◌, ◌<ℤ◌}
+use Rattle.std.proofs.Common.{◌≡◌, ◌⊎◌, inl, inr, Bool, true, false, cond, List, [], ◌∷◌, ◌++◌, get_or, refl, sym, ap, ap₂, subst, ◌∙◌, arith, ℤ, pos, ◌+ℤ◌, ◌<ℤ◌}
 use lib.Signed.{◌≤ℤ◌}
-use Rattle.std.specs.Prelude.{All, int_le, ◌||◌, ◌&&◌}
+use Rattle.std.specs.Prelude.{All, Contains, int_le, int_lt, ◌||◌, ◌&&◌}
+use Rattle.std.specs.Int.{int_max}
 use Rattle.std.proofs.lemmas.Int.{ints}
 use Rattle.std.proofs.lemmas.List.Folds.{list_any-append}
-use Rattle.std.proofs.lemmas.List.Elements.{All-nil, All-head, All-tail, All-push, All-weaker, All-append, All-cons}
+use Rattle.std.proofs.lemmas.List.Elements.{All-nil, All-head, All-tail, All-push, All-weaker, All-append, All-cons, All-contains, Contains-push, Contains-append_left, Contains-get_or}
 use Rattle.scad_geom.proofs.Rising.{by_order, order}
 use Rattle.plan_infill.specs.declared.run.Run.{Run}
 use Rattle.plan_support.specs.Rows.{AreApart}
 use Rattle.plan_support.specs.On.{has_place, is_on}
+use Rattle.plan_support.specs.Unite.{TakeIn}
+use Rattle.plan_support.proofs.Extents.{greater}
 
 -- ---- the last of runs that stand apart
 pub record IsLast (front : List Run) (last : Run) : Type 0 where
@@ -100,3 +103,69 @@ or_false false = refl
 pub on_push : (rs : List Run) (run : Run) (x : ℤ) → is_on (rs ++ run ∷ []) x ≡ (is_on rs x || has_place run x)
 on_push rs run x = list_any-append (λ (r : Run). has_place r x) rs (run ∷ [])
     ∙ ap (λ (t : Bool). is_on rs x || t) (or_false (has_place run x))
+
+-- ---- one more run is taken in
+abbrev StartsBy : Run → Run → Type 0
+StartsBy run r = r.from ≤ℤ run.from
+
+pub taken_first : (old new : List Run) (run : Run) → old ≡ [] → new ≡ run ∷ [] → run.from ≤ℤ run.to → TakeIn old run new
+taken_first old new run e f p =
+    subst (λ (os : List Run). TakeIn os run new) (sym e) (subst (TakeIn [] run) (sym f) (record {
+      apart = (p, All-nil (λ (s : Run). (run.to +ℤ pos 1) <ℤ s.from), tt);
+      behind = All-push (StartsBy run) [] run (All-nil (StartsBy run)) (omega (arith, ints));
+      on = λ x. or_false (has_place run x);
+    }))
+
+pub one_of_two : (x y m : ℤ) → m ≡ int_max x y → ((m ≡ x) × (y ≤ℤ x)) ⊎ ((m ≡ y) × (x ≤ℤ y))
+one_of_two x y m e = by_test (int_lt y x) refl e
+  where
+    by_test : (t : Bool) → int_lt y x ≡ t → m ≡ cond t x y → ((m ≡ x) × (y ≤ℤ x)) ⊎ ((m ≡ y) × (x ≤ℤ y))
+    by_test true q k = inl (k, omega (arith, ints, q))
+    by_test false q k = inr (k, omega (arith, ints, q))
+
+module _ (old new front : List Run) (last run : Run) (is : old ≡ front ++ last ∷ []) (apart : AreApart old)
+    (place : run.from ≤ℤ run.to) (behind : All (StartsBy run) old) where
+  parted : IsLast front last
+  parted = last_of front last (subst AreApart is apart)
+
+  last_starts : last.from ≤ℤ run.from
+  last_starts = All-contains (StartsBy run) old last behind (subst (λ (os : List Run). Contains os last) (sym is) (Contains-push front last))
+
+  front_starts : All (StartsBy run) front
+  front_starts = λ k d l. All-contains (StartsBy run) old (get_or front k d) behind
+      (subst (λ (os : List Run). Contains os (get_or front k d)) (sym is)
+      (Contains-append_left front (last ∷ []) (get_or front k d) (Contains-get_or front k d l)))
+
+  pub taken_joined : (one : Run) → one.from ≡ last.from → one.to ≡ int_max last.to run.to → run.from ≤ℤ (last.to +ℤ pos 1)
+      → new ≡ front ++ one ∷ [] → TakeIn old run new
+  taken_joined one f t reach n =
+      let p = parted.place in
+      let s = last_starts in
+      let m = one_of_two last.to run.to one.to t in
+      let g = (greater last.to run.to one.to t).first in
+      subst (λ (os : List Run). TakeIn os run new) (sym is) (subst (TakeIn (front ++ last ∷ []) run) (sym n) (record {
+        apart = apart_push front one (record {
+          apart = parted.apart;
+          behind = subst (λ (z : ℤ). All (λ (r : Run). (r.to +ℤ pos 1) <ℤ z) front) (sym f) parted.behind;
+          place = omega (arith, ints, p, f, g);
+        });
+        behind = All-push (StartsBy run) front one front_starts (omega (arith, ints, f, s));
+        on = λ x. on_joined front last run one x
+            (ap (λ (z : ℤ). int_le z x && int_le x one.to) f ∙ joined last run s place p one.to x m reach);
+      }))
+
+  pub taken_pushed : (last.to +ℤ pos 1) <ℤ run.from → new ≡ (front ++ last ∷ []) ++ run ∷ [] → TakeIn old run new
+  taken_pushed far n =
+      let p = parted.place in
+      let s = last_starts in
+      subst (λ (os : List Run). TakeIn os run new) (sym is) (subst (TakeIn (front ++ last ∷ []) run) (sym n) (record {
+        apart = apart_push (front ++ last ∷ []) run (record {
+          apart = subst AreApart is apart;
+          behind = All-push (λ (r : Run). (r.to +ℤ pos 1) <ℤ run.from) front last
+              (All-weaker (λ (r : Run). (r.to +ℤ pos 1) <ℤ last.from) (λ (r : Run). (r.to +ℤ pos 1) <ℤ run.from)
+              (λ r k. omega (arith, ints, k, s)) front parted.behind) far;
+          place = place;
+        });
+        behind = All-push (StartsBy run) (front ++ last ∷ []) run (subst (All (StartsBy run)) is behind) (omega (arith, ints));
+        on = λ x. on_push (front ++ last ∷ []) run x;
+      }))

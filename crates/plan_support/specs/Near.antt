@@ -1,5 +1,5 @@
 -- Which places of a row lie near to a side, or are taken.
-use Rattle.std.specs.Prelude.{◌≡◌, true, false, Option, option_to_list, ℕ, ◌*◌, ◌≤◌, List, ℤ, pos, ◌+ℤ◌, ◌-ℤ◌, ◌*ℤ◌, ◌<ℤ◌, ◌≤ℤ◌, ◌↔◌, unsigned_abs}
+use Rattle.std.specs.Prelude.{◌≡◌, true, false, Option, option_to_list, ℕ, ◌*◌, ◌≤◌, List, ◌++◌, ℤ, pos, ◌+ℤ◌, ◌-ℤ◌, ◌*ℤ◌, ◌<ℤ◌, ◌≤ℤ◌, ◌↔◌, unsigned_abs, All}
 use Rattle.std.specs.Int.{int_min, int_max}
 use Rattle.scad_geom.specs.declared.point.Pt.{Pt}
 use Rattle.scad_geom.specs.declared.point.Edge.{Edge}
@@ -19,10 +19,17 @@ pub record IsPlace (x : ℤ) : Type 0 where
 
 -- the places of the row at a height that lie within the gap of some point of an edge along both axes
 pub record AreNear (e : Edge) (y : ℤ) (gap : ℕ) (found : Option Run) : Type 0 where
+  pub some : All (λ r. r.from ≤ℤ r.to) (option_to_list found)
   pub meets : (x : ℤ) → IsPlace x → is_on (option_to_list found) x ≡ true
       → MeetsBox (pos (2 * gap)) (whole (point_at x y)) (whole e.a) (whole e.b)
   pub clear : (x : ℤ) → IsPlace x → is_on (option_to_list found) x ≡ false
       → IsClear (pos (2 * gap)) (whole (point_at x y)) (whole e.a) (whole e.b)
+
+-- to runs those places are added
+pub record AddsNear (e : Edge) (y : ℤ) (gap : ℕ) (old new : List Run) : Type 0 where
+  pub found : Option Run
+  pub near : AreNear e y gap found
+  pub added : new ≡ old ++ option_to_list found
 
 -- the places of a row that aren't free
 pub record AreHoles (outlines : List (List Pt)) (y : ℤ) (gap : ℕ) (holes : List Run) : Type 0 where
@@ -54,5 +61,11 @@ abbrev pub IsWithinReach : Edge → ℤ → ℕ → Reach → Type 0
 IsWithinReach e y gap r = (x : ℤ) → IsIn r x ↔ (IsBesideEnds e gap x × (pos 0 <ℤ rise e → IsBesideLine e y gap x))
 
 -- the run of the places that a run can have
-abbrev pub IsClipped : ℤ → ℤ → Option Run → Type 0
-IsClipped from to found = (x : ℤ) → IsPlace x → (is_on (option_to_list found) x ≡ true) ↔ ((from ≤ℤ x) × (x ≤ℤ to))
+pub record IsClipped (from to : ℤ) (found : Option Run) : Type 0 where
+  pub some : All (λ r. r.from ≤ℤ r.to) (option_to_list found)
+  pub is : (x : ℤ) → IsPlace x → (is_on (option_to_list found) x ≡ true) ↔ ((from ≤ℤ x) × (x ≤ℤ to))
+
+-- the ends of a run are places that a run can have
+pub record HasPlaces (r : Run) : Type 0 where
+  pub from : IsPlace r.from
+  pub to : IsPlace r.to

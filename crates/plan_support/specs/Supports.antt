@@ -8,7 +8,7 @@ use Rattle.scad_geom.specs.Winding.{wind}
 use Rattle.scad_geom.specs.Near.{IsClear}
 use Rattle.plan_infill.specs.declared.run.Run.{Run}
 use Rattle.plan_support.specs.Rows.{Row, runs_at, AreRowsOf}
-use Rattle.plan_support.specs.Spans.{point_at}
+use Rattle.plan_support.specs.Spans.{point_at, row_of}
 use Rattle.plan_support.specs.On.{is_on}
 
 -- outlines don't wind round a whole point, and no point of a side lies within the gap of it along both axes, its border
@@ -20,6 +20,11 @@ pub record IsFree (outlines : List (List Pt)) (gap : ℕ) (q : Pt) : Type 0 wher
 -- the point (x, y) is covered, and it is free
 pub record IsSupported (outlines : List (List Pt)) (cover : List Row) (gap : ℕ) (x y : ℤ) : Type 0 where
   pub covered : is_on (runs_at y cover) x ≡ true
+  pub free : IsFree outlines gap (point_at x y)
+
+-- the point (x, y) lies on one of the runs, and it is free
+pub record IsFreeOn (outlines : List (List Pt)) (gap : ℕ) (y : ℤ) (runs : List Run) (x : ℤ) : Type 0 where
+  pub on : is_on runs x ≡ true
   pub free : IsFree outlines gap (point_at x y)
 
 -- a run as a path, to the right and to the left
@@ -38,6 +43,16 @@ row_paths false r = map (leftwards r.y) (reverse r.runs)
 abbrev pub paths_of : Bool → List Row → List (List Pt)
 paths_of right [] = []
 paths_of right (r ∷ rs) = row_paths right r ++ paths_of (not right) rs
+
+-- which way the row behind rows goes
+abbrev pub way_behind : Bool → List Row → Bool
+way_behind right [] = right
+way_behind right (r ∷ rs) = way_behind (not right) rs
+
+-- to paths those of a row are added, where it has runs; then the next row goes this way
+pub record AddsRow (right : Bool) (row : Row) (old new : List (List Pt)) (next : Bool) : Type 0 where
+  pub added : new ≡ old ++ paths_of right (row_of row.y row.runs)
+  pub way : next ≡ way_behind right (row_of row.y row.runs)
 
 -- the support runs of a layer, each at least so long, as paths in their order
 pub record AreSupports (outlines : List (List Pt)) (cover : List Row) (gap least : ℕ) (paths : List (List Pt)) : Type 0

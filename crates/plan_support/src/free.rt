@@ -2,6 +2,7 @@
 ghost use Rattle.std.specs.Prelude.{◌≡◌, ◌≤◌, ◌<ℤ◌, ◌≤ℤ◌, ◌+ℤ◌, ◌-ℤ◌, ◌++◌, ◌&&◌, not, ℤ, pos, length, take, IfOk, OnOk, All};
 ghost use Rattle.plan_support.specs.Rows.{AreApart};
 ghost use Rattle.plan_support.specs.On.{is_on};
+ghost use Rattle.plan_support.specs.Near.{HasPlaces};
 ghost use Rattle.plan_support.specs.Free.{at_least, some_run, IsEnd, AddsFree};
 
 use plan_infill::Run;
@@ -12,6 +13,7 @@ pub(crate) fn without(alloc: Global, runs: &[Run], holes: &[Run]) -> Result<Vec<
     requires runs { AreApart runs.now }
     requires holes { AreApart holes.now }
     ensures apart { IfOk result (λ v. AreApart v.items) }
+    ensures places { IfOk result (λ _. All HasPlaces runs.now) }
     ensures on { IfOk result (λ v. (x : ℤ) → is_on v.items x ≡ (is_on runs.now x && not (is_on holes.now x))) }
 {
     let mut out = Vec::new(alloc);

@@ -1,10 +1,11 @@
 //! Support runs.
 ghost use Rattle.std.specs.Prelude.{◌≡◌, ◌≤◌, ◌++◌, ◌∷◌, [], map, unsigned_abs, IfOk, OnOk, All};
 ghost use Rattle.scad_geom.specs.Limits.{coordinate_limit};
-ghost use Rattle.scad_geom.specs.Within.{IsWithin};
+ghost use Rattle.scad_geom.specs.Within.{IsWithin, IsEdgeWithin};
 ghost use Rattle.plan_support.specs.Rows.{AreApart, AreRows};
-ghost use Rattle.plan_support.specs.Supports.{rightwards, leftwards, row_paths, AreSupports};
-ghost use Rattle.plan_support.specs.Near.{AreHoles};
+ghost use Rattle.plan_support.specs.Stretches.{AreStretches};
+ghost use Rattle.plan_support.specs.Supports.{IsFreeOn, rightwards, leftwards, AddsRow, AreSupports};
+ghost use Rattle.plan_support.specs.Near.{AddsNear, AreHoles};
 
 use crate::free::{long_runs, without};
 use crate::near::near;
@@ -12,7 +13,7 @@ use crate::rows::Rows;
 use crate::union::united;
 use plan_infill::{Line, Run, runs};
 use plan_sides::sides;
-use scad_geom::{Loop, Path, Pt};
+use scad_geom::{Edge, Loop, Path, Pt};
 use std::alloc::{AllocError, Global};
 
 /// The support runs of a layer, as paths in their order: on the rows of `cover` the maximal stretches of whole points
@@ -36,15 +37,22 @@ pub fn supports(
     let mut to_right = true;
     'rows: for i in 0..cover.len() {
         let y = cover.y(i);
-        let holes = holes_of(alloc, outlines, y, gap)?;
-        let free = without(alloc, cover.runs(i), &holes)?;
-        let found = long_runs(alloc, &free, min)?;
-        if !found.is_empty() {
-            push_row(alloc, &mut paths, to_right, y, &found)?;
-            to_right = !to_right;
-        }
+        let free = free_runs(alloc, outlines, y, cover.runs(i), gap)?;
+        to_right = push_row(alloc, &mut paths, to_right, y, &long_runs(alloc, &free, min)?)?;
     }
     Ok(paths)
+}
+
+// The stretches of a row's runs that outlines don't wind round and that don't lie near to a side.
+fn free_runs(alloc: Global, outlines: &[Loop], y: i32, runs: &[Run], gap: u32) -> Result<Vec<Run>, AllocError>
+    requires within { All (λ l. All (IsWithin coordinate_limit) l) outlines.now }
+    requires row { unsigned_abs y ≤ coordinate_limit }
+    requires runs { AreApart runs.now }
+    ensures free { IfOk result (λ v. AreStretches (IsFreeOn outlines.now gap y runs.now) 0 v.items) }
+    ensures apart { IfOk result (λ v. AreApart v.items) }
+{
+    let holes = holes_of(alloc, outlines, y, gap)?;
+    without(alloc, runs, &holes)
 }
 
 // The places of a row that outlines wind round, or that lie near to a side.
@@ -56,23 +64,44 @@ fn holes_of(alloc: Global, outlines: &[Loop], y: i32, gap: u32) -> Result<Vec<Ru
 {
     let mut holes = runs(alloc, outlines, 0, Line::Row(y), 0)?;
     'sides: for side in &sides(alloc, outlines)? {
-        if let Some(run) = near(side, y, gap) {
-            holes.push(run)?;
-        }
+        push_near(&mut holes, side, y, gap)?;
     }
     united(alloc, holes)
 }
 
-fn push_row(alloc: Global, paths: &mut Vec<Path>, to_right: bool, y: i32, runs: &[Run]) -> Result<(), AllocError>
-    ensures { OnOk result (paths.new.items ≡ paths.old.items ++ row_paths to_right (record { y = y; runs = runs.now })) }
+// Adds the places that lie near to a side.
+fn push_near(holes: &mut Vec<Run>, side: &Edge, y: i32, gap: u32) -> Result<(), AllocError>
+    requires edge { IsEdgeWithin coordinate_limit side.now }
+    requires row { unsigned_abs y ≤ coordinate_limit }
+    ensures { OnOk result (AddsNear side.now y gap holes.old.items holes.new.items) }
 {
+    if let Some(run) = near(side, y, gap) {
+        holes.push(run)?;
+    }
+    Ok(())
+}
+
+// Adds the runs of a row as paths; answers whether those of the next row go to the right.
+fn push_row(
+    alloc: Global,
+    paths: &mut Vec<Path>,
+    to_right: bool,
+    y: i32,
+    runs: &[Run],
+) -> Result<bool, AllocError>
+    ensures { IfOk result (AddsRow to_right (record { y = y; runs = runs.now }) paths.old.items paths.new.items) }
+{
+    if runs.is_empty() {
+        return Ok(to_right);
+    }
     if to_right {
-        push_rightwards(alloc, paths, y, runs)
+        push_rightwards(alloc, paths, y, runs)?;
     } else {
         let mut turned = Vec::from_slice(alloc, runs)?;
         turned.reverse();
-        push_leftwards(alloc, paths, y, &turned)
+        push_leftwards(alloc, paths, y, &turned)?;
     }
+    Ok(!to_right)
 }
 
 fn push_rightwards(alloc: Global, paths: &mut Vec<Path>, y: i32, runs: &[Run]) -> Result<(), AllocError>
