@@ -16,7 +16,7 @@ nothing_in : {A : Type 0} (x : A) → Contains [] x → ⊥
 nothing_in x c = let lt = c.1 in omega arith
 
 -- an element is the first or one of the others
-first_or_other : {A : Type 0} (x : A) (xs : List A) (z : A) → Contains (x ∷ xs) z → (x ≡ z) ⊎ Contains xs z
+pub first_or_other : {A : Type 0} (x : A) (xs : List A) (z : A) → Contains (x ∷ xs) z → (x ≡ z) ⊎ Contains xs z
 first_or_other {A} x xs z c =
     elim (Contains-append_cases (x ∷ []) xs z c) [
       | inl f ↦ elim (Contains-push_cases [] x z f) [
@@ -26,10 +26,10 @@ first_or_other {A} x xs z c =
       | inr o ↦ inr o
     ]
 
-first_in : {A : Type 0} (x : A) (xs : List A) → Contains (x ∷ xs) x
+pub first_in : {A : Type 0} (x : A) (xs : List A) → Contains (x ∷ xs) x
 first_in x xs = Contains-append_left (x ∷ []) xs x (Contains-push [] x)
 
-other_in : {A : Type 0} (x : A) (xs : List A) (z : A) → Contains xs z → Contains (x ∷ xs) z
+pub other_in : {A : Type 0} (x : A) (xs : List A) (z : A) → Contains xs z → Contains (x ∷ xs) z
 other_in x xs z c = Contains-append_right (x ∷ []) xs z c
 
 -- ---- places on runs

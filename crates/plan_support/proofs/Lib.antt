@@ -16,3 +16,5 @@ pub mod NearRow
 pub mod NearEdge
 pub mod Wholly
 pub mod Holes
+pub mod Lined
+pub mod Supported

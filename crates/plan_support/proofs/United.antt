@@ -1,17 +1,18 @@
 -- Runs united one after another.
-use Rattle.std.proofs.Common.{◌≡◌, ◌⊎◌, inl, inr, Bool, true, false, cond, List, [], ◌∷◌, ◌++◌, get_or, refl, sym, ap, ap₂, subst, ◌∙◌, arith, ℤ, pos, ◌+ℤ◌, ◌<ℤ◌}
+use Rattle.std.proofs.Common.{◌≡◌, ◌⊎◌, inl, inr, ℕ, ◌+◌, ◌<◌, ◌≤◌, Bool, true, false, cond, List, [], ◌∷◌, ◌++◌, length, get_or, take, refl, sym, ap, ap₂, subst, ◌∙◌, arith, ℤ, pos, ◌+ℤ◌, ◌<ℤ◌}
 use lib.Signed.{◌≤ℤ◌}
 use Rattle.std.specs.Prelude.{All, Contains, int_le, int_lt, ◌||◌, ◌&&◌}
 use Rattle.std.specs.Int.{int_max}
 use Rattle.std.proofs.lemmas.Int.{ints}
-use Rattle.std.proofs.lemmas.List.Folds.{list_any-append}
+use Rattle.std.proofs.lemmas.List.Folds.{list_any-append, list_any_more}
 use Rattle.std.proofs.lemmas.List.Elements.{All-nil, All-head, All-tail, All-push, All-weaker, All-append, All-cons, All-contains, Contains-push, Contains-append_left, Contains-get_or}
 use Rattle.scad_geom.proofs.Rising.{by_order, order}
 use Rattle.plan_infill.specs.declared.run.Run.{Run}
 use Rattle.plan_support.specs.Rows.{AreApart}
 use Rattle.plan_support.specs.On.{has_place, is_on}
-use Rattle.plan_support.specs.Unite.{TakeIn}
+use Rattle.plan_support.specs.Unite.{StartInOrder, TakeIn}
 use Rattle.plan_support.proofs.Extents.{greater}
+use Rattle.plan_support.proofs.Starts.{no_sooner}
 
 -- ---- the last of runs that stand apart
 pub record IsLast (front : List Run) (last : Run) : Type 0 where
@@ -169,3 +170,27 @@ module _ (old new front : List Run) (last run : Run) (is : old ≡ front ++ last
         behind = All-push (StartsBy run) (front ++ last ∷ []) run (subst (All (StartsBy run)) is behind) (omega (arith, ints));
         on = λ x. on_push (front ++ last ∷ []) run x;
       }))
+
+-- ---- one run after another
+pub record UnitedUpTo (runs : List Run) (i : ℕ) (out : List Run) : Type 0 where
+  pub apart : AreApart out
+  pub behind : (k : ℕ) (d : Run) → i ≤ k → k < length runs → All (λ (r : Run). r.from ≤ℤ (get_or runs k d).from) out
+  pub on : (x : ℤ) → is_on out x ≡ is_on (take i runs) x
+
+pub united_start : (runs : List Run) → UnitedUpTo runs 0 []
+united_start runs = record {
+  apart = tt;
+  behind = λ k d a l. All-nil (λ (r : Run). r.from ≤ℤ (get_or runs k d).from);
+  on = λ x. refl;
+}
+
+pub united_more : (runs : List Run) (i : ℕ) (out new : List Run) (d : Run) → StartInOrder runs → i < length runs
+    → UnitedUpTo runs i out → TakeIn out (get_or runs i d) new → UnitedUpTo runs (i + 1) new
+united_more runs i out new d order l u t = record {
+  apart = t.apart;
+  behind = λ k e a m. All-weaker (λ (r : Run). r.from ≤ℤ (get_or runs i d).from) (λ (r : Run). r.from ≤ℤ (get_or runs k e).from)
+      (λ r h. let s = no_sooner runs i k e d order (omega (arith, a)) m in omega (arith, ints, h, s)) new t.behind;
+  on = λ x. t.on x
+      ∙ ap (λ (b : Bool). b || has_place (get_or runs i d) x) (u.on x)
+      ∙ sym (list_any_more (λ (r : Run). has_place r x) runs i d l);
+}
