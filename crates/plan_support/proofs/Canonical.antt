@@ -47,16 +47,16 @@ pub record HasRun (rs : List Run) (x : ℤ) : Type 0 where
 
 pub run_there : (rs : List Run) (x : ℤ) → is_on rs x ≡ true → HasRun rs x
 run_there [] x h = absurd (both_ways _ refl h)
-run_there (r ∷ rs) x h = by_test (has_place r x) refl h
+run_there (r ∷ rs) x h = by_test (has_place r x) refl h (λ k. run_there rs x k)
   where
-    by_test : (t : Bool) → has_place r x ≡ t → (t || is_on rs x) ≡ true → HasRun (r ∷ rs) x
-    by_test true e k =
+    by_test : (t : Bool) → has_place r x ≡ t → (t || is_on rs x) ≡ true → (is_on rs x ≡ true → HasRun rs x) → HasRun (r ∷ rs) x
+    by_test true e k others =
         let b = and_parts (int_le r.from x) (int_le x r.to) e in
         let f = b.0 in
         let g = b.1 in
         record { run = r; there = first_in r rs; from = omega (arith, ints, f); to = omega (arith, ints, g) }
-    by_test false e k =
-        let o = run_there rs x k in
+    by_test false e k others =
+        let o = others k in
         record { run = o.run; there = other_in r rs o.run o.there; from = o.from; to = o.to }
 
 pub place_on : (rs : List Run) (r : Run) (x : ℤ) → Contains rs r → r.from ≤ℤ x → x ≤ℤ r.to → is_on rs x ≡ true
@@ -81,7 +81,7 @@ is_some (s ∷ ss) r a c =
       | inr o ↦ is_some ss r a.2 o
     ]
 
-Apart : Run → Run → Type 0
+abbrev Apart : Run → Run → Type 0
 Apart r s = (r ≡ s) ⊎ (((r.to +ℤ pos 1) <ℤ s.from) ⊎ ((s.to +ℤ pos 1) <ℤ r.from))
 
 one_or_apart : (rs : List Run) (r s : Run) → AreApart rs → Contains rs r → Contains rs s → Apart r s

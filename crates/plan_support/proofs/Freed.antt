@@ -4,14 +4,14 @@ use lib.Signed.{◌≤ℤ◌}
 use Rattle.std.specs.Prelude.{All, Contains, int_le, int_lt, ◌||◌, ◌&&◌}
 use Rattle.std.specs.Int.{int_max}
 use Rattle.std.proofs.lemmas.Int.{ints}
-use Rattle.std.proofs.lemmas.List.{append-nil}
+use Rattle.std.proofs.lemmas.List.{append-nil, take_more, take_all}
 use Rattle.std.proofs.lemmas.List.Folds.{list_any-append, list_any_more}
 use Rattle.std.proofs.lemmas.List.Elements.{All-nil, All-weaker, All-push, All-more, Contains-get_or}
 use Rattle.plan_infill.specs.declared.run.Run.{Run}
 use Rattle.plan_support.specs.Rows.{AreApart}
 use Rattle.plan_support.specs.On.{has_place, is_on}
 use Rattle.plan_support.specs.Near.{HasPlaces}
-use Rattle.plan_support.specs.Free.{some_run, IsEnd, AddsFree}
+use Rattle.plan_support.specs.Free.{some_run, at_least, IsEnd, AddsFree}
 use Rattle.plan_support.proofs.Canonical.{is_some}
 use Rattle.plan_support.proofs.United.{apart_push, one_of_two}
 use Rattle.plan_support.proofs.Without.{is_free_from, one_hole, the_rest}
@@ -136,9 +136,9 @@ module _ (old : List Run) (run : Run) (hs : List Run) (i : ℕ) (from : ℤ) (ou
                 (one_hole hs i d apart run.from from low f.passed next x l cases);
           }
 
-  pub freed_all : (end : ℤ) → IsEnd run hs i end → (i < length hs → run.to ≤ℤ (get_or hs i d).to)
+  pub freed_all : (end : ℤ) → HasPlaces run → IsEnd run hs i end → (i < length hs → run.to ≤ℤ (get_or hs i d).to)
       → AddsFree old run hs (out ++ some_run from end) i
-  freed_all end is last =
+  freed_all end places is last =
       let low = f.low in
       let high = f.high in
       let most = is.most in
@@ -148,6 +148,7 @@ module _ (old : List Run) (run : Run) (hs : List Run) (i : ℕ) (from : ℤ) (ou
             (All-weaker (λ (r : Run). (r.to +ℤ pos 1) <ℤ from) (λ (r : Run). r.to ≤ℤ run.to)
             (λ r k. omega (arith, ints, k, high)) out f.behind) (λ o. most);
         count = f.count;
+        places = places;
         ends = All-weaker (λ (h : Run). h.to <ℤ from) (λ (h : Run). h.to <ℤ run.to) (λ h k. omega (arith, ints, k, high))
             (take i hs) f.passed;
         on = λ x. on_next end x (has_place run x && not (is_on hs x))
@@ -190,9 +191,9 @@ or_and true false false = refl
 or_and false b n = refl
 
 pub without_more : (runs hs : List Run) (i next more : ℕ) (out new : List Run) (d : Run) → AreApart runs → i < length runs
-    → HasPlaces (get_or runs i d) → WithoutUpTo runs hs i next out → AddsFree out (get_or runs i d) hs new more → WithoutUpTo runs hs (i + 1) more new
-without_more runs hs i next more out new d apart l p w f = record {
-  places = All-more HasPlaces runs i d l w.places p;
+    → WithoutUpTo runs hs i next out → AddsFree out (get_or runs i d) hs new more → WithoutUpTo runs hs (i + 1) more new
+without_more runs hs i next more out new d apart l w f = record {
+  places = All-more HasPlaces runs i d l w.places f.places;
   count = f.count;
   passed = λ k e o m. All-weaker (λ (h : Run). h.to <ℤ (get_or runs i d).to) (λ (h : Run). h.to <ℤ (get_or runs k e).from)
       (λ h q. let g = apart_at runs i k e d apart (omega (arith, o)) m in omega (arith, ints, q, g)) (take more hs) f.ends;
@@ -204,3 +205,29 @@ without_more runs hs i next more out new d apart l p w f = record {
       ∙ or_and (is_on (take i runs) x) (has_place (get_or runs i d) x) (not (is_on hs x))
       ∙ ap (λ (t : Bool). t && not (is_on hs x)) (sym (list_any_more (λ (r : Run). has_place r x) runs i d l));
 }
+
+-- ---- those that are long
+pub at_least_append : (least : ℕ) (xs ys : List Run) → at_least least (xs ++ ys) ≡ at_least least xs ++ at_least least ys
+at_least_append least [] ys = refl
+at_least_append least (x ∷ xs) ys = by_test (int_le (pos least) (x.to -ℤ x.from)) (at_least_append least xs ys)
+  where
+    by_test : (t : Bool) → at_least least (xs ++ ys) ≡ at_least least xs ++ at_least least ys
+        → cond t (x ∷ at_least least (xs ++ ys)) (at_least least (xs ++ ys))
+        ≡ cond t (x ∷ at_least least xs) (at_least least xs) ++ at_least least ys
+    by_test true e = ap (λ (rs : List Run). x ∷ rs) e
+    by_test false e = e
+
+pub at_least_more : (least : ℕ) (runs out new : List Run) (i : ℕ) (d : Run) → i < length runs
+    → out ≡ at_least least (take i runs) → new ≡ out ++ at_least least (get_or runs i d ∷ [])
+    → new ≡ at_least least (take (i + 1) runs)
+at_least_more least runs out new i d l e f =
+    f ∙ ap (λ (rs : List Run). rs ++ at_least least (get_or runs i d ∷ [])) e
+    ∙ sym (at_least_append least (take i runs) (get_or runs i d ∷ []))
+    ∙ ap (at_least least) (sym (take_more runs i d l))
+
+pub place_at : (runs : List Run) (i : ℕ) (d : Run) → AreApart runs → i < length runs → (get_or runs i d).from ≤ℤ (get_or runs i d).to
+place_at runs i d a l = is_some runs (get_or runs i d) a (Contains-get_or runs i d l)
+
+pub all_places : (runs hs : List Run) (i next : ℕ) (out : List Run) → length runs ≤ i → WithoutUpTo runs hs i next out
+    → All HasPlaces runs
+all_places runs hs i next out l w = subst (All HasPlaces) (take_all i runs l) w.places

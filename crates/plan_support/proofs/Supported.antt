@@ -80,56 +80,56 @@ module _ (Holds : ℤ → Type 0) (least : ℕ) where
 
   kept_after : (r : Run) (rs : List Run) → All (λ (s : Run). r.to <ℤ s.from) rs → All (λ (s : Run). r.to <ℤ s.from) (at_least least rs)
   kept_after r [] a = All-nil (λ (s : Run). r.to <ℤ s.from)
-  kept_after r (q ∷ qs) a = by_test (int_le (pos least) (q.to -ℤ q.from))
+  kept_after r (q ∷ qs) a =
+      by_test (int_le (pos least) (q.to -ℤ q.from)) (kept_after r qs (All-tail (λ (s : Run). r.to <ℤ s.from) q qs a))
     where
-      rest : All (λ (s : Run). r.to <ℤ s.from) (at_least least qs)
-      rest = kept_after r qs (All-tail (λ (s : Run). r.to <ℤ s.from) q qs a)
-      by_test : (t : Bool) → All (λ (s : Run). r.to <ℤ s.from) (cond t (q ∷ at_least least qs) (at_least least qs))
-      by_test true = All-cons (λ (s : Run). r.to <ℤ s.from) q (at_least least qs) (All-head (λ (s : Run). r.to <ℤ s.from) q qs a) rest
-      by_test false = rest
+      by_test : (t : Bool) → All (λ (s : Run). r.to <ℤ s.from) (at_least least qs)
+          → All (λ (s : Run). r.to <ℤ s.from) (cond t (q ∷ at_least least qs) (at_least least qs))
+      by_test true rest = All-cons (λ (s : Run). r.to <ℤ s.from) q (at_least least qs)
+          (All-head (λ (s : Run). r.to <ℤ s.from) q qs a) rest
+      by_test false rest = rest
 
   kept_up : (rs : List Run) → GoUp rs → GoUp (at_least least rs)
   kept_up [] u = tt
-  kept_up (q ∷ qs) u = by_test (int_le (pos least) (q.to -ℤ q.from))
+  kept_up (q ∷ qs) u = by_test (int_le (pos least) (q.to -ℤ q.from)) (kept_up qs u.1)
     where
-      by_test : (t : Bool) → GoUp (cond t (q ∷ at_least least qs) (at_least least qs))
-      by_test true = (kept_after q qs u.0, kept_up qs u.1)
-      by_test false = kept_up qs u.1
+      by_test : (t : Bool) → GoUp (at_least least qs) → GoUp (cond t (q ∷ at_least least qs) (at_least least qs))
+      by_test true rest = (kept_after q qs u.0, rest)
+      by_test false rest = rest
 
   kept_each : (rs : List Run) → All (IsStretch Holds 0) rs → All (IsStretch Holds least) (at_least least rs)
   kept_each [] a = All-nil (IsStretch Holds least)
-  kept_each (q ∷ qs) a = by_test (int_le (pos least) (q.to -ℤ q.from)) refl
+  kept_each (q ∷ qs) a =
+      by_test (int_le (pos least) (q.to -ℤ q.from)) refl (kept_each qs (All-tail (IsStretch Holds 0) q qs a))
     where
-      rest : All (IsStretch Holds least) (at_least least qs)
-      rest = kept_each qs (All-tail (IsStretch Holds 0) q qs a)
-      by_test : (t : Bool) → int_le (pos least) (q.to -ℤ q.from) ≡ t
+      by_test : (t : Bool) → int_le (pos least) (q.to -ℤ q.from) ≡ t → All (IsStretch Holds least) (at_least least qs)
           → All (IsStretch Holds least) (cond t (q ∷ at_least least qs) (at_least least qs))
-      by_test true e =
+      by_test true e rest =
           let s = All-head (IsStretch Holds 0) q qs a in
           All-cons (IsStretch Holds least) q (at_least least qs)
           (record { long = omega (arith, ints, e); holds = s.holds; before = s.before; after = s.after }) rest
-      by_test false e = rest
+      by_test false e rest = rest
 
   kept_there : (rs : List Run) (r : Run) → pos least ≤ℤ (r.to -ℤ r.from) → Contains rs r → Contains (at_least least rs) r
   kept_there [] r l c = c
-  kept_there (q ∷ qs) r l c = by_test (int_le (pos least) (q.to -ℤ q.from)) refl
+  kept_there (q ∷ qs) r l c =
+      by_test (int_le (pos least) (q.to -ℤ q.from)) refl (λ o. kept_there qs r l o)
     where
-      by_test : (t : Bool) → int_le (pos least) (q.to -ℤ q.from) ≡ t
+      too_short : q ≡ r → int_le (pos least) (q.to -ℤ q.from) ≡ false → ⊥
+      too_short s e =
+          let a : q.from ≡ r.from = ap (λ (z : Run). z.from) s in
+          let b : q.to ≡ r.to = ap (λ (z : Run). z.to) s in
+          omega (arith, ints, a, b, e, l)
+      by_test : (t : Bool) → int_le (pos least) (q.to -ℤ q.from) ≡ t → (Contains qs r → Contains (at_least least qs) r)
           → Contains (cond t (q ∷ at_least least qs) (at_least least qs)) r
-      by_test true e = elim (first_or_other q qs r c) [
+      by_test true e others = elim (first_or_other q qs r c) [
         | inl s ↦ subst (λ (z : Run). Contains (q ∷ at_least least qs) z) s (first_in q (at_least least qs))
-        | inr o ↦ other_in q (at_least least qs) r (kept_there qs r l o)
+        | inr o ↦ other_in q (at_least least qs) r (others o)
       ]
-      by_test false e = elim (first_or_other q qs r c) [
+      by_test false e others = elim (first_or_other q qs r c) [
         | inl s ↦ absurd (too_short s e)
-        | inr o ↦ kept_there qs r l o
+        | inr o ↦ others o
       ]
-        where
-          too_short : q ≡ r → int_le (pos least) (q.to -ℤ q.from) ≡ false → ⊥
-          too_short s e =
-              let a : q.from ≡ r.from = ap (λ (z : Run). z.from) s in
-              let b : q.to ≡ r.to = ap (λ (z : Run). z.to) s in
-              omega (arith, ints, a, b, e, l)
 
   pub long_stretches : (rs : List Run) → AreStretches Holds 0 rs → AreStretches Holds least (at_least least rs)
   long_stretches rs a = record {

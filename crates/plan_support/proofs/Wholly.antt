@@ -25,11 +25,12 @@ module _ (test : ℤ → Bool) where
 
   pub start_of : (k : ℕ) (x : ℤ) → ((z : ℤ) → z ≤ℤ (x -ℤ pos k) → test z ≡ false) → test x ≡ true → HasStart test x
   start_of zero x far h = absurd (both_ways _ (far x (omega (arith, ints))) h)
-  start_of (suc k) x far h = by_test (test (x -ℤ pos 1)) refl
+  start_of (suc k) x far h =
+      by_test (test (x -ℤ pos 1)) refl (λ e. start_of k (x -ℤ pos 1) (λ z o. far z (omega (arith, ints, o))) e)
     where
-      by_test : (t : Bool) → test (x -ℤ pos 1) ≡ t → HasStart test x
-      by_test true e =
-          let s = start_of k (x -ℤ pos 1) (λ z o. far z (omega (arith, ints, o))) e in
+      by_test : (t : Bool) → test (x -ℤ pos 1) ≡ t → (test (x -ℤ pos 1) ≡ true → HasStart test (x -ℤ pos 1)) → HasStart test x
+      by_test true e below =
+          let s = below e in
           let l = s.low in
           record {
             from = s.from;
@@ -39,7 +40,7 @@ module _ (test : ℤ → Bool) where
                 (λ o. s.holds z a (omega (arith, ints, o)));
             before = s.before;
           }
-      by_test false e = record {
+      by_test false e below = record {
         from = x;
         low = omega (arith, ints);
         holds = λ z a b. here x z h (omega (arith, ints, a, b));
@@ -48,11 +49,12 @@ module _ (test : ℤ → Bool) where
 
   pub end_of : (k : ℕ) (x : ℤ) → ((z : ℤ) → (x +ℤ pos k) ≤ℤ z → test z ≡ false) → test x ≡ true → HasEnd test x
   end_of zero x far h = absurd (both_ways _ (far x (omega (arith, ints))) h)
-  end_of (suc k) x far h = by_test (test (x +ℤ pos 1)) refl
+  end_of (suc k) x far h =
+      by_test (test (x +ℤ pos 1)) refl (λ e. end_of k (x +ℤ pos 1) (λ z o. far z (omega (arith, ints, o))) e)
     where
-      by_test : (t : Bool) → test (x +ℤ pos 1) ≡ t → HasEnd test x
-      by_test true e =
-          let s = end_of k (x +ℤ pos 1) (λ z o. far z (omega (arith, ints, o))) e in
+      by_test : (t : Bool) → test (x +ℤ pos 1) ≡ t → (test (x +ℤ pos 1) ≡ true → HasEnd test (x +ℤ pos 1)) → HasEnd test x
+      by_test true e above =
+          let s = above e in
           let l = s.high in
           record {
             to = s.to;
@@ -62,7 +64,7 @@ module _ (test : ℤ → Bool) where
                 (λ o. s.holds z (omega (arith, ints, o)) b);
             after = s.after;
           }
-      by_test false e = record {
+      by_test false e above = record {
         to = x;
         high = omega (arith, ints);
         holds = λ z a b. here x z h (omega (arith, ints, a, b));

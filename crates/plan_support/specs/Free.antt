@@ -2,6 +2,7 @@
 use Rattle.std.specs.Prelude.{◌≡◌, if◌then◌else◌, not, ◌&&◌, ◌||◌, int_le, ℕ, ◌<◌, ◌≤◌, List, [], ◌∷◌, length, slice_index_or, take, ℤ, pos, ◌-ℤ◌, ◌<ℤ◌, ◌≤ℤ◌, All}
 use Rattle.plan_infill.specs.declared.run.Run.{Run}
 use Rattle.plan_support.specs.Rows.{AreApart}
+use Rattle.plan_support.specs.Near.{HasPlaces}
 use Rattle.plan_support.specs.On.{has_place, is_on}
 
 -- the run between two places, where there are some
@@ -24,5 +25,6 @@ pub record AddsFree (old : List Run) (run : Run) (holes : List Run) (new : List 
   pub apart : AreApart new
   pub behind : All (λ r. r.to ≤ℤ run.to) new
   pub count : passed ≤ length holes
+  pub places : HasPlaces run
   pub ends : All (λ h. h.to <ℤ run.to) (take passed holes)
   pub on : (x : ℤ) → is_on new x ≡ (is_on old x || (has_place run x && not (is_on holes x)))

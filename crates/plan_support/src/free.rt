@@ -1,5 +1,5 @@
 //! Runs without the places of others.
-ghost use Rattle.std.specs.Prelude.{◌≡◌, ◌≤◌, ◌<ℤ◌, ◌≤ℤ◌, ◌+ℤ◌, ◌-ℤ◌, ◌++◌, ◌&&◌, not, ℤ, pos, length, take, IfOk, OnOk, All};
+ghost use Rattle.std.specs.Prelude.{◌≡◌, ◌≤◌, ◌<ℤ◌, ◌≤ℤ◌, ◌+ℤ◌, ◌-ℤ◌, ◌++◌, ◌∷◌, [], ◌&&◌, not, ℤ, pos, length, take, IfOk, OnOk, All};
 ghost use Rattle.plan_support.specs.Rows.{AreApart};
 ghost use Rattle.plan_support.specs.On.{is_on};
 ghost use Rattle.plan_support.specs.Near.{HasPlaces};
@@ -37,8 +37,8 @@ fn push_free(out: &mut Vec<Run>, run: Run, holes: &[Run], first: usize) -> Resul
     let mut from = run.from as i64;
     let mut i = first;
     'holes: while i < holes.len() && holes[i].to < run.to {
-        push_some(out, from, holes[i].from as i64 - 1)?;
-        from = from.max(holes[i].to as i64 + 1);
+        push_some(out, from, before(holes[i]))?;
+        from = from.max(behind(holes[i]));
         i += 1;
     }
     push_some(out, from, end_before(run, holes, i))?;
@@ -56,7 +56,20 @@ fn end_before(run: Run, holes: &[Run], i: usize) -> i64
     if run.to < holes[i].from {
         return run.to as i64;
     }
-    holes[i].from as i64 - 1
+    before(holes[i])
+}
+
+// The place before a run, and the one behind it.
+fn before(run: Run) -> i64
+    ensures { result ≡ run.from -ℤ pos 1 }
+{
+    run.from as i64 - 1
+}
+
+fn behind(run: Run) -> i64
+    ensures { result ≡ run.to +ℤ pos 1 }
+{
+    run.to as i64 + 1
 }
 
 // Adds the run between two places, where there are some.
@@ -80,9 +93,16 @@ pub(crate) fn long_runs(alloc: Global, runs: &[Run], least: u32) -> Result<Vec<R
 {
     let mut out = Vec::new(alloc);
     'runs: for run in runs {
-        if run.to as i64 - run.from as i64 >= least as i64 {
-            out.push(*run)?;
-        }
+        push_long(&mut out, *run, least)?;
     }
     Ok(out)
+}
+
+fn push_long(out: &mut Vec<Run>, run: Run, least: u32) -> Result<(), AllocError>
+    ensures { OnOk result (out.new.items ≡ out.old.items ++ at_least least (run ∷ [])) }
+{
+    if run.to as i64 - run.from as i64 >= least as i64 {
+        out.push(run)?;
+    }
+    Ok(())
 }

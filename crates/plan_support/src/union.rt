@@ -1,5 +1,6 @@
 //! Runs united.
 ghost use Rattle.std.specs.Prelude.{◌≡◌, ◌≤ℤ◌, ◌+ℤ◌, ℤ, pos, int_le, IfOk, OnOk, All};
+ghost use Rattle.std.specs.Int.{int_max};
 ghost use Rattle.std.specs.List.Sorted.{IsPermutation};
 ghost use Rattle.plan_support.specs.Rows.{AreApart};
 ghost use Rattle.plan_support.specs.Unite.{StartInOrder, TakeIn};
@@ -44,15 +45,23 @@ fn take_in(out: &mut Vec<Run>, run: Run) -> Result<(), AllocError>
         return Ok(());
     };
     if reaches(last, run) {
-        out.push(Run {
-            from: last.from,
-            to: last.to.max(run.to),
-        })?;
+        out.push(joined(last, run))?;
     } else {
         out.push(last)?;
         out.push(run)?;
     }
     Ok(())
+}
+
+// The run from the start of the first one to the later end.
+fn joined(first: Run, second: Run) -> Run
+    ensures from { result.from ≡ first.from }
+    ensures to { result.to ≡ int_max first.to second.to }
+{
+    Run {
+        from: first.from,
+        to: first.to.max(second.to),
+    }
 }
 
 // Whether no whole place stands between the first run and the second one behind it.
