@@ -14,7 +14,11 @@ pub mod Freed
 pub mod Starts
 pub mod NearRow
 pub mod NearEdge
+pub mod Reached
 pub mod Wholly
 pub mod Holes
 pub mod Lined
 pub mod Supported
+pub mod Heights
+pub mod Gathered
+pub mod Counted

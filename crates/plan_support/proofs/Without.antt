@@ -25,7 +25,7 @@ has_not_over r x h = by_test (int_le r.from x)
 
 -- ---- holes that stand apart
 -- below all of them there is none
-none_under : (hs : List Run) (x : ℤ) → All (λ (h : Run). x <ℤ h.from) hs → is_on hs x ≡ false
+pub none_under : (hs : List Run) (x : ℤ) → All (λ (h : Run). x <ℤ h.from) hs → is_on hs x ≡ false
 none_under [] x a = refl
 none_under (h ∷ hs) x a =
     ap (λ (t : Bool). t || is_on hs x) (has_not_under h x (All-head (λ (g : Run). x <ℤ g.from) h hs a))

@@ -46,16 +46,14 @@ pub record IsBesideEnds (e : Edge) (gap : ℕ) (x : ℤ) : Type 0 where
   pub from : (int_min (low e).x (high e).x -ℤ pos gap) ≤ℤ x
   pub to : x ≤ℤ (int_max (low e).x (high e).x +ℤ pos gap)
 
--- no farther from the place where an edge's line passes the height than the corners of the square round it reach
+-- how far the corners of the square round a place reach to the sides of an edge's line, times the edge's rise
+abbrev pub line_reach : Edge → ℕ → ℤ
+line_reach e gap = pos gap *ℤ (pos (unsigned_abs (run e)) +ℤ rise e)
+
+-- no farther from the place where an edge's line passes the height
 pub record IsBesideLine (e : Edge) (y : ℤ) (gap : ℕ) (x : ℤ) : Type 0 where
-  pub from : (x_at e y (pos 1) -ℤ pos gap *ℤ (pos (unsigned_abs (run e)) +ℤ rise e)) ≤ℤ (x *ℤ rise e)
-  pub to : (x *ℤ rise e) ≤ℤ (x_at e y (pos 1) +ℤ pos gap *ℤ (pos (unsigned_abs (run e)) +ℤ rise e))
-
-abbrev pub IsByEnds : Edge → ℕ → Reach → Type 0
-IsByEnds e gap r = (x : ℤ) → IsIn r x ↔ IsBesideEnds e gap x
-
-abbrev pub IsByLine : Edge → ℤ → ℕ → Reach → Type 0
-IsByLine e y gap r = (x : ℤ) → IsIn r x ↔ IsBesideLine e y gap x
+  pub from : (x_at e y (pos 1) -ℤ line_reach e gap) ≤ℤ (x *ℤ rise e)
+  pub to : (x *ℤ rise e) ≤ℤ (x_at e y (pos 1) +ℤ line_reach e gap)
 
 abbrev pub IsWithinReach : Edge → ℤ → ℕ → Reach → Type 0
 IsWithinReach e y gap r = (x : ℤ) → IsIn r x ↔ (IsBesideEnds e gap x × (pos 0 <ℤ rise e → IsBesideLine e y gap x))

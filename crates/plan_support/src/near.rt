@@ -1,10 +1,10 @@
 //! Which places of a row lie near to an edge.
-ghost use Rattle.std.specs.Prelude.{◌≡◌, ◌≤◌, ◌*◌, ◌^◌, ◌+ℤ◌, ◌-ℤ◌, ◌*ℤ◌, ◌<ℤ◌, ◌≤ℤ◌, ◌&&◌, int_le, pos, unsigned_abs};
+ghost use Rattle.std.specs.Prelude.{◌≡◌, ◌≤◌, ◌^◌, ◌+ℤ◌, ◌-ℤ◌, ◌<ℤ◌, ◌&&◌, int_le, pos, unsigned_abs};
 ghost use Rattle.std.specs.Int.{int_min, int_max};
 ghost use Rattle.scad_geom.specs.Limits.{coordinate_limit};
 ghost use Rattle.scad_geom.specs.Within.{IsEdgeWithin};
-ghost use Rattle.scad_geom.specs.Line.{low, high, rise, run};
-ghost use Rattle.plan_support.specs.Near.{AreNear, IsByEnds, IsByLine, IsWithinReach, IsClipped};
+ghost use Rattle.scad_geom.specs.Line.{low, high, rise, x_at};
+ghost use Rattle.plan_support.specs.Near.{AreNear, line_reach, IsWithinReach, IsClipped};
 ghost use Rattle.plan_infill.specs.Quotient.{IsFloor, IsCeiling};
 
 use crate::reach::Reach;
@@ -51,13 +51,15 @@ fn reached(e: &Edge, y: i32, gap: u32) -> Reach
 
 // Those that aren't far to the left or right of both ends.
 fn reached_by_ends(e: &Edge, gap: u32) -> Reach
-    ensures { IsByEnds e.now gap result }
+    requires { IsEdgeWithin coordinate_limit e.now }
+    ensures from { result.from ≡ int_min (low e.now).x (high e.now).x -ℤ pos gap }
+    ensures to { result.to ≡ int_max (low e.now).x (high e.now).x +ℤ pos gap }
 {
-    let from = low(e).x as i128;
-    let to = high(e).x as i128;
+    let a = low(e).x;
+    let b = high(e).x;
     Reach {
-        from: from.min(to) - gap as i128,
-        to: from.max(to) + gap as i128,
+        from: minus(a.min(b) as i128, gap as i128),
+        to: plus(a.max(b) as i128, gap as i128),
     }
 }
 
@@ -66,9 +68,10 @@ fn reached_by_line(e: &Edge, y: i32, gap: u32) -> Reach
     requires edge { IsEdgeWithin coordinate_limit e.now }
     requires row { unsigned_abs y ≤ coordinate_limit }
     requires rises { pos 0 <ℤ rise e.now }
-    ensures { IsByLine e.now y gap result }
+    ensures from { IsCeiling (x_at e.now y (pos 1) -ℤ line_reach e.now gap) (rise e.now) result.from }
+    ensures to { IsFloor (x_at e.now y (pos 1) +ℤ line_reach e.now gap) (rise e.now) result.to }
 {
-    let x = x_at(e, &Level { n: y as i128, d: 1 });
+    let x = row_x(e, y);
     let reach = line_reach(e, gap);
     Reach {
         from: ceiling(minus(x, reach), rise(e)),
@@ -76,10 +79,20 @@ fn reached_by_line(e: &Edge, y: i32, gap: u32) -> Reach
     }
 }
 
+// Where the line of an edge passes a row, over the edge's rise.
+fn row_x(e: &Edge, y: i32) -> i128
+    requires edge { IsEdgeWithin coordinate_limit e.now }
+    requires row { unsigned_abs y ≤ coordinate_limit }
+    ensures value { result ≡ x_at e.now y (pos 1) }
+    ensures size { unsigned_abs result ≤ 2 ^ 89 }
+{
+    x_at(e, &Level { n: y as i128, d: 1 })
+}
+
 // How far the square's corners reach to the sides of an edge's line, times its rise.
 fn line_reach(e: &Edge, gap: u32) -> i128
     requires { IsEdgeWithin coordinate_limit e.now }
-    ensures value { result ≡ pos gap *ℤ (pos (unsigned_abs (run e.now)) +ℤ rise e.now) }
+    ensures value { result ≡ line_reach e.now gap }
     ensures size { unsigned_abs result ≤ 2 ^ 56 }
 {
     times::<32, 24>(gap as i128, plus(run(e).abs(), rise(e)))
