@@ -11,7 +11,7 @@ use Rattle.plan_infill.specs.declared.run.Run.{Run}
 use Rattle.plan_support.specs.Rows.{AreApart}
 use Rattle.plan_support.specs.On.{has_place, is_on}
 use Rattle.plan_support.specs.Near.{HasPlaces}
-use Rattle.plan_support.specs.Free.{some_run, at_least, IsEnd, AddsFree}
+use Rattle.plan_support.specs.Free.{some_run, at_least, IsEnd, AddsFree, AreLeft}
 use Rattle.plan_support.proofs.Canonical.{is_some}
 use Rattle.plan_support.proofs.United.{apart_push, one_of_two}
 use Rattle.plan_support.proofs.Without.{is_free_from, one_hole, the_rest}
@@ -228,6 +228,10 @@ at_least_more least runs out new i d l e f =
 pub place_at : (runs : List Run) (i : ℕ) (d : Run) → AreApart runs → i < length runs → (get_or runs i d).from ≤ℤ (get_or runs i d).to
 place_at runs i d a l = is_some runs (get_or runs i d) a (Contains-get_or runs i d l)
 
-pub all_places : (runs hs : List Run) (i next : ℕ) (out : List Run) → length runs ≤ i → WithoutUpTo runs hs i next out
-    → All HasPlaces runs
-all_places runs hs i next out l w = subst (All HasPlaces) (take_all i runs l) w.places
+pub are_left : (runs hs : List Run) (i next : ℕ) (out : List Run) → length runs ≤ i → WithoutUpTo runs hs i next out
+    → AreLeft runs hs out
+are_left runs hs i next out l w = record {
+  apart = w.apart;
+  places = subst (All HasPlaces) (take_all i runs l) w.places;
+  on = λ x. w.on x ∙ ap (λ (rs : List Run). is_on rs x && not (is_on hs x)) (take_all i runs l);
+}

@@ -19,6 +19,6 @@ pub mod Wholly
 pub mod Holes
 pub mod Lined
 pub mod Supported
-pub mod Heights
+pub mod Ascending
 pub mod Gathered
 pub mod Counted

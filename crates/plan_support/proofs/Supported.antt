@@ -14,7 +14,7 @@ use Rattle.plan_support.specs.Stretches.{IsStretch, AreStretches}
 use Rattle.plan_support.specs.Rows.{Row, runs_at, GoUpwards, AreApart, AreRows, AreRowsOf, no_row}
 use Rattle.plan_support.specs.On.{has_place, is_on}
 use Rattle.plan_support.specs.Spans.{point_at, row_of}
-use Rattle.plan_support.specs.Free.{at_least}
+use Rattle.plan_support.specs.Free.{at_least, AreLeft}
 use Rattle.plan_support.specs.Near.{IsPlace, HasPlaces, AreHoles}
 use Rattle.plan_support.specs.Supports.{IsFree, IsSupported, IsFreeOn, row_paths, paths_of, way_behind, AddsRow, AreSupports}
 use Rattle.plan_support.proofs.Canonical.{run_there, are_stretches, first_in, other_in, first_or_other}
@@ -22,13 +22,12 @@ use Rattle.plan_support.proofs.Stretched.{no_stretches}
 use Rattle.plan_support.proofs.Listed.{none_above, others_stay, last_row, upwards_push}
 
 -- ---- the free stretches of a row
-module _ (outlines : List (List Pt)) (gap : ℕ) (y : ℤ) (runs holes free : List Run) (apart : AreApart free)
-    (places : All HasPlaces runs) (are : AreHoles outlines y gap holes)
-    (on : (x : ℤ) → is_on free x ≡ (is_on runs x && not (is_on holes x))) where
+module _ (outlines : List (List Pt)) (gap : ℕ) (y : ℤ) (runs holes free : List Run) (left : AreLeft runs holes free)
+    (are : AreHoles outlines y gap holes) where
   place_of : (x : ℤ) → is_on runs x ≡ true → IsPlace x
   place_of x o =
       let r = run_there runs x o in
-      let p = All-contains HasPlaces runs r.run places r.there in
+      let p = All-contains HasPlaces runs r.run left.places r.there in
       let a = r.from in
       let b = r.to in
       let c = p.from.from in
@@ -41,7 +40,7 @@ module _ (outlines : List (List Pt)) (gap : ℕ) (y : ℤ) (runs holes free : Li
 
   if_on : (x : ℤ) → is_on free x ≡ true → IsFreeOn outlines gap y runs x
   if_on x o =
-      let p = and_parts (is_on runs x) (not (is_on holes x)) (sym (on x) ∙ o) in
+      let p = and_parts (is_on runs x) (not (is_on holes x)) (sym (left.on x) ∙ o) in
       record { on = p.0; free = are.free x (place_of x p.0) (not_true (is_on holes x) p.1) }
 
   on_if : (x : ℤ) → IsFreeOn outlines gap y runs x → is_on free x ≡ true
@@ -49,10 +48,10 @@ module _ (outlines : List (List Pt)) (gap : ℕ) (y : ℤ) (runs holes free : Li
     where
       by_test : (t : Bool) → is_on holes x ≡ t → is_on free x ≡ true
       by_test true e = absurd (are.taken x (place_of x f.on) e f.free)
-      by_test false e = on x ∙ ap₂ (λ (a b : Bool). a && not b) f.on e
+      by_test false e = left.on x ∙ ap₂ (λ (a b : Bool). a && not b) f.on e
 
   pub are_free : AreStretches (IsFreeOn outlines gap y runs) 0 free
-  are_free = are_stretches (IsFreeOn outlines gap y runs) free apart on_if if_on
+  are_free = are_stretches (IsFreeOn outlines gap y runs) free left.apart on_if if_on
 
 -- ---- what holds at the same places has the same stretches
 pub same_stretches : (P Q : ℤ → Type 0) (least : ℕ) (rs : List Run) → ((x : ℤ) → P x → Q x) → ((x : ℤ) → Q x → P x)

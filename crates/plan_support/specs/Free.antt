@@ -28,3 +28,9 @@ pub record AddsFree (old : List Run) (run : Run) (holes : List Run) (new : List 
   pub places : HasPlaces run
   pub ends : All (λ h. h.to <ℤ run.to) (take passed holes)
   pub on : (x : ℤ) → is_on new x ≡ (is_on old x || (has_place run x && not (is_on holes x)))
+
+-- what holes leave of runs, which have places
+pub record AreLeft (runs holes left : List Run) : Type 0 where
+  pub apart : AreApart left
+  pub places : All HasPlaces runs
+  pub on : (x : ℤ) → is_on left x ≡ (is_on runs x && not (is_on holes x))

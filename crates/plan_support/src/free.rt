@@ -1,9 +1,7 @@
 //! Runs without the places of others.
-ghost use Rattle.std.specs.Prelude.{◌≡◌, ◌≤◌, ◌<ℤ◌, ◌≤ℤ◌, ◌+ℤ◌, ◌-ℤ◌, ◌++◌, ◌∷◌, [], ◌&&◌, not, ℤ, pos, length, take, IfOk, OnOk, All};
+ghost use Rattle.std.specs.Prelude.{◌≡◌, ◌≤◌, ◌<ℤ◌, ◌≤ℤ◌, ◌+ℤ◌, ◌-ℤ◌, ◌++◌, ◌∷◌, [], pos, length, take, IfOk, OnOk, All};
 ghost use Rattle.plan_support.specs.Rows.{AreApart};
-ghost use Rattle.plan_support.specs.On.{is_on};
-ghost use Rattle.plan_support.specs.Near.{HasPlaces};
-ghost use Rattle.plan_support.specs.Free.{at_least, some_run, IsEnd, AddsFree};
+ghost use Rattle.plan_support.specs.Free.{at_least, some_run, IsEnd, AddsFree, AreLeft};
 
 use plan_infill::Run;
 use std::alloc::{AllocError, Global};
@@ -12,9 +10,7 @@ use std::alloc::{AllocError, Global};
 pub(crate) fn without(alloc: Global, runs: &[Run], holes: &[Run]) -> Result<Vec<Run>, AllocError>
     requires runs { AreApart runs.now }
     requires holes { AreApart holes.now }
-    ensures apart { IfOk result (λ v. AreApart v.items) }
-    ensures places { IfOk result (λ _. All HasPlaces runs.now) }
-    ensures on { IfOk result (λ v. (x : ℤ) → is_on v.items x ≡ (is_on runs.now x && not (is_on holes.now x))) }
+    ensures { IfOk result (λ v. AreLeft runs.now holes.now v.items) }
 {
     let mut out = Vec::new(alloc);
     let mut next = 0;
@@ -61,7 +57,8 @@ fn end_before(run: Run, holes: &[Run], i: usize) -> i64
 
 // The place before a run, and the one behind it.
 fn before(run: Run) -> i64
-    ensures { result ≡ run.from -ℤ pos 1 }
+    ensures value { result ≡ run.from -ℤ pos 1 }
+    ensures small { result <ℤ pos 2147483648 }
 {
     run.from as i64 - 1
 }

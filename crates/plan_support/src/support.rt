@@ -48,8 +48,7 @@ fn free_runs(alloc: Global, outlines: &[Loop], y: i32, runs: &[Run], gap: u32) -
     requires within { All (λ l. All (IsWithin coordinate_limit) l) outlines.now }
     requires row { unsigned_abs y ≤ coordinate_limit }
     requires runs { AreApart runs.now }
-    ensures free { IfOk result (λ v. AreStretches (IsFreeOn outlines.now gap y runs.now) 0 v.items) }
-    ensures apart { IfOk result (λ v. AreApart v.items) }
+    ensures { IfOk result (λ v. AreStretches (IsFreeOn outlines.now gap y runs.now) 0 v.items) }
 {
     let holes = holes_of(alloc, outlines, y, gap)?;
     without(alloc, runs, &holes)

@@ -1,5 +1,5 @@
 use Rattle.std.proofs.Common.{pos}
-use Rattle.plan_support.proofs.Freed.{without_more, place_at, all_places}
+use Rattle.plan_support.proofs.Freed.{without_more, place_at, are_left}
 use Rattle.plan_support.proofs.free.without.Goals as goal
 
 pub push_free-requires-clause-place : goal.push_free-requires-clause-place
@@ -11,6 +11,6 @@ runs-preserved c = without_more c.args.runs.now c.args.holes.now c.runs.run-inde
     c.runs.out.items c.push_free.new.out.items (record { from = pos 0; to = pos 0 }) c.requires.runs c.runs-test.true
     c.runs.invariant c.in_ok-next.ensures
 
-pub returns-clause-places : goal.returns-clause-places
-returns-clause-places c = all_places c.args.runs.now c.args.holes.now c.runs.run-index c.runs.next c.runs.out.items
-    c.runs-test.false c.runs.invariant
+pub returns : goal.returns
+returns c = are_left c.args.runs.now c.args.holes.now c.runs.run-index c.runs.next c.runs.out.items c.runs-test.false
+    c.runs.invariant

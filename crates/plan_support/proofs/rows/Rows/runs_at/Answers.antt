@@ -1,5 +1,5 @@
-use Rattle.std.proofs.Common.{◌≡◌, ◌<◌, List, length, sym, subst, ap, ◌∙◌, arith, rules, ℤ}
-use Rattle.std.specs.Ordering.{int_cmp, ordering_index, Less, Equal, Greater}
+use Rattle.std.proofs.Common.{Less, Equal, Greater, ◌≡◌, ◌<◌, List, length, sym, subst, ap, ◌∙◌, arith, rules, ℤ}
+use Rattle.std.specs.Ordering.{int_cmp, ordering_index}
 use Rattle.std.specs.List.{HoldsAt}
 use Rattle.std.specs.List.Sorted.{IsNonDecreasingBy, IsPartitionPoint}
 use Rattle.scad_geom.proofs.Casts.{casts}

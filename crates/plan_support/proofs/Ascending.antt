@@ -1,9 +1,9 @@
 -- The heights of rows, sorted and each kept once.
-use Rattle.std.proofs.Common.{◌≡◌, ℕ, ◌<◌, List, [], ◌∷◌, ◌++◌, length, get_or, map, flat_map, refl, sym, subst, ℤ, ◌<ℤ◌}
+use Rattle.std.proofs.Common.{Less, ◌≡◌, ℕ, ◌<◌, List, [], ◌∷◌, ◌++◌, length, get_or, map, flat_map, refl, sym, subst, ℤ, ◌<ℤ◌}
 use Rattle.std.specs.Prelude.{All, Contains, unsigned_abs, ◌≤◌}
 use Rattle.std.specs.List.{dedup}
 use Rattle.std.specs.List.Sorted.{IsPermutation, IsSorted}
-use Rattle.std.specs.Ordering.{int_cmp, int_eq, Less}
+use Rattle.std.specs.Ordering.{int_cmp, int_eq}
 use Rattle.std.specs.List.Sorted.{IsStrictlySortedBy}
 use Rattle.std.proofs.lemmas.Cmp.{int_cmp_total, int_ranked, eq_by_cmp_equiv}
 use Rattle.std.proofs.lemmas.Bool.Decides.{Decides-int_eq}
