@@ -88,31 +88,31 @@ module _ (layers : List (List Row)) (want : Want) where
       → length (covers_of (length layers) ys alls) ≡ length layers
   length_covers [] alls lines h = length_empties (length layers)
   length_covers (y ∷ ys) [] lines h = length_empties (length layers)
-  length_covers (y ∷ ys) (a ∷ as) [] h = absurd h
-  length_covers (y ∷ ys) (a ∷ as) (l ∷ ls) h =
-      let e = length_covers ys as ls h.1 in
-      length_zip y a (covers_of (length layers) ys as) (long y a l h.0 ∙ sym e) ∙ e
+  length_covers (y ∷ ys) (a ∷ us) [] h = absurd h
+  length_covers (y ∷ ys) (a ∷ us) (l ∷ ls) h =
+      let e = length_covers ys us ls h.1 in
+      length_zip y a (covers_of (length layers) ys us) (long y a l h.0 ∙ sym e) ∙ e
 
   get_covers : (ys : List ℤ) (alls : List (List (List Run))) (lines : List Line) (n : ℕ) → n < length layers
       → AreLines layers want ys alls lines → get_or (covers_of (length layers) ys alls) n [] ≡ rows_at n ys alls
   get_covers [] alls lines n l h = get_empties (length layers) n
   get_covers (y ∷ ys) [] lines n l h = get_empties (length layers) n
-  get_covers (y ∷ ys) (a ∷ as) [] n l h = absurd h
-  get_covers (y ∷ ys) (a ∷ as) (m ∷ ms) n l h =
-      let e = length_covers ys as ms h.1 in
-      get_zip y a (covers_of (length layers) ys as) n (long y a m h.0 ∙ sym e) (omega (arith, l, e))
-      ∙ ap (λ (rows : List Row). row_of y (get_or a n []) ++ rows) (get_covers ys as ms n l h.1)
+  get_covers (y ∷ ys) (a ∷ us) [] n l h = absurd h
+  get_covers (y ∷ ys) (a ∷ us) (m ∷ ms) n l h =
+      let e = length_covers ys us ms h.1 in
+      get_zip y a (covers_of (length layers) ys us) n (long y a m h.0 ∙ sym e) (omega (arith, l, e))
+      ∙ ap (λ (rows : List Row). row_of y (get_or a n []) ++ rows) (get_covers ys us ms n l h.1)
 
   count_covers : (ys : List ℤ) (alls : List (List (List Run))) (lines : List Line) → AreLines layers want ys alls lines
       → run_count (covers_of (length layers) ys alls) ≡ sum_by (λ (all : List (List Run)). sum_by length all) alls
   count_covers [] [] lines h = count_empties (length layers)
-  count_covers [] (a ∷ as) lines h = absurd h
+  count_covers [] (a ∷ us) lines h = absurd h
   count_covers (y ∷ ys) [] lines h = absurd h
-  count_covers (y ∷ ys) (a ∷ as) [] h = absurd h
-  count_covers (y ∷ ys) (a ∷ as) (l ∷ ls) h =
-      let e = length_covers ys as ls h.1 in
-      let f = count_zip y a (covers_of (length layers) ys as) (long y a l h.0 ∙ sym e) in
-      let g = count_covers ys as ls h.1 in
+  count_covers (y ∷ ys) (a ∷ us) [] h = absurd h
+  count_covers (y ∷ ys) (a ∷ us) (l ∷ ls) h =
+      let e = length_covers ys us ls h.1 in
+      let f = count_zip y a (covers_of (length layers) ys us) (long y a l h.0 ∙ sym e) in
+      let g = count_covers ys us ls h.1 in
       omega (arith, f, g)
 
   -- the lines' own numbers tell the same
@@ -121,12 +121,12 @@ module _ (layers : List (List Row)) (want : Want) where
       ≡ min (sum_by (λ (all : List (List Run)). sum_by length all) alls) greatest_count
   counts [] [] [] h = refl
   counts [] [] (l ∷ ls) h = absurd h
-  counts [] (a ∷ as) ls h = absurd h
+  counts [] (a ∷ us) ls h = absurd h
   counts (y ∷ ys) [] ls h = absurd h
-  counts (y ∷ ys) (a ∷ as) [] h = absurd h
-  counts (y ∷ ys) (a ∷ as) (l ∷ ls) h =
-      added l.count (sum_by length a) (sum_by (λ (m : Line). m.count) ls) (sum_by (λ (all : List (List Run)). sum_by length all) as)
-      h.0.count (counts ys as ls h.1)
+  counts (y ∷ ys) (a ∷ us) [] h = absurd h
+  counts (y ∷ ys) (a ∷ us) (l ∷ ls) h =
+      added l.count (sum_by length a) (sum_by (λ (m : Line). m.count) ls) (sum_by (λ (all : List (List Run)). sum_by length all) us)
+      h.0.count (counts ys us ls h.1)
     where
       added : (c s p t : ℕ) → c ≡ min s greatest_count → min p greatest_count ≡ min t greatest_count
           → min (c + p) greatest_count ≡ min (s + t) greatest_count
@@ -220,18 +220,18 @@ same_stretches layers y all more a b =
     (λ k l. same_runs (get_or all k []) (get_or more k []) (a.each k l).apart (b.each k (omega (arith, l, m, n))).apart
     (λ x. (a.each k l).on x ∙ sym ((b.each k (omega (arith, l, m, n))).on x)))
 
-same_lines : (layers : List (List Row)) (v w : Want) (ys : List ℤ) (as bs : List (List (List Run))) (ls ms : List Line)
-    → AreLines layers v ys as ls → AreLines layers w ys bs ms → as ≡ bs
+same_lines : (layers : List (List Row)) (v w : Want) (ys : List ℤ) (us bs : List (List (List Run))) (ls ms : List Line)
+    → AreLines layers v ys us ls → AreLines layers w ys bs ms → us ≡ bs
 same_lines layers v w [] [] [] ls ms h k = refl
 same_lines layers v w [] [] (b ∷ bs) ls ms h k = absurd k
-same_lines layers v w [] (a ∷ as) bs ls ms h k = absurd h
+same_lines layers v w [] (a ∷ us) bs ls ms h k = absurd h
 same_lines layers v w (y ∷ ys) [] bs ls ms h k = absurd h
-same_lines layers v w (y ∷ ys) (a ∷ as) [] ls ms h k = absurd k
-same_lines layers v w (y ∷ ys) (a ∷ as) (b ∷ bs) [] ms h k = absurd h
-same_lines layers v w (y ∷ ys) (a ∷ as) (b ∷ bs) (l ∷ ls) [] h k = absurd k
-same_lines layers v w (y ∷ ys) (a ∷ as) (b ∷ bs) (l ∷ ls) (m ∷ ms) h k =
+same_lines layers v w (y ∷ ys) (a ∷ us) [] ls ms h k = absurd k
+same_lines layers v w (y ∷ ys) (a ∷ us) (b ∷ bs) [] ms h k = absurd h
+same_lines layers v w (y ∷ ys) (a ∷ us) (b ∷ bs) (l ∷ ls) [] h k = absurd k
+same_lines layers v w (y ∷ ys) (a ∷ us) (b ∷ bs) (l ∷ ls) (m ∷ ms) h k =
     ap₂ (λ (p : List (List Run)) (q : List (List (List Run))). p ∷ q) (same_stretches layers y a b h.0.are k.0.are)
-    (same_lines layers v w ys as bs ls ms h.1 k.1)
+    (same_lines layers v w ys us bs ls ms h.1 k.1)
 
 -- ---- few enough
 module _ (layers covers : List (List Row)) (heights : List ℤ) (alls : List (List (List Run))) (lines : List Line)

@@ -7,6 +7,7 @@ use Rattle.std.proofs.Math.Seq.{drop-cons, get_or-append_seam}
 use Rattle.std.proofs.Math.ListN.{drop_of_length-le}
 use Rattle.std.proofs.lemmas.Int.{ints}
 use Rattle.std.proofs.lemmas.Bool.{both_ways}
+use borrow.Author.Tests.{ltb-true, ltb-false}
 use Rattle.std.proofs.lemmas.List.{append-nil, append_assoc, get_or_append_left, length-append}
 use Rattle.std.proofs.lemmas.List.Sums.{sum_by-append}
 use Rattle.std.proofs.lemmas.List.Elements.{All-nil, All-head, All-tail, All-cons, All-append, All-weaker, Contains-append_left, Contains-append_right}
@@ -140,13 +141,13 @@ pub rows_kept : (layers : List (List Row)) (n : ℕ) (ys : List ℤ) (alls : Lis
     → AreLines layers Stretches ys alls lines → kept_rows n ys lines ≡ rows_at n ys alls
 rows_kept layers n [] [] [] h = refl
 rows_kept layers n [] [] (l ∷ ls) h = absurd h
-rows_kept layers n [] (a ∷ as) ls h = absurd h
+rows_kept layers n [] (a ∷ us) ls h = absurd h
 rows_kept layers n (y ∷ ys) [] ls h = absurd h
-rows_kept layers n (y ∷ ys) (a ∷ as) [] h = absurd h
-rows_kept layers n (y ∷ ys) (a ∷ as) (l ∷ ls) h =
+rows_kept layers n (y ∷ ys) (a ∷ us) [] h = absurd h
+rows_kept layers n (y ∷ ys) (a ∷ us) (l ∷ ls) h =
     ap₂ (λ (r rs : List Row). r ++ rs)
     (ap (kept_row n y) h.0.kept ∙ row_kept a n y (sinks layers 0 y a h.0.are))
-    (rows_kept layers n ys as ls h.1)
+    (rows_kept layers n ys us ls h.1)
 
 -- heights alone matter for the order
 rows_all : (P : ℤ → Type 0) (n : ℕ) (ys : List ℤ) (alls : List (List (List Run))) → All P ys → All (λ (r : Row). P r.y) (rows_at n ys alls)
@@ -206,26 +207,26 @@ lined : (layers : List (List Row)) (want : Want) (n : ℕ) (ys : List ℤ) (alls
     → n < length layers → Ascend ys → AreLines layers want ys alls lines → Lined layers n ys y (runs_at y (rows_at n ys alls))
 lined layers want n [] [] [] y l a h = no_line refl (λ c. let k = c.1 in absurd (omega (arith, k)))
 lined layers want n [] [] (m ∷ ms) y l a h = absurd h
-lined layers want n [] (a2 ∷ as) ls y l a h = absurd h
+lined layers want n [] (a2 ∷ us) ls y l a h = absurd h
 lined layers want n (z ∷ zs) [] ls y l a h = absurd h
-lined layers want n (z ∷ zs) (a2 ∷ as) [] y l a h = absurd h
-lined layers want n (z ∷ zs) (all ∷ as) (m ∷ ms) y l a h = by_order (order z y)
+lined layers want n (z ∷ zs) (a2 ∷ us) [] y l a h = absurd h
+lined layers want n (z ∷ zs) (all ∷ us) (m ∷ ms) y l a h = by_order (order z y)
     (λ o. by_order (order y z)
     (λ p. let e : z ≡ y = omega (arith, ints, o, p) in
-    subst (λ (w : ℤ). Lined layers n (z ∷ zs) w (runs_at w (row_of z (get_or all n []) ++ rows_at n zs as))) e at_first)
-    (λ p. behind (λ e. omega (arith, ints, e, p)) (lined layers want n zs as ms y l a.1 h.1)))
-    (λ o. behind (λ e. omega (arith, ints, e, o)) (lined layers want n zs as ms y l a.1 h.1))
+    subst (λ (w : ℤ). Lined layers n (z ∷ zs) w (runs_at w (row_of z (get_or all n []) ++ rows_at n zs us))) e at_first)
+    (λ p. behind (λ e. omega (arith, ints, e, p)) (lined layers want n zs us ms y l a.1 h.1)))
+    (λ o. behind (λ e. omega (arith, ints, e, o)) (lined layers want n zs us ms y l a.1 h.1))
   where
     there : AreStretchesBelow layers n z (get_or all n [])
     there = let m = h.0.are.as_many in h.0.are.each n (omega (arith, m, l))
-    at_first : Lined layers n (z ∷ zs) z (runs_at z (row_of z (get_or all n []) ++ rows_at n zs as))
+    at_first : Lined layers n (z ∷ zs) z (runs_at z (row_of z (get_or all n []) ++ rows_at n zs us))
     at_first = on_line (subst (AreStretchesBelow layers n z)
-        (sym (stay z (get_or all n []) (rows_at n zs as)
-        (none_over z (rows_at n zs as) (rows_all (λ w. z <ℤ w) n zs as a.0)))) there)
-    behind : (z ≡ y → ⊥) → Lined layers n zs y (runs_at y (rows_at n zs as))
-        → Lined layers n (z ∷ zs) y (runs_at y (row_of z (get_or all n []) ++ rows_at n zs as))
-    behind ne (on_line s) = on_line (subst (AreStretchesBelow layers n y) (sym (skip y z (get_or all n []) (rows_at n zs as) ne)) s)
-    behind ne (no_line e c) = no_line (skip y z (get_or all n []) (rows_at n zs as) ne ∙ e)
+        (sym (stay z (get_or all n []) (rows_at n zs us)
+        (none_over z (rows_at n zs us) (rows_all (λ w. z <ℤ w) n zs us a.0)))) there)
+    behind : (z ≡ y → ⊥) → Lined layers n zs y (runs_at y (rows_at n zs us))
+        → Lined layers n (z ∷ zs) y (runs_at y (row_of z (get_or all n []) ++ rows_at n zs us))
+    behind ne (on_line s) = on_line (subst (AreStretchesBelow layers n y) (sym (skip y z (get_or all n []) (rows_at n zs us) ne)) s)
+    behind ne (no_line e c) = no_line (skip y z (get_or all n []) (rows_at n zs us) ne ∙ e)
         (λ k. elim (first_or_other z zs y k) [ | inl f ↦ ne f | inr f ↦ c f ])
 
 -- ---- where no layer has a row there is nothing
@@ -290,7 +291,23 @@ pub lines_length : (layers : List (List Row)) (want : Want) (ys : List ℤ) (all
     → AreLines layers want ys alls ls → length ys ≡ length ls
 lines_length layers want [] [] [] h = refl
 lines_length layers want [] [] (l ∷ ls) h = absurd h
-lines_length layers want [] (a ∷ as) ls h = absurd h
+lines_length layers want [] (a ∷ us) ls h = absurd h
 lines_length layers want (y ∷ ys) [] ls h = absurd h
-lines_length layers want (y ∷ ys) (a ∷ as) [] h = absurd h
-lines_length layers want (y ∷ ys) (a ∷ as) (l ∷ ls) h = ap suc (lines_length layers want ys as ls h.1)
+lines_length layers want (y ∷ ys) (a ∷ us) [] h = absurd h
+lines_length layers want (y ∷ ys) (a ∷ us) (l ∷ ls) h = ap suc (lines_length layers want ys us ls h.1)
+
+-- ---- as layers are pushed
+pub layers_more : (hs : List ℤ) (ls : List Line) (n : ℕ) (out new : List (List Row)) (rows : List Row) → length out ≡ n
+    → ((k : ℕ) → k < n → get_or out k [] ≡ kept_rows k hs ls) → rows ≡ kept_rows n hs ls → new ≡ out ++ rows ∷ []
+    → (k : ℕ) → k < n + 1 → get_or new k [] ≡ kept_rows k hs ls
+layers_more hs ls n out new rows e h r f k l =
+    ap (λ (all : List (List Row)). get_or all k []) f ∙ by_test (ltb k n) refl
+  where
+    by_test : (t : Bool) → ltb k n ≡ t → get_or (out ++ rows ∷ []) k [] ≡ kept_rows k hs ls
+    by_test true q =
+        let m : k < n = omega (arith, ltb-true k n q) in
+        get_or_append_left out (rows ∷ []) [] k (omega (arith, m, e)) ∙ h k m
+    by_test false q =
+        let m : n ≡ k = omega (arith, ltb-false k n q, l) in
+        ap (λ (j : ℕ). get_or (out ++ rows ∷ []) j []) (sym (e ∙ m)) ∙ get_or-append_seam out rows [] [] ∙ r
+        ∙ ap (λ (j : ℕ). kept_rows j hs ls) m

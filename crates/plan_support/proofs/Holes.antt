@@ -1,5 +1,5 @@
 -- The places of a row that aren't free: outlines wind round them, or they lie near to a side.
-use Rattle.std.proofs.Common.{◌≡◌, ◌≢◌, ◌⊎◌, inl, inr, ℕ, ◌+◌, ◌*◌, ◌<◌, ◌≤◌, ltb, Bool, true, false, not, Option, Some, None, List, [], ◌∷◌, ◌++◌, length, get_or, take, flat_map, refl, sym, ap, subst, ◌∙◌, arith, ℤ, pos, ◌+ℤ◌, ◌-ℤ◌, ◌<ℤ◌}
+use Rattle.std.proofs.Common.{◌≡◌, ◌≢◌, ◌⊎◌, inl, inr, ℕ, zero, suc, ◌+◌, ◌*◌, ◌<◌, ◌≤◌, ltb, Bool, true, false, not, Option, Some, None, List, [], ◌∷◌, ◌++◌, length, get_or, take, flat_map, refl, sym, ap, subst, ◌∙◌, arith, ℤ, pos, ◌+ℤ◌, ◌-ℤ◌, ◌<ℤ◌}
 use lib.Signed.{◌≤ℤ◌}
 use Rattle.std.specs.Prelude.{All, Contains, unsigned_abs, ◌||◌, option_to_list}
 use Rattle.std.proofs.lemmas.Int.{ints}
@@ -145,6 +145,11 @@ module _ (outlines : List (List Pt)) (y : ℤ) (gap i : ℕ) (holes : List Run) 
     where
       touches : (x : ℤ) → MeetsBox (pos (2 * gap)) (whole (point_at x y)) (whole e.a) (whole e.b) → IsFar gap y x e → ⊥
       touches x m f = f m.s m.t m.from m.to m.some m.close
+
+pub at_any : (xs : List Edge) (i : ℕ) (d e : Edge) → i < length xs → get_or xs i d ≡ get_or xs i e
+at_any [] i d e l = absurd (omega (arith, l))
+at_any (x ∷ xs) zero d e l = refl
+at_any (x ∷ xs) (suc i) d e l = at_any xs i d e (omega (arith, l))
 
 -- ---- when all have been looked at
 pub are_holes : (outlines : List (List Pt)) (y : ℤ) (gap i : ℕ) (holes united : List Run)

@@ -1,6 +1,8 @@
 -- The work on one line, from the top layer down, and on all lines.
 use Rattle.std.proofs.Common.{◌≡◌, ℕ, zero, suc, ◌+◌, ◌<◌, ◌≤◌, min, Bool, true, false, List, [], ◌∷◌, ◌++◌, length, get_or, drop, refl, sym, ap, ap₂, subst, ◌∙◌, arith, ℤ, add-zero, add-suc}
-use Rattle.std.specs.Prelude.{◌||◌, sum_by}
+use Rattle.std.specs.Prelude.{◌||◌, sum_by, All, if◌then◌else◌}
+use Rattle.std.specs.Ordering.{int_eq}
+use Rattle.std.proofs.lemmas.List.Elements.{All-head, All-tail}
 use Rattle.std.proofs.Math.Seq.{drop-cons, drop-length}
 use Rattle.plan_infill.specs.declared.run.Run.{Run}
 use Rattle.plan_support.specs.declared.line.Line.{Line}
@@ -77,10 +79,10 @@ lines_push : (layers : List (List Row)) (want : Want) (ys : List ℤ) (alls : Li
     → AreLines layers want (ys ++ y ∷ []) (alls ++ all ∷ []) (ls ++ l ∷ [])
 lines_push layers want [] [] [] y all l h k = (k, tt)
 lines_push layers want [] [] (m ∷ ms) y all l h k = absurd h
-lines_push layers want [] (a ∷ as) ls y all l h k = absurd h
+lines_push layers want [] (a ∷ us) ls y all l h k = absurd h
 lines_push layers want (z ∷ zs) [] ls y all l h k = absurd h
-lines_push layers want (z ∷ zs) (a ∷ as) [] y all l h k = absurd h
-lines_push layers want (z ∷ zs) (a ∷ as) (m ∷ ms) y all l h k = (h.0, lines_push layers want zs as ms y all l h.1 k)
+lines_push layers want (z ∷ zs) (a ∷ us) [] y all l h k = absurd h
+lines_push layers want (z ∷ zs) (a ∷ us) (m ∷ ms) y all l h k = (h.0, lines_push layers want zs us ms y all l h.1 k)
 
 pub lines_start : (layers : List (List Row)) (want : Want) → HasLines layers [] want []
 lines_start layers want = record { alls = []; are = tt }
@@ -89,3 +91,13 @@ pub lines_more : (layers : List (List Row)) (want : Want) (ys : List ℤ) (ls : 
     → HasLines layers ys want ls → HasLine layers y want l → HasLines layers (ys ++ y ∷ []) want (ls ++ l ∷ [])
 lines_more layers want ys ls y l h k =
     record { alls = h.alls ++ k.all ∷ []; are = lines_push layers want ys h.alls ls y k.all l h.are k.is }
+
+-- ---- the runs at a height stand apart
+pub runs_apart : (y : ℤ) (rows : List Row) → All (λ (r : Row). AreApart r.runs) rows → AreApart (runs_at y rows)
+runs_apart y [] a = tt
+runs_apart y (r ∷ rs) a = by_test (int_eq r.y y) (All-head (λ (q : Row). AreApart q.runs) r rs a)
+    (runs_apart y rs (All-tail (λ (q : Row). AreApart q.runs) r rs a))
+  where
+    by_test : (t : Bool) → AreApart r.runs → AreApart (runs_at y rs) → AreApart (if t then r.runs else runs_at y rs)
+    by_test true p q = p
+    by_test false p q = q

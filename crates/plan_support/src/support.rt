@@ -74,9 +74,10 @@ fn push_near(holes: &mut Vec<Run>, side: &Edge, y: i32, gap: u32) -> Result<(), 
     requires row { unsigned_abs y ≤ coordinate_limit }
     ensures { OnOk result (AddsNear side.now y gap holes.old.items holes.new.items) }
 {
-    if let Some(run) = near(side, y, gap) {
-        holes.push(run)?;
-    }
+    let Some(run) = near(side, y, gap) else {
+        return Ok(());
+    };
+    holes.push(run)?;
     Ok(())
 }
 

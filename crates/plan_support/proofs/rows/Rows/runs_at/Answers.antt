@@ -31,6 +31,6 @@ returns-in-Err c =
     subst (IsNonDecreasingBy (λ (z : ℤ). ordering_index (int_cmp z c.args.y))) (sym same)
     (searchable c.self.inside.heights.items c.self.inside.lists c.args.self.now c.args.y c.self.invariant c.self.view_is c.requires) in
     let p : IsPartitionPoint (λ (z : ℤ). int_cmp z c.args.y ≡ Less) (λ (z : ℤ). int_cmp z c.args.y ≡ Greater) c.as_slice.result.now c.in-Err.field-0 =
-    search (rules, casts) in
+    c.in-Err.ensures.position up in
     sym (missed_row c.self.inside.heights.items c.self.inside.lists c.args.self.now c.args.y c.in-Err.field-0 c.self.view_is
     (subst (λ (ys : List ℤ). IsPartitionPoint (λ (z : ℤ). int_cmp z c.args.y ≡ Less) (λ (z : ℤ). int_cmp z c.args.y ≡ Greater) ys c.in-Err.field-0) same p))
