@@ -12,14 +12,14 @@ use Rattle.plan_support.specs.On.{is_on, is_on_some, is_covered}
 use Rattle.plan_support.specs.Lines.{AreStretchesBelow, AreStretchesFrom, wanted_of, kept_of, greatest_count, IsLine, HasLine, AreLines, HasLines}
 
 -- what is known of the layers from the layer n on
-pub record AboveFrom (layers : List (List Row)) (y : ℤ) (want : Want) (n : ℕ) (above : List Run) (count : ℕ)
-    (kept : List (List Run)) : Type 0 where
+pub record AboveFrom (layers : List (List Row)) (y : ℤ) (want : Want) (n : ℕ) (above : List Run) (total : ℕ)
+    (lists : List (List Run)) : Type 0 where
   pub all : List (List Run)
   pub are : AreStretchesFrom layers n y all
   pub apart : AreApart above
   pub on : (x : ℤ) → is_on above x ≡ is_on_some (drop n layers) x y
-  pub count : count ≡ min (sum_by length all) greatest_count
-  pub kept : kept ≡ kept_of want all
+  pub counts : total ≡ min (sum_by length all) greatest_count
+  pub keeps : lists ≡ kept_of want all
 
 pub above_start : (layers : List (List Row)) (y : ℤ) (want : Want) → AboveFrom layers y want (length layers) [] 0 []
 above_start layers y want = record {
@@ -27,8 +27,8 @@ above_start layers y want = record {
   are = record { as_many = omega arith; each = λ k l. absurd (omega (arith, l)) };
   apart = tt;
   on = λ x. sym (ap (λ (ls : List (List Row)). is_on_some ls x y) (drop-length layers));
-  count = refl;
-  kept = refl;
+  counts = refl;
+  keeps = refl;
 }
 
 or_turned : (a b : Bool) → (a || b) ≡ (b || a)
@@ -49,7 +49,7 @@ module _ (layers : List (List Row)) (y : ℤ) (want : Want) (n : ℕ) (above : L
 
   counted : (total : ℕ) → total ≡ min (count + length above) greatest_count
       → total ≡ min (sum_by length (above ∷ a.all)) greatest_count
-  counted total e = let c = a.count in omega (arith, c, e)
+  counted total e = let c = a.counts in omega (arith, c, e)
 
   pub above_more : (more : List Run) (total : ℕ) (lists : List (List Run)) → AreApart more
       → ((x : ℤ) → is_on more x ≡ (is_on above x || is_on (runs_at y (get_or layers n [])) x))
@@ -64,14 +64,14 @@ module _ (layers : List (List Row)) (y : ℤ) (want : Want) (n : ℕ) (above : L
         ∙ ap (λ (j : ℕ). is_on_some (drop j layers) x y || is_on (runs_at y (get_or layers n [])) x) (omega arith)
         ∙ or_turned (is_on_some (drop (suc n) layers) x y) (is_on (runs_at y (get_or layers n [])) x)
         ∙ sym (ap (λ (ls : List (List Row)). is_on_some ls x y) (drop-cons layers n [] l));
-    count = counted total c;
-    kept = k ∙ ap (λ (ls : List (List Run)). ls ++ wanted_of want above) a.kept;
+    counts = counted total c;
+    keeps = k ∙ ap (λ (ls : List (List Run)). ls ++ wanted_of want above) a.keeps;
   }
 
 -- when all layers are passed
 pub line_of : (layers : List (List Row)) (y : ℤ) (want : Want) (above : List Run) (line : Line)
     → AboveFrom layers y want 0 above line.count line.covers → HasLine layers y want line
-line_of layers y want above line a = record { all = a.all; is = record { are = a.are; count = a.count; kept = a.kept } }
+line_of layers y want above line a = record { all = a.all; is = record { are = a.are; count = a.counts; kept = a.keeps } }
 
 -- ---- one line after another
 lines_push : (layers : List (List Row)) (want : Want) (ys : List ℤ) (alls : List (List (List Run))) (ls : List Line)

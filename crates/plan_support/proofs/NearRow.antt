@@ -9,7 +9,7 @@ use Rattle.scad_geom.specs.declared.point.Edge.{Edge}
 use Rattle.scad_geom.specs.Point.{whole}
 use Rattle.scad_geom.specs.Line.{low, high, rise, run, offset, x_at}
 use Rattle.scad_geom.specs.Near.{mean, IsHalf, IsClose, MeetsBox, IsClear}
-use Rattle.scad_geom.proofs.Ring.{ring, num, ◌⊕◌, ◌⊖◌, ◌⊗◌, v0, v1, v2, v3, v4, v5}
+use Rattle.scad_geom.proofs.Ring.{ring, num, ◌⊕◌, ◌⊖◌, ◌⊗◌, v0, v1, v2, v3, v4, v5, v6}
 use Rattle.scad_geom.proofs.Rising.{Lies, Found, Passes, found, passes, by_order, order}
 use Rattle.scad_geom.proofs.Signs.{at_least_mul}
 use Rattle.plan_support.specs.Spans.{point_at}
@@ -56,7 +56,7 @@ lies_of gap s t a b x h =
 abbrev pub FoundFor : ℕ → ℤ → ℤ → Pt → Pt → Type 0
 FoundFor gap x y a b = Found (pos gap) (a.x -ℤ x) (a.y -ℤ y) (b.x -ℤ x) (b.y -ℤ y)
 
-meets_if : (gap : ℕ) (x y : ℤ) (a b : Pt) → FoundFor gap x y a b
+pub meets_if : (gap : ℕ) (x y : ℤ) (a b : Pt) → FoundFor gap x y a b
     → MeetsBox (pos (2 * gap)) (whole (point_at x y)) (whole a) (whole b)
 meets_if gap x y a b f = record {
   s = f.s;
@@ -67,7 +67,7 @@ meets_if gap x y a b f = record {
   close = record { across = half_of gap f.s f.t a.x b.x x f.x; along = half_of gap f.s f.t a.y b.y y f.y };
 }
 
-found_if : (gap : ℕ) (x y : ℤ) (a b : Pt) (s t : ℤ) → pos 0 ≤ℤ s → pos 0 ≤ℤ t → pos 0 <ℤ (s +ℤ t)
+pub found_if : (gap : ℕ) (x y : ℤ) (a b : Pt) (s t : ℤ) → pos 0 ≤ℤ s → pos 0 ≤ℤ t → pos 0 <ℤ (s +ℤ t)
     → IsClose (pos (2 * gap)) (whole (point_at x y)) (mean s t (whole a) (whole b)) → FoundFor gap x y a b
 found_if gap x y a b s t from to some c = record {
   s = s;

@@ -1,16 +1,21 @@
 -- The places that an edge reaches, by its ends and by its line.
-use Rattle.std.proofs.Common.{◌≡◌, ℕ, arith, ℤ, pos, ◌+ℤ◌, ◌-ℤ◌, ◌*ℤ◌, ◌<ℤ◌}
+use Rattle.std.proofs.Common.{◌≡◌, ℕ, Bool, true, false, Some, None, [], ◌∷◌, refl, arith, ℤ, pos, ◌+ℤ◌, ◌-ℤ◌, ◌*ℤ◌, ◌<ℤ◌}
 use lib.Signed.{◌≤ℤ◌}
-use Rattle.std.specs.Prelude.{◌↔◌, unsigned_abs}
+use Rattle.std.specs.Prelude.{◌↔◌, unsigned_abs, int_le, ◌||◌, ◌&&◌}
 use Rattle.std.specs.Int.{int_min, int_max}
 use Rattle.std.proofs.lemmas.Int.{ints}
+use Rattle.std.proofs.lemmas.Bool.{both_ways, and_parts}
+use Rattle.std.proofs.lemmas.List.Elements.{All-nil, All-cons}
 use Rattle.scad_geom.specs.declared.point.Edge.{Edge}
 use Rattle.scad_geom.specs.Line.{low, high, rise, x_at}
 use Rattle.scad_geom.proofs.Rising.{by_order, order}
 use Rattle.plan_infill.specs.Quotient.{IsFloor, IsCeiling}
 use Rattle.plan_infill.proofs.Quotients.{at_most_times, after_floor, before_ceiling}
+use Rattle.plan_infill.specs.declared.run.Run.{Run}
+use Rattle.plan_support.specs.On.{is_on}
+use Rattle.plan_support.proofs.Canonical.{place_on, first_in}
 use Rattle.plan_support.specs.declared.reach.Reach.{Reach}
-use Rattle.plan_support.specs.Near.{IsIn, IsBesideEnds, IsBesideLine, line_reach, IsWithinReach}
+use Rattle.plan_support.specs.Near.{IsIn, IsBesideEnds, IsBesideLine, line_reach, IsWithinReach, IsClipped}
 use Rattle.plan_support.proofs.Extents.{lesser, greater}
 
 from_ceiling : (n d r x : ℤ) → pos 0 <ℤ d → IsCeiling n d r → r ≤ℤ x → n ≤ℤ (x *ℤ d)
@@ -75,3 +80,53 @@ module _ (e : Edge) (y : ℤ) (gap : ℕ) (ends : Reach) (from : ends.from ≡ i
               (to_floor (x_at e y (pos 1) +ℤ line_reach e gap) (rise e) line.to x rises f s.to);
         }),
       )
+
+-- ---- clipped to the places that a run can have
+module _ (from to first last : ℤ) (f : first ≡ int_max from (pos 0 -ℤ pos 2147483648)) (t : last ≡ int_min to (pos 2147483647)) where
+  pub clipped_some : first ≤ℤ last → IsClipped from to (Some (record { from = first; to = last }))
+  clipped_some o =
+      let g = greater from (pos 0 -ℤ pos 2147483648) first f in
+      let l = lesser to (pos 2147483647) last t in
+      let g1 = g.first in
+      let l1 = l.first in
+      record {
+        some = All-cons (λ (r : Run). r.from ≤ℤ r.to) (record { from = first; to = last }) [] o (All-nil (λ (r : Run). r.from ≤ℤ r.to));
+        is = λ x p. (
+            (λ h.
+            let a = place_from x h in
+            let b = place_to x h in
+            (omega (arith, ints, a, g1), omega (arith, ints, b, l1))),
+            (λ k.
+            let a = g.least x k.0 p.from in
+            let b = l.greatest x k.1 p.to in
+            place_on (record { from = first; to = last } ∷ []) (record { from = first; to = last }) x
+            (first_in (record { from = first; to = last }) []) a b),
+        );
+      }
+    where
+      or_false : (b : Bool) → (b || false) ≡ true → b ≡ true
+      or_false true h = refl
+      or_false false h = h
+      place_from : (x : ℤ) → is_on (record { from = first; to = last } ∷ []) x ≡ true → first ≤ℤ x
+      place_from x h =
+          let p = (and_parts (int_le first x) (int_le x last) (or_false (int_le first x && int_le x last) h)).0 in
+          omega (arith, ints, p)
+      place_to : (x : ℤ) → is_on (record { from = first; to = last } ∷ []) x ≡ true → x ≤ℤ last
+      place_to x h =
+          let p = (and_parts (int_le first x) (int_le x last) (or_false (int_le first x && int_le x last) h)).1 in
+          omega (arith, ints, p)
+
+  pub clipped_none : last <ℤ first → IsClipped from to None
+  clipped_none o =
+      let g = greater from (pos 0 -ℤ pos 2147483648) first f in
+      let l = lesser to (pos 2147483647) last t in
+      record {
+        some = All-nil (λ (r : Run). r.from ≤ℤ r.to);
+        is = λ x p. (
+            (λ h. absurd (both_ways _ refl h)),
+            (λ k.
+            let a = g.least x k.0 p.from in
+            let b = l.greatest x k.1 p.to in
+            absurd (omega (arith, ints, o, a, b))),
+        );
+      }

@@ -37,12 +37,13 @@ pub fn covers<R: Threads + Sync>(
     ensures runs { (counted : ℕ) → result ≡ Err (Runs counted) → AreTooMany layers.now counted }
 {
     let heights = heights_of(alloc, layers)?;
-    let counted = counted(alloc, layers, &heights)?;
+    let heights = heights.as_slice();
+    let counted = counted(alloc, layers, heights)?;
     if counted > STRETCH_LIMIT {
         return Err(CoverFault::Runs(counted));
     }
-    let lines = work_lines(alloc, layers, &heights, Want::Stretches)?;
-    Ok(gathered(alloc, &heights, &lines, layers.len())?)
+    let lines = work_lines(alloc, layers, heights, Want::Stretches)?;
+    Ok(gathered(alloc, heights, lines.as_slice(), layers.len())?)
 }
 
 // How many stretches there are on the lines at heights.

@@ -1,5 +1,5 @@
 //! Which places of a row lie near to an edge.
-ghost use Rattle.std.specs.Prelude.{◌≡◌, ◌≤◌, ◌^◌, ◌+ℤ◌, ◌-ℤ◌, ◌<ℤ◌, ◌&&◌, int_le, pos, unsigned_abs};
+ghost use Rattle.std.specs.Prelude.{◌≡◌, ◌<◌, ◌≤◌, ◌^◌, ◌+ℤ◌, ◌-ℤ◌, ◌<ℤ◌, ◌&&◌, int_le, pos, unsigned_abs};
 ghost use Rattle.std.specs.Int.{int_min, int_max};
 ghost use Rattle.scad_geom.specs.Limits.{coordinate_limit};
 ghost use Rattle.scad_geom.specs.Within.{IsEdgeWithin};
@@ -28,11 +28,31 @@ pub(crate) fn near(e: &Edge, y: i32, gap: u32) -> Option<Run>
 
 // Whether an edge has a point at a height within the gap of that of a row.
 fn is_beside(e: &Edge, y: i32, gap: u32) -> bool
+    requires { IsEdgeWithin coordinate_limit e.now }
     ensures { result ≡ (int_le ((low e.now).y -ℤ pos gap) y && int_le y ((high e.now).y +ℤ pos gap)) }
 {
-    let starts = low(e).y as i64 - gap as i64 <= y as i64;
-    let ends = y as i64 <= high(e).y as i64 + gap as i64;
-    starts && ends
+    starts_by(e, y, gap) && ends_from(e, y, gap)
+}
+
+fn starts_by(e: &Edge, y: i32, gap: u32) -> bool
+    requires { IsEdgeWithin coordinate_limit e.now }
+    ensures { result ≡ int_le ((low e.now).y -ℤ pos gap) y }
+{
+    minus(low(e).y as i128, signed(gap)) <= y as i128
+}
+
+fn ends_from(e: &Edge, y: i32, gap: u32) -> bool
+    requires { IsEdgeWithin coordinate_limit e.now }
+    ensures { result ≡ int_le y ((high e.now).y +ℤ pos gap) }
+{
+    y as i128 <= plus(high(e).y as i128, signed(gap))
+}
+
+fn signed(gap: u32) -> i128
+    ensures value { result ≡ pos gap }
+    ensures size { unsigned_abs result < 2 ^ 32 }
+{
+    gap as i128
 }
 
 // The places of a row to which an edge beside it comes near.
@@ -55,12 +75,26 @@ fn reached_by_ends(e: &Edge, gap: u32) -> Reach
     ensures from { result.from ≡ int_min (low e.now).x (high e.now).x -ℤ pos gap }
     ensures to { result.to ≡ int_max (low e.now).x (high e.now).x +ℤ pos gap }
 {
-    let a = low(e).x;
-    let b = high(e).x;
     Reach {
-        from: minus(a.min(b) as i128, gap as i128),
-        to: plus(a.max(b) as i128, gap as i128),
+        from: minus(left_end(e), signed(gap)),
+        to: plus(right_end(e), signed(gap)),
     }
+}
+
+fn left_end(e: &Edge) -> i128
+    requires { IsEdgeWithin coordinate_limit e.now }
+    ensures value { result ≡ int_min (low e.now).x (high e.now).x }
+    ensures size { unsigned_abs result ≤ 2 ^ 31 }
+{
+    low(e).x.min(high(e).x) as i128
+}
+
+fn right_end(e: &Edge) -> i128
+    requires { IsEdgeWithin coordinate_limit e.now }
+    ensures value { result ≡ int_max (low e.now).x (high e.now).x }
+    ensures size { unsigned_abs result ≤ 2 ^ 31 }
+{
+    low(e).x.max(high(e).x) as i128
 }
 
 // Those that aren't far to the left or right of the line.
@@ -95,7 +129,7 @@ fn line_reach(e: &Edge, gap: u32) -> i128
     ensures value { result ≡ line_reach e.now gap }
     ensures size { unsigned_abs result ≤ 2 ^ 56 }
 {
-    times::<32, 24>(gap as i128, plus(run(e).abs(), rise(e)))
+    times::<32, 24>(signed(gap), plus(run(e).abs(), rise(e)))
 }
 
 // What lies in both.
@@ -113,8 +147,8 @@ fn both(a: Reach, b: Reach) -> Reach
 fn clipped(reach: Reach) -> Option<Run>
     ensures { IsClipped reach.from reach.to result }
 {
-    let from = reach.from.max(i32::MIN as i128);
-    let to = reach.to.min(i32::MAX as i128);
+    let from = first_place(reach.from);
+    let to = last_place(reach.to);
     if to < from {
         return None;
     }
@@ -122,6 +156,18 @@ fn clipped(reach: Reach) -> Option<Run>
         from: from as i32,
         to: to as i32,
     })
+}
+
+fn first_place(from: i128) -> i128
+    ensures { result ≡ int_max from (pos 0 -ℤ pos 2147483648) }
+{
+    from.max(i32::MIN as i128)
+}
+
+fn last_place(to: i128) -> i128
+    ensures { result ≡ int_min to (pos 2147483647) }
+{
+    to.min(i32::MAX as i128)
 }
 
 // The greatest whole number that is at most n / d.

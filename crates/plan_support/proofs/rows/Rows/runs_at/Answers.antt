@@ -1,10 +1,11 @@
-use Rattle.std.proofs.Common.{Less, Equal, Greater, ◌≡◌, ◌<◌, List, length, sym, subst, ap, ◌∙◌, arith, rules, ℤ}
+use Rattle.std.proofs.Common.{Less, Equal, Greater, ◌≡◌, ◌<◌, List, length, to_z, of_z, sym, subst, ap, ◌∙◌, arith, rules, ℤ}
 use Rattle.std.specs.Ordering.{int_cmp, ordering_index}
 use Rattle.std.specs.List.{HoldsAt}
 use Rattle.std.specs.List.Sorted.{IsNonDecreasingBy, IsPartitionPoint}
 use Rattle.scad_geom.proofs.Casts.{casts}
 use Rattle.plan_support.proofs.Listed.{searchable, found_row, missed_row}
 use Rattle.plan_support.proofs.rows.Rows.runs_at.Goals as goal
+use mir.Syntax.{w32}
 
 pub get-requires : goal.get-requires
 get-requires c =
@@ -30,7 +31,10 @@ returns-in-Err c =
     let up : IsNonDecreasingBy (λ (z : ℤ). ordering_index (int_cmp z c.args.y)) c.as_slice.result.now =
     subst (IsNonDecreasingBy (λ (z : ℤ). ordering_index (int_cmp z c.args.y))) (sym same)
     (searchable c.self.inside.heights.items c.self.inside.lists c.args.self.now c.args.y c.self.invariant c.self.view_is c.requires) in
+    let y : to_z w32 (of_z w32 c.args.y) ≡ c.args.y = search (rules, casts) in
     let p : IsPartitionPoint (λ (z : ℤ). int_cmp z c.args.y ≡ Less) (λ (z : ℤ). int_cmp z c.args.y ≡ Greater) c.as_slice.result.now c.in-Err.field-0 =
-    c.in-Err.ensures.position up in
+    subst (λ (h : ℤ). IsNonDecreasingBy (λ (z : ℤ). ordering_index (int_cmp z h)) c.as_slice.result.now
+    → IsPartitionPoint (λ (z : ℤ). int_cmp z h ≡ Less) (λ (z : ℤ). int_cmp z h ≡ Greater) c.as_slice.result.now c.in-Err.field-0)
+    y c.in-Err.ensures.position up in
     sym (missed_row c.self.inside.heights.items c.self.inside.lists c.args.self.now c.args.y c.in-Err.field-0 c.self.view_is
     (subst (λ (ys : List ℤ). IsPartitionPoint (λ (z : ℤ). int_cmp z c.args.y ≡ Less) (λ (z : ℤ). int_cmp z c.args.y ≡ Greater) ys c.in-Err.field-0) same p))
