@@ -1,10 +1,9 @@
 -- The stretches of lines are as many as those of layers, and one for each line and layer.
-use Rattle.std.proofs.Common.{◌≡◌, ◌⊎◌, inl, inr, ℕ, zero, suc, ◌+◌, ◌<◌, ◌≤◌, min, Bool, true, false, List, [], ◌∷◌, ◌++◌, length, get_or, take, refl, sym, ap, ap₂, subst, ◌∙◌, arith, ℤ, pos, ◌+ℤ◌, ◌-ℤ◌, ◌<ℤ◌}
+use Rattle.std.proofs.Common.{◌≡◌, ◌⊎◌, inl, inr, ℕ, zero, suc, ◌+◌, ◌<◌, ◌≤◌, min, Bool, true, false, List, [], ◌∷◌, ◌++◌, length, get_or, refl, sym, ap, ap₂, subst, ◌∙◌, arith, ℤ, pos, ◌+ℤ◌, ◌-ℤ◌, ◌<ℤ◌}
 use lib.Signed.{◌≤ℤ◌}
 use Rattle.std.specs.Prelude.{All, Contains, ◌||◌, sum_by}
 use Rattle.std.proofs.lemmas.Int.{ints}
 use Rattle.std.proofs.lemmas.Bool.{both_ways}
-use Rattle.std.proofs.lemmas.List.{take_more}
 use Rattle.std.proofs.lemmas.List.Sums.{sum_by-append}
 use Rattle.std.proofs.lemmas.List.Elements.{All-from_get_or}
 use Rattle.scad_geom.proofs.Rising.{by_order, order}
@@ -63,12 +62,21 @@ count_empties : (n : ℕ) → run_count (empties n) ≡ 0
 count_empties zero = refl
 count_empties (suc n) = count_empties n
 
+sum_cons : {X : Type 0} (f : X → ℕ) (x : X) (xs : List X) → sum_by f (x ∷ xs) ≡ f x + sum_by f xs
+sum_cons f x xs = let s : sum_by f (x ∷ xs) ≡ (0 + f x) + sum_by f xs = sum_by-append f (x ∷ []) xs in omega (arith, s)
+
+abbrev rows_count_of : Row → ℕ
+rows_count_of r = length r.runs
+
 abbrev rows_count : List Row → ℕ
-rows_count rows = sum_by (λ (r : Row). length r.runs) rows
+rows_count rows = sum_by rows_count_of rows
+
+abbrev line_count : List (List Run) → ℕ
+line_count all = sum_by length all
 
 count_row : (y : ℤ) (r : List Run) (c : List Row) → rows_count (row_of y r ++ c) ≡ length r + rows_count c
-count_row y [] c = refl
-count_row y (q ∷ qs) c = refl
+count_row y [] c = omega arith
+count_row y (q ∷ qs) c = sum_cons rows_count_of (record { y = y; runs = q ∷ qs }) c
 
 count_zip : (y : ℤ) (all : List (List Run)) (cs : List (List Row)) → length all ≡ length cs
     → run_count (zip_rows y all cs) ≡ sum_by length all + run_count cs
@@ -76,9 +84,13 @@ count_zip y [] [] e = refl
 count_zip y [] (c ∷ cs) e = absurd (omega (arith, e))
 count_zip y (r ∷ rs) [] e = absurd (omega (arith, e))
 count_zip y (r ∷ rs) (c ∷ cs) e =
-    let f = count_row y r c in
-    let g = count_zip y rs cs (omega (arith, e)) in
-    omega (arith, f, g)
+    sums (run_count ((row_of y r ++ c) ∷ zip_rows y rs cs)) (rows_count (row_of y r ++ c)) (run_count (zip_rows y rs cs))
+    (sum_by length (r ∷ rs)) (length r) (sum_by length rs) (run_count (c ∷ cs)) (rows_count c) (run_count cs)
+    (sum_cons rows_count (row_of y r ++ c) (zip_rows y rs cs)) (count_row y r c) (count_zip y rs cs (omega (arith, e)))
+    (sum_cons length r rs) (sum_cons rows_count c cs)
+  where
+    sums : (t a b u r v w c d : ℕ) → t ≡ a + b → a ≡ r + c → b ≡ v + d → u ≡ r + v → w ≡ c + d → t ≡ u + w
+    sums t a b u r v w c d p q s x y = omega (arith, p, q, s, x, y)
 
 module _ (layers : List (List Row)) (want : Want) where
   long : (y : ℤ) (all : List (List Run)) (line : Line) → IsLine layers y want all line → length all ≡ length layers
@@ -111,9 +123,9 @@ module _ (layers : List (List Row)) (want : Want) where
   count_covers (y ∷ ys) (a ∷ us) [] h = absurd h
   count_covers (y ∷ ys) (a ∷ us) (l ∷ ls) h =
       let e = length_covers ys us ls h.1 in
-      let f = count_zip y a (covers_of (length layers) ys us) (long y a l h.0 ∙ sym e) in
-      let g = count_covers ys us ls h.1 in
-      omega (arith, f, g)
+      count_zip y a (covers_of (length layers) ys us) (long y a l h.0 ∙ sym e)
+      ∙ ap (λ (n : ℕ). sum_by length a + n) (count_covers ys us ls h.1)
+      ∙ sym (sum_cons line_count a us)
 
   -- the lines' own numbers tell the same
   counts : (ys : List ℤ) (alls : List (List (List Run))) (lines : List Line) → AreLines layers want ys alls lines
@@ -125,8 +137,10 @@ module _ (layers : List (List Row)) (want : Want) where
   counts (y ∷ ys) [] ls h = absurd h
   counts (y ∷ ys) (a ∷ us) [] h = absurd h
   counts (y ∷ ys) (a ∷ us) (l ∷ ls) h =
-      added l.count (sum_by length a) (sum_by (λ (m : Line). m.count) ls) (sum_by (λ (all : List (List Run)). sum_by length all) us)
+      ap (λ (n : ℕ). min n greatest_count) (sum_cons (λ (m : Line). m.count) l ls)
+      ∙ added l.count (sum_by length a) (sum_by (λ (m : Line). m.count) ls) (sum_by (λ (all : List (List Run)). sum_by length all) us)
       h.0.count (counts ys us ls h.1)
+      ∙ ap (λ (n : ℕ). min n greatest_count) (sym (sum_cons line_count a us))
     where
       added : (c s p t : ℕ) → c ≡ min s greatest_count → min p greatest_count ≡ min t greatest_count
           → min (c + p) greatest_count ≡ min (s + t) greatest_count
@@ -263,13 +277,3 @@ module _ (layers covers : List (List Row)) (heights : List ℤ) (alls : List (Li
       let f : sum_by (λ (all : List (List Run)). sum_by length all) c.alls ≡ sum_by (λ (all : List (List Run)). sum_by length all) alls =
       ap (sum_by (λ (all : List (List Run)). sum_by length all)) (same_lines layers Count Stretches heights c.alls alls c.lines lines c.are are) in
       omega (arith, n, e, f, o)
-
--- ---- as lines are counted, one after another
-pub count_more : (lines : List Line) (i count new : ℕ) (d : Line) → i < length lines
-    → count ≡ min (sum_by (λ (l : Line). l.count) (take i lines)) greatest_count
-    → new ≡ min (count + (get_or lines i d).count) greatest_count
-    → new ≡ min (sum_by (λ (l : Line). l.count) (take (i + 1) lines)) greatest_count
-count_more lines i count new d l e f =
-    let s = ap (sum_by (λ (m : Line). m.count)) (take_more lines i d l)
-    ∙ sum_by-append (λ (m : Line). m.count) (take i lines) (get_or lines i d ∷ []) in
-    omega (arith, s, e, f)

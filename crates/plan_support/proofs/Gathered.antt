@@ -4,11 +4,10 @@ use lib.Signed.{◌≤ℤ◌}
 use Rattle.std.specs.Prelude.{All, Contains, unsigned_abs, ◌||◌, sum_by, nat_lt, if◌then◌else◌}
 use Rattle.std.specs.List.{list_any}
 use Rattle.std.proofs.Math.Seq.{drop-cons, get_or-append_seam}
-use Rattle.std.proofs.Math.ListN.{drop_of_length-le}
 use Rattle.std.proofs.lemmas.Int.{ints}
 use Rattle.std.proofs.lemmas.Bool.{both_ways}
 use borrow.Author.Tests.{ltb-true, ltb-false}
-use Rattle.std.proofs.lemmas.List.{append-nil, append_assoc, get_or_append_left, length-append}
+use Rattle.std.proofs.lemmas.List.{get_or_append_left, length-append}
 use Rattle.std.proofs.lemmas.List.Sums.{sum_by-append}
 use Rattle.std.proofs.lemmas.List.Elements.{All-nil, All-head, All-tail, All-cons, All-append, All-weaker, Contains-append_left, Contains-append_right}
 use Rattle.scad_geom.specs.Limits.{coordinate_limit}
@@ -45,7 +44,9 @@ covered_lower layers n (suc k) x y h =
     covered_lower layers n k x y (any_rest (λ rows. is_on (runs_at y rows) x) layers ((n + k) + 1) (again h))
   where
     again : is_covered layers (n + suc k) x y ≡ true → list_any (λ rows. is_on (runs_at y rows) x) (drop (suc ((n + k) + 1)) layers) ≡ true
-    again h = subst (λ (j : ℕ). list_any (λ rows. is_on (runs_at y rows) x) (drop j layers) ≡ true) (omega arith) h
+    again h =
+        let e : (n + suc k) + 1 ≡ suc ((n + k) + 1) = omega arith in
+        subst (λ (j : ℕ). list_any (λ rows. is_on (runs_at y rows) x) (drop j layers) ≡ true) e h
 
 -- where a layer has no stretch on a line, no higher one has
 no_more_above : (layers : List (List Row)) (n k : ℕ) (y : ℤ) (more : List Run) → AreStretchesBelow layers n y []
@@ -69,7 +70,9 @@ sinks layers n y (r ∷ rs) a = (
   (λ e k d l. none_at e k d l),
   sinks layers (n + 1) y rs (record {
     as_many = (let m = a.as_many in omega (arith, m));
-    each = λ k l. subst (λ (j : ℕ). AreStretchesBelow layers j y (get_or rs k [])) (omega arith) (a.each (suc k) (omega (arith, l)));
+    each = λ k l.
+        let e : n + suc k ≡ (n + 1) + k = omega arith in
+        subst (λ (j : ℕ). AreStretchesBelow layers j y (get_or rs k [])) e (a.each (suc k) (omega (arith, l)));
   }),
 )
   where
@@ -95,41 +98,65 @@ none_there [] n a = refl
 none_there (r ∷ rs) zero a = All-head (λ (q : List Run). q ≡ []) r rs a
 none_there (r ∷ rs) (suc n) a = none_there rs n (All-tail (λ (q : List Run). q ≡ []) r rs a)
 
-one_row : (n : ℕ) (y : ℤ) (ks : List (List Run)) (q : Run) (qs : List Run)
-    → kept_row n y (ks ++ (q ∷ qs) ∷ []) ≡ cond (nat_lt n (suc (length ks)))
-    (record { y = y; runs = get_or (ks ++ (q ∷ qs) ∷ []) (length ks - n) [] } ∷ []) []
-one_row n y ks q qs =
-    let e : length (ks ++ (q ∷ qs) ∷ []) ≡ suc (length ks) = length-append ks ((q ∷ qs) ∷ []) ∙ omega arith in
-    ap (λ (m : ℕ). cond (nat_lt n m) (record { y = y; runs = get_or (ks ++ (q ∷ qs) ∷ []) (m - (n + 1)) [] } ∷ []) []) e
-    ∙ ap (λ (m : ℕ). cond (nat_lt n (suc (length ks))) (record { y = y; runs = get_or (ks ++ (q ∷ qs) ∷ []) m [] } ∷ []) []) (omega arith)
+less : (a b : ℕ) → a < b → nat_lt a b ≡ true
+less a b h = by_test (nat_lt a b) refl
+  where
+    by_test : (t : Bool) → nat_lt a b ≡ t → t ≡ true
+    by_test true e = refl
+    by_test false e = let m = ltb-false a b e in absurd (omega (arith, m, h))
+
+not_less : (a b : ℕ) → b ≤ a → nat_lt a b ≡ false
+not_less a b h = by_test (nat_lt a b) refl
+  where
+    by_test : (t : Bool) → nat_lt a b ≡ t → t ≡ false
+    by_test true e = let m = ltb-true a b e in absurd (omega (arith, m, h))
+    by_test false e = refl
+
+longer : (ks : List (List Run)) (r : List Run) → length (ks ++ r ∷ []) ≡ length ks + 1
+longer ks r = length-append ks (r ∷ [])
+
+-- one list more is that of the lowest layer, and the others are those of one layer more
+row_lowest : (y : ℤ) (ks : List (List Run)) (r : List Run) → kept_row 0 y (ks ++ r ∷ []) ≡ record { y = y; runs = r } ∷ []
+row_lowest y ks r =
+    let e = longer ks r in
+    let m : length (ks ++ r ∷ []) - (0 + 1) ≡ length ks = omega (arith, e) in
+    ap (λ (t : Bool). cond t (record { y = y; runs = get_or (ks ++ r ∷ []) (length (ks ++ r ∷ []) - (0 + 1)) [] } ∷ []) [])
+    (less 0 (length (ks ++ r ∷ [])) (omega (arith, e)))
+    ∙ ap (λ (j : ℕ). record { y = y; runs = get_or (ks ++ r ∷ []) j [] } ∷ []) m
+    ∙ ap (λ (q : List Run). record { y = y; runs = q } ∷ []) (get_or-append_seam ks r [] [])
+
+row_higher : (n : ℕ) (y : ℤ) (ks : List (List Run)) (r : List Run) → kept_row (suc n) y (ks ++ r ∷ []) ≡ kept_row n y ks
+row_higher n y ks r = by_test (nat_lt n (length ks)) refl
+  where
+    by_test : (t : Bool) → nat_lt n (length ks) ≡ t → kept_row (suc n) y (ks ++ r ∷ []) ≡ kept_row n y ks
+    by_test true e =
+        let l = ltb-true n (length ks) e in
+        let m = longer ks r in
+        let i : length (ks ++ r ∷ []) - (suc n + 1) ≡ length ks - (n + 1) = omega (arith, m, l) in
+        ap (λ (t : Bool). cond t (record { y = y; runs = get_or (ks ++ r ∷ []) (length (ks ++ r ∷ []) - (suc n + 1)) [] } ∷ []) [])
+        (less (suc n) (length (ks ++ r ∷ [])) (omega (arith, m, l)))
+        ∙ ap (λ (j : ℕ). record { y = y; runs = get_or (ks ++ r ∷ []) j [] } ∷ []) i
+        ∙ ap (λ (q : List Run). record { y = y; runs = q } ∷ []) (get_or_append_left ks (r ∷ []) [] (length ks - (n + 1)) (omega (arith, l)))
+        ∙ sym (ap (λ (t : Bool). cond t (record { y = y; runs = get_or ks (length ks - (n + 1)) [] } ∷ []) []) e)
+    by_test false e =
+        let l = ltb-false n (length ks) e in
+        let m = longer ks r in
+        ap (λ (t : Bool). cond t (record { y = y; runs = get_or (ks ++ r ∷ []) (length (ks ++ r ∷ []) - (suc n + 1)) [] } ∷ []) [])
+        (not_less (suc n) (length (ks ++ r ∷ [])) (omega (arith, m, l)))
+        ∙ sym (ap (λ (t : Bool). cond t (record { y = y; runs = get_or ks (length ks - (n + 1)) [] } ∷ []) []) e)
 
 row_kept : (all : List (List Run)) (n : ℕ) (y : ℤ) → Sinks all → kept_row n y (kept_of Stretches all) ≡ row_of y (get_or all n [])
-row_kept [] n y s = refl
+row_kept [] n y s = ap (λ (t : Bool). cond t (record { y = y; runs = get_or [] (0 - (n + 1)) [] } ∷ []) []) (not_less n 0 (omega arith))
 row_kept ([] ∷ rs) n y s =
-    let a = s.0 refl in
-    ap (λ (ks : List (List Run)). kept_row n y (ks ++ [])) (none_kept rs a) ∙ sym (ap (row_of y) (at_none n))
+    ap (λ (ks : List (List Run)). kept_row n y (ks ++ [])) (none_kept rs (s.0 refl))
+    ∙ ap (λ (t : Bool). cond t (record { y = y; runs = get_or [] (0 - (n + 1)) [] } ∷ []) []) (not_less n 0 (omega arith))
+    ∙ sym (ap (row_of y) (at_none n))
   where
     at_none : (n : ℕ) → get_or ([] ∷ rs) n [] ≡ []
     at_none zero = refl
     at_none (suc n) = none_there rs n (s.0 refl)
-row_kept ((q ∷ qs) ∷ rs) zero y s =
-    let ks = kept_of Stretches rs in
-    one_row 0 y ks q qs ∙ ap (λ (r : List Run). record { y = y; runs = r } ∷ []) (get_or-append_seam ks (q ∷ qs) [] [])
-row_kept ((q ∷ qs) ∷ rs) (suc n) y s =
-    let ks = kept_of Stretches rs in
-    one_row (suc n) y ks q qs ∙ by_test (nat_lt n (length ks)) refl ∙ row_kept rs n y s.1
-  where
-    ks : List (List Run)
-    ks = kept_of Stretches rs
-    by_test : (t : Bool) → nat_lt n (length ks) ≡ t
-        → cond t (record { y = y; runs = get_or (ks ++ (q ∷ qs) ∷ []) (length ks - suc n) [] } ∷ []) []
-        ≡ cond t (record { y = y; runs = get_or ks (length ks - (n + 1)) [] } ∷ []) []
-    by_test true e =
-        let l : n < length ks = omega (arith, e) in
-        ap (λ (r : List Run). record { y = y; runs = r } ∷ [])
-        (ap (λ (m : ℕ). get_or (ks ++ (q ∷ qs) ∷ []) m []) (omega arith)
-        ∙ get_or_append_left ks ((q ∷ qs) ∷ []) [] (length ks - (n + 1)) (omega (arith, l)))
-    by_test false e = refl
+row_kept ((q ∷ qs) ∷ rs) zero y s = row_lowest y (kept_of Stretches rs) (q ∷ qs)
+row_kept ((q ∷ qs) ∷ rs) (suc n) y s = row_higher n y (kept_of Stretches rs) (q ∷ qs) ∙ row_kept rs n y s.1
 
 -- ---- the rows of one layer
 abbrev pub rows_at : ℕ → List ℤ → List (List (List Run)) → List Row
@@ -218,7 +245,10 @@ lined layers want n (z ∷ zs) (all ∷ us) (m ∷ ms) y l a h = by_order (order
     (λ o. behind (λ e. omega (arith, ints, e, o)) (lined layers want n zs us ms y l a.1 h.1))
   where
     there : AreStretchesBelow layers n z (get_or all n [])
-    there = let m = h.0.are.as_many in h.0.are.each n (omega (arith, m, l))
+    there =
+        let m = h.0.are.as_many in
+        let e : 0 + n ≡ n = omega arith in
+        subst (λ (j : ℕ). AreStretchesBelow layers j z (get_or all n [])) e (h.0.are.each n (omega (arith, m, l)))
     at_first : Lined layers n (z ∷ zs) z (runs_at z (row_of z (get_or all n []) ++ rows_at n zs us))
     at_first = on_line (subst (AreStretchesBelow layers n z)
         (sym (stay z (get_or all n []) (rows_at n zs us)
@@ -268,25 +298,7 @@ module _ (layers : List (List Row)) (want : Want) (heights : List ℤ) (alls : L
   are_rows_apart n l = rows_apart (IsCovered layers n) (rows_at n heights alls) (are_rows n l)
       (rows_all (λ y. unsigned_abs y ≤ coordinate_limit) n heights alls hs.within)
 
--- ---- as the rows of a layer are pushed, one line after another
-pub kept_more : (n : ℕ) (hs : List ℤ) (ls : List Line) (i : ℕ) (d : ℤ) (e : Line) (rows new all : List Row)
-    → i < length hs → i < length ls → rows ++ kept_rows n (drop i hs) (drop i ls) ≡ all
-    → new ≡ rows ++ kept_row n (get_or hs i d) (get_or ls i e).covers
-    → new ++ kept_rows n (drop (i + 1) hs) (drop (i + 1) ls) ≡ all
-kept_more n hs ls i d e rows new all l m h k =
-    ap₂ (λ (j : ℕ) (rs : List Row). rs ++ kept_rows n (drop j hs) (drop j ls)) (omega arith) k
-    ∙ append_assoc rows (kept_row n (get_or hs i d) (get_or ls i e).covers) (kept_rows n (drop (suc i) hs) (drop (suc i) ls))
-    ∙ ap (λ (rs : List Row). rows ++ rs)
-    (sym (ap₂ (λ (ys : List ℤ) (qs : List Line). kept_rows n ys qs) (drop-cons hs i d l) (drop-cons ls i e m)))
-    ∙ h
-
-pub kept_all : (n : ℕ) (hs : List ℤ) (ls : List Line) (i : ℕ) (rows all : List Row) → length hs ≡ length ls → length ls ≤ i
-    → rows ++ kept_rows n (drop i hs) (drop i ls) ≡ all → rows ≡ all
-kept_all n hs ls i rows all e l h =
-    sym (append-nil rows)
-    ∙ ap (λ (ys : List ℤ). rows ++ kept_rows n ys (drop i ls)) (sym (drop_of_length-le hs (omega (arith, e, l))))
-    ∙ h
-
+-- ---- a line for each height
 pub lines_length : (layers : List (List Row)) (want : Want) (ys : List ℤ) (alls : List (List (List Run))) (ls : List Line)
     → AreLines layers want ys alls ls → length ys ≡ length ls
 lines_length layers want [] [] [] h = refl
@@ -295,19 +307,3 @@ lines_length layers want [] (a ∷ us) ls h = absurd h
 lines_length layers want (y ∷ ys) [] ls h = absurd h
 lines_length layers want (y ∷ ys) (a ∷ us) [] h = absurd h
 lines_length layers want (y ∷ ys) (a ∷ us) (l ∷ ls) h = ap suc (lines_length layers want ys us ls h.1)
-
--- ---- as layers are pushed
-pub layers_more : (hs : List ℤ) (ls : List Line) (n : ℕ) (out new : List (List Row)) (rows : List Row) → length out ≡ n
-    → ((k : ℕ) → k < n → get_or out k [] ≡ kept_rows k hs ls) → rows ≡ kept_rows n hs ls → new ≡ out ++ rows ∷ []
-    → (k : ℕ) → k < n + 1 → get_or new k [] ≡ kept_rows k hs ls
-layers_more hs ls n out new rows e h r f k l =
-    ap (λ (all : List (List Row)). get_or all k []) f ∙ by_test (ltb k n) refl
-  where
-    by_test : (t : Bool) → ltb k n ≡ t → get_or (out ++ rows ∷ []) k [] ≡ kept_rows k hs ls
-    by_test true q =
-        let m : k < n = omega (arith, ltb-true k n q) in
-        get_or_append_left out (rows ∷ []) [] k (omega (arith, m, e)) ∙ h k m
-    by_test false q =
-        let m : n ≡ k = omega (arith, ltb-false k n q, l) in
-        ap (λ (j : ℕ). get_or (out ++ rows ∷ []) j []) (sym (e ∙ m)) ∙ get_or-append_seam out rows [] [] ∙ r
-        ∙ ap (λ (j : ℕ). kept_rows j hs ls) m

@@ -53,7 +53,7 @@ module _ (outlines : List (List Pt)) (y : ℤ) where
     wound_on : (x : ℤ) → is_on rs x ≡ true → turns x ≡ pos 0 → ⊥
     wound_on x o =
         let r = run_there rs x o in
-        (All-contains (IsRun outlines 0 (AtHeight y) 0) rs r.run are.each r.there).deep x r.from r.to.inside
+        ((All-contains (IsRun outlines 0 (AtHeight y) 0) rs r.run are.each r.there).deep x r.from r.to).inside
 
     on_wound : (x : ℤ) → IsWound outlines (point_at x y) → is_on rs x ≡ true
     on_wound x w =

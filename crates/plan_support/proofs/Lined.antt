@@ -4,6 +4,7 @@ use Rattle.std.specs.Prelude.{◌||◌, sum_by, All, if◌then◌else◌}
 use Rattle.std.specs.Ordering.{int_eq}
 use Rattle.std.proofs.lemmas.List.Elements.{All-head, All-tail}
 use Rattle.std.proofs.Math.Seq.{drop-cons, drop-length}
+use Rattle.std.proofs.lemmas.List.Sums.{sum_by-append}
 use Rattle.plan_infill.specs.declared.run.Run.{Run}
 use Rattle.plan_support.specs.declared.line.Line.{Line}
 use Rattle.plan_support.specs.declared.line.Want.{Want}
@@ -49,19 +50,24 @@ module _ (layers : List (List Row)) (y : ℤ) (want : Want) (n : ℕ) (above : L
 
   counted : (total : ℕ) → total ≡ min (count + length above) greatest_count
       → total ≡ min (sum_by length (above ∷ a.all)) greatest_count
-  counted total e = let c = a.counts in omega (arith, c, e)
+  counted total e =
+      let c = a.counts in
+      let s : sum_by length (above ∷ a.all) ≡ (0 + length above) + sum_by length a.all = sum_by-append length (above ∷ []) a.all in
+      omega (arith, c, e, s)
 
   pub above_more : (more : List Run) (total : ℕ) (lists : List (List Run)) → AreApart more
       → ((x : ℤ) → is_on more x ≡ (is_on above x || is_on (runs_at y (get_or layers n [])) x))
       → total ≡ min (count + length above) greatest_count → lists ≡ kept ++ wanted_of want above
       → AboveFrom layers y want n more total lists
-  above_more more total lists p o c k = record {
+  above_more more total lists p o c k =
+      let next : n + 1 ≡ suc n = omega arith in
+      record {
     all = above ∷ a.all;
     are = record { as_many = (let m = a.are.as_many in omega (arith, m)); each = each_from };
     apart = p;
     on = λ x. o x
         ∙ ap (λ (t : Bool). t || is_on (runs_at y (get_or layers n [])) x) (a.on x)
-        ∙ ap (λ (j : ℕ). is_on_some (drop j layers) x y || is_on (runs_at y (get_or layers n [])) x) (omega arith)
+        ∙ ap (λ (j : ℕ). is_on_some (drop j layers) x y || is_on (runs_at y (get_or layers n [])) x) next
         ∙ or_turned (is_on_some (drop (suc n) layers) x y) (is_on (runs_at y (get_or layers n [])) x)
         ∙ sym (ap (λ (ls : List (List Row)). is_on_some ls x y) (drop-cons layers n [] l));
     counts = counted total c;

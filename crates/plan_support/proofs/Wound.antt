@@ -17,7 +17,7 @@ use Rattle.plan_support.specs.Spans.{point_at, IsWound, IsSpanned}
 nothing_near : (q a b : Point) → IsClear Open (octagon_of 0) q a b
 nothing_near q a b s t from to some near = let r = near.0 in let l = near.1.0 in omega (arith, ints, r, l)
 
-deep_if : (outlines : List (List Pt)) (q : Pt) → IsWound outlines q → IsDeep outlines 0 q
+pub deep_if : (outlines : List (List Pt)) (q : Pt) → IsWound outlines q → IsDeep outlines 0 q
 deep_if outlines q w = record { inside = w; apart = λ k d l. nothing_near _ _ _ }
 
 module _ (outlines : List (List Pt)) (spacing : ℕ) (y : ℤ) (m : IsMultiple spacing y) where
