@@ -197,8 +197,8 @@ on_start r rs a = ap (λ (t : Bool). t || is_on rs r.from) (has r r.from (omega 
 
 same_runs : (rs ss : List Run) → AreApart rs → AreApart ss → ((x : ℤ) → is_on rs x ≡ is_on ss x) → rs ≡ ss
 same_runs [] [] a b same = refl
-same_runs [] (s ∷ ss) a b same = absurd (both_ways _ (same s.from) (on_start s ss b))
-same_runs (r ∷ rs) [] a b same = absurd (both_ways _ (sym (same r.from)) (on_start r rs a))
+same_runs [] (s ∷ ss) a b same = absurd (both_ways _ (sym (same s.from)) (on_start s ss b))
+same_runs (r ∷ rs) [] a b same = absurd (both_ways _ (same r.from) (on_start r rs a))
 same_runs (r ∷ rs) (s ∷ ss) a b same =
     let low = starts_least s ss r.from b (sym (same r.from) ∙ on_start r rs a) in
     let high = starts_least r rs s.from a (same s.from ∙ on_start s ss b) in

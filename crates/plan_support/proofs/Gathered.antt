@@ -53,7 +53,7 @@ no_more_above : (layers : List (List Row)) (n k : ℕ) (y : ℤ) (more : List Ru
     → AreStretchesBelow layers (n + k) y more → more ≡ []
 no_more_above layers n k y [] a b = refl
 no_more_above layers n k y (r ∷ rs) a b =
-    absurd (both_ways _ (a.on r.from)
+    absurd (both_ways _ (sym (a.on r.from))
     (covered_lower layers n k r.from y (sym (b.on r.from) ∙ on_first)))
   where
     on_first : is_on (r ∷ rs) r.from ≡ true
@@ -63,6 +63,11 @@ no_more_above layers n k y (r ∷ rs) a b =
 abbrev pub Sinks : List (List Run) → Type 0
 Sinks [] = Unit {0}
 Sinks (r ∷ rs) = (r ≡ [] → All (λ (q : List Run). q ≡ []) rs) × Sinks rs
+
+at_any : (xs : List (List Run)) (k : ℕ) (d e : List Run) → k < length xs → get_or xs k d ≡ get_or xs k e
+at_any [] k d e l = absurd (omega (arith, l))
+at_any (x ∷ xs) zero d e l = refl
+at_any (x ∷ xs) (suc k) d e l = at_any xs k d e (omega (arith, l))
 
 sinks : (layers : List (List Row)) (n : ℕ) (y : ℤ) (all : List (List Run)) → AreStretchesFrom layers n y all → Sinks all
 sinks layers n y [] a = tt
@@ -80,12 +85,8 @@ sinks layers n y (r ∷ rs) a = (
     first = subst (λ (j : ℕ). AreStretchesBelow layers j y r) (add-zero n) (a.each 0 (omega arith))
     none_at : r ≡ [] → (k : ℕ) (d : List Run) → k < length rs → get_or rs k d ≡ []
     none_at e k d l =
-        same_default rs k d [] l
+        at_any rs k d [] l
         ∙ no_more_above layers n (suc k) y (get_or rs k []) (subst (AreStretchesBelow layers n y) e first) (a.each (suc k) (omega (arith, l)))
-    same_default : (xs : List (List Run)) (k : ℕ) (d e : List Run) → k < length xs → get_or xs k d ≡ get_or xs k e
-    same_default [] k d e l = absurd (omega (arith, l))
-    same_default (x ∷ xs) zero d e l = refl
-    same_default (x ∷ xs) (suc k) d e l = same_default xs k d e (omega (arith, l))
 
 none_kept : (all : List (List Run)) → All (λ (q : List Run). q ≡ []) all → kept_of Stretches all ≡ []
 none_kept [] a = refl

@@ -1,8 +1,8 @@
 //! The work on one line: what lies below higher layers, from the top layer down.
-ghost use Rattle.std.specs.Prelude.{◌≡◌, ◌||◌, ◌++◌, ℤ, IfOk, OnOk, All};
-ghost use Rattle.plan_support.specs.Rows.{AreApart, AreRows};
+ghost use Rattle.std.specs.Prelude.{◌≡◌, ◌<◌, ◌+◌, ◌||◌, ◌++◌, [], min, length, slice_index_or, ℤ, IfOk, OnOk, All};
+ghost use Rattle.plan_support.specs.Rows.{AreApart, AreRows, runs_at};
 ghost use Rattle.plan_support.specs.On.{is_on};
-ghost use Rattle.plan_support.specs.Lines.{HasLine, wanted_of};
+ghost use Rattle.plan_support.specs.Lines.{HasLine, wanted_of, greatest_count};
 
 use crate::line::{Line, Want};
 use crate::lists::Lists;
@@ -22,11 +22,27 @@ pub(crate) fn work_line(alloc: Global, layers: &[Rows], y: i32, want: Want) -> R
     let mut n = layers.len();
     'layers: while 0 < n {
         n -= 1;
-        count = count.saturating_add(above.len() as u64);
-        push_wanted(&mut covers, &above, want)?;
-        above = with_runs(alloc, above, layers[n].runs_at(y))?;
+        let below = above.as_slice();
+        count = added(count, below);
+        push_wanted(&mut covers, below, want)?;
+        above = with_runs(alloc, above, runs_of(layers, n, y))?;
     }
     Ok(Line { count, covers })
+}
+
+// The runs of a layer at a height.
+fn runs_of(layers: &[Rows], n: usize, y: i32) -> &[Run]
+    requires layer { n < length layers.now }
+    requires rows { All AreRows layers.now }
+    ensures { result.now ≡ runs_at y (slice_index_or layers.now n []) }
+{
+    layers[n].runs_at(y)
+}
+
+fn added(count: u64, runs: &[Run]) -> u64
+    ensures { result ≡ min (count + length runs.now) greatest_count }
+{
+    count.saturating_add(runs.len() as u64)
 }
 
 // Keeps the stretches of one layer, where there are some and they are wanted.
