@@ -1,5 +1,5 @@
 -- The heights of rows, sorted and each kept once.
-use Rattle.std.proofs.Common.{Less, ◌≡◌, ℕ, ◌<◌, List, [], ◌∷◌, ◌++◌, length, get_or, map, flat_map, refl, sym, subst, ℤ, ◌<ℤ◌}
+use Rattle.std.proofs.Common.{Less, ◌≡◌, ◌<◌, List, [], ◌∷◌, flat_map, refl, sym, subst, ℤ, ◌<ℤ◌}
 use Rattle.std.specs.Prelude.{All, Contains, unsigned_abs, ◌≤◌}
 use Rattle.std.specs.List.{dedup}
 use Rattle.std.specs.List.Sorted.{IsPermutation, IsSorted}
@@ -20,7 +20,8 @@ use Rattle.plan_support.specs.Lines.{Ascend, row_heights, AreHeights}
 ascend_of : (ys : List ℤ) → IsStrictlySortedBy int_cmp ys → Ascend ys
 ascend_of [] h = tt
 ascend_of (y ∷ ys) h = (
-  All-weaker (λ z. int_cmp y z ≡ Less) (λ z. y <ℤ z) (λ z e. int_ranked y z Less (sym e)) ys (All-after_first int_cmp y ys h),
+  All-weaker (λ z. int_cmp y z ≡ Less) (λ z. y <ℤ z) (λ z e. int_ranked y z Less (sym e)) ys
+      (All-after_first int_cmp y ys h),
   ascend_of ys (sorted_tail int_cmp y ys h),
 )
 
@@ -35,7 +36,8 @@ all_small (rows ∷ layers) a =
     (all_small layers (All-tail AreRows rows layers a))
 
 pub are_heights : (layers : List (List Row)) (first sorted last : List ℤ) → All AreRows layers
-    → first ≡ flat_map row_heights layers → IsPermutation first sorted → IsSorted int_cmp sorted → last ≡ dedup int_eq sorted
+    → first ≡ flat_map row_heights layers → IsPermutation first sorted → IsSorted int_cmp sorted → last
+    ≡ dedup int_eq sorted
     → AreHeights layers last
 are_heights layers first sorted last a e p s d = subst (AreHeights layers) (sym d) (record {
   ascend = ascend_of (dedup int_eq sorted) (IsStrictlySortedBy-dedup int_cmp_total (λ x y. refl) sorted s);

@@ -1,10 +1,10 @@
 -- Runs that stand apart are the maximal stretches of their places.
-use Rattle.std.proofs.Common.{◌≡◌, ◌⊎◌, inl, inr, ℕ, zero, suc, ◌<◌, Bool, true, false, List, [], ◌∷◌, length, get_or, refl, sym, ap, subst, ◌∙◌, arith, ℤ, pos, ◌+ℤ◌, ◌-ℤ◌, ◌<ℤ◌}
+use Rattle.std.proofs.Common.{◌≡◌, ◌⊎◌, inl, inr, ◌<◌, Bool, true, false, List, [], ◌∷◌, get_or, refl, sym, ap, subst, ◌∙◌, arith, ℤ, pos, ◌+ℤ◌, ◌-ℤ◌, ◌<ℤ◌}
 use lib.Signed.{◌≤ℤ◌}
-use Rattle.std.specs.Prelude.{All, Contains, int_le, ◌||◌, ◌&&◌}
+use Rattle.std.specs.Prelude.{Contains, int_le, ◌||◌}
 use Rattle.std.proofs.lemmas.Int.{ints}
 use Rattle.std.proofs.lemmas.Bool.{both_ways, and_parts}
-use Rattle.std.proofs.lemmas.List.Elements.{All-nil, All-weaker, All-contains, Contains-append_left, Contains-append_right, Contains-append_cases, Contains-push, Contains-push_cases, Contains-get_or}
+use Rattle.std.proofs.lemmas.List.Elements.{All-weaker, All-contains, Contains-append_left, Contains-append_right, Contains-append_cases, Contains-push, Contains-push_cases, Contains-get_or}
 use Rattle.scad_geom.proofs.Rising.{by_order, order}
 use Rattle.plan_infill.specs.declared.run.Run.{Run}
 use Rattle.plan_infill.specs.Runs.{GoUp}
@@ -49,7 +49,8 @@ pub run_there : (rs : List Run) (x : ℤ) → is_on rs x ≡ true → HasRun rs 
 run_there [] x h = absurd (both_ways _ refl h)
 run_there (r ∷ rs) x h = by_test (has_place r x) refl h (λ k. run_there rs x k)
   where
-    by_test : (t : Bool) → has_place r x ≡ t → (t || is_on rs x) ≡ true → (is_on rs x ≡ true → HasRun rs x) → HasRun (r ∷ rs) x
+    by_test : (t : Bool) → has_place r x ≡ t → (t || is_on rs x) ≡ true → (is_on rs x ≡ true → HasRun rs x)
+        → HasRun (r ∷ rs) x
     by_test true e k others =
         let b = and_parts (int_le r.from x) (int_le x r.to) e in
         let f = b.0 in

@@ -1,7 +1,7 @@
 -- The stretches of lines are as many as those of layers, and one for each line and layer.
-use Rattle.std.proofs.Common.{◌≡◌, ◌⊎◌, inl, inr, ℕ, zero, suc, ◌+◌, ◌<◌, ◌≤◌, min, Bool, true, false, List, [], ◌∷◌, ◌++◌, length, get_or, refl, sym, ap, ap₂, subst, ◌∙◌, arith, ℤ, pos, ◌+ℤ◌, ◌-ℤ◌, ◌<ℤ◌}
+use Rattle.std.proofs.Common.{◌≡◌, ℕ, zero, suc, ◌+◌, ◌<◌, ◌≤◌, min, Bool, true, false, List, [], ◌∷◌, ◌++◌, length, get_or, refl, sym, ap, ap₂, subst, ◌∙◌, arith, ℤ, pos, ◌+ℤ◌, ◌<ℤ◌}
 use lib.Signed.{◌≤ℤ◌}
-use Rattle.std.specs.Prelude.{All, Contains, ◌||◌, sum_by}
+use Rattle.std.specs.Prelude.{All, ◌||◌, sum_by}
 use Rattle.std.proofs.lemmas.Int.{ints}
 use Rattle.std.proofs.lemmas.Bool.{both_ways}
 use Rattle.std.proofs.lemmas.List.Sums.{sum_by-append}
@@ -14,10 +14,10 @@ use Rattle.plan_support.specs.declared.line.Want.TheVariants.{Count, Stretches}
 use Rattle.plan_support.specs.Rows.{Row, AreApart, AreRows, AreRowsOf}
 use Rattle.plan_support.specs.Spans.{row_of}
 use Rattle.plan_support.specs.On.{has_place, is_on}
-use Rattle.plan_support.specs.Lines.{AreHeights, AreStretchesBelow, AreStretchesFrom, kept_rows, greatest_count, IsLine, AreLines, IsCount, AreRowsOfLines}
+use Rattle.plan_support.specs.Lines.{AreHeights, AreStretchesFrom, greatest_count, IsLine, AreLines, IsCount, AreRowsOfLines}
 use Rattle.plan_support.specs.Covers.{IsCovered, AreCovers, run_count, stretch_limit, AreTooMany}
-use Rattle.plan_support.proofs.Canonical.{has, run_there, place_on, first_in}
-use Rattle.plan_support.proofs.Without.{has_not_under, has_not_over, none_under}
+use Rattle.plan_support.proofs.Canonical.{has}
+use Rattle.plan_support.proofs.Without.{has_not_over, none_under}
 use Rattle.plan_support.proofs.Gathered.{rows_at, rows_kept, are_rows, are_rows_apart}
 
 -- ---- layers of rows from lines
@@ -39,7 +39,8 @@ length_empties : (n : ℕ) → length (empties n) ≡ n
 length_empties zero = refl
 length_empties (suc n) = ap suc (length_empties n)
 
-length_zip : (y : ℤ) (all : List (List Run)) (cs : List (List Row)) → length all ≡ length cs → length (zip_rows y all cs) ≡ length cs
+length_zip : (y : ℤ) (all : List (List Run)) (cs : List (List Row)) → length all ≡ length cs
+    → length (zip_rows y all cs) ≡ length cs
 length_zip y [] [] e = refl
 length_zip y [] (c ∷ cs) e = absurd (omega (arith, e))
 length_zip y (r ∷ rs) [] e = absurd (omega (arith, e))
@@ -84,7 +85,8 @@ count_zip y [] [] e = refl
 count_zip y [] (c ∷ cs) e = absurd (omega (arith, e))
 count_zip y (r ∷ rs) [] e = absurd (omega (arith, e))
 count_zip y (r ∷ rs) (c ∷ cs) e =
-    sums (run_count ((row_of y r ++ c) ∷ zip_rows y rs cs)) (rows_count (row_of y r ++ c)) (run_count (zip_rows y rs cs))
+    sums (run_count ((row_of y r ++ c) ∷ zip_rows y rs cs)) (rows_count (row_of y r ++ c))
+    (run_count (zip_rows y rs cs))
     (sum_by length (r ∷ rs)) (length r) (sum_by length rs) (run_count (c ∷ cs)) (rows_count c) (run_count cs)
     (sum_cons rows_count (row_of y r ++ c) (zip_rows y rs cs)) (count_row y r c) (count_zip y rs cs (omega (arith, e)))
     (sum_cons length r rs) (sum_cons rows_count c cs)
@@ -138,7 +140,8 @@ module _ (layers : List (List Row)) (want : Want) where
   counts (y ∷ ys) (a ∷ us) [] h = absurd h
   counts (y ∷ ys) (a ∷ us) (l ∷ ls) h =
       ap (λ (n : ℕ). min n greatest_count) (sum_cons (λ (m : Line). m.count) l ls)
-      ∙ added l.count (sum_by length a) (sum_by (λ (m : Line). m.count) ls) (sum_by (λ (all : List (List Run)). sum_by length all) us)
+      ∙ added l.count (sum_by length a) (sum_by (λ (m : Line). m.count) ls)
+      (sum_by (λ (all : List (List Run)). sum_by length all) us)
       h.0.count (counts ys us ls h.1)
       ∙ ap (λ (n : ℕ). min n greatest_count) (sym (sum_cons line_count a us))
     where
@@ -146,7 +149,8 @@ module _ (layers : List (List Row)) (want : Want) where
           → min (c + p) greatest_count ≡ min (s + t) greatest_count
       added c s p t e f = omega (arith, e, f)
 
-pub is_count : (layers : List (List Row)) (heights : List ℤ) (lines : List Line) (alls : List (List (List Run))) (counted : ℕ)
+pub is_count : (layers : List (List Row)) (heights : List ℤ) (lines : List Line) (alls : List (List (List Run)))
+    (counted : ℕ)
     → AreLines layers Count heights alls lines → counted ≡ min (sum_by (λ (l : Line). l.count) lines) greatest_count
     → IsCount layers heights counted
 is_count layers heights lines alls counted h e =
@@ -190,7 +194,8 @@ ends_no_sooner r s rs ss a b e same = by_order (order s.to r.to) (λ k. k) (λ k
     (ap (λ (t : Bool). t || is_on rs (r.to +ℤ pos 1)) (has_not_over r (r.to +ℤ pos 1) (omega (arith, ints)))
     ∙ off_others r rs (r.to +ℤ pos 1) a (omega (arith, ints)))
     (same (r.to +ℤ pos 1)
-    ∙ ap (λ (t : Bool). t || is_on ss (r.to +ℤ pos 1)) (has s (r.to +ℤ pos 1) (omega (arith, ints, e, p)) (omega (arith, ints, k))))))
+    ∙ ap (λ (t : Bool). t || is_on ss (r.to +ℤ pos 1))
+    (has s (r.to +ℤ pos 1) (omega (arith, ints, e, p)) (omega (arith, ints, k))))))
 
 on_start : (r : Run) (rs : List Run) → AreApart (r ∷ rs) → is_on (r ∷ rs) r.from ≡ true
 on_start r rs a = ap (λ (t : Bool). t || is_on rs r.from) (has r r.from (omega (arith, ints)) a.0)
@@ -212,18 +217,21 @@ same_runs (r ∷ rs) (s ∷ ss) a b same =
     cut : (p : Bool) (t u : Bool) → p ≡ false → (p || t) ≡ (p || u) → t ≡ u
     cut true t u e f = absurd (both_ways _ e refl)
     cut false t u e f = f
+
     others : (x : ℤ) → r ≡ s → r.to ≡ s.to → is_on rs x ≡ is_on ss x
     others x one end = by_order (order x r.to)
         (λ k. off_others r rs x a (omega (arith, ints, k)) ∙ sym (off_others s ss x b (omega (arith, ints, k, end))))
         (λ k. cut (has_place r x) (is_on rs x) (is_on ss x) (has_not_over r x k)
         (same x ∙ ap (λ (q : Run). has_place q x || is_on ss x) (sym one)))
 
-same_lists : (A : Type 0) (d : A) (xs ys : List A) → length xs ≡ length ys → ((n : ℕ) → n < length xs → get_or xs n d ≡ get_or ys n d) → xs ≡ ys
+same_lists : (A : Type 0) (d : A) (xs ys : List A) → length xs ≡ length ys
+    → ((n : ℕ) → n < length xs → get_or xs n d ≡ get_or ys n d) → xs ≡ ys
 same_lists A d [] [] e h = refl
 same_lists A d [] (y ∷ ys) e h = absurd (omega (arith, e))
 same_lists A d (x ∷ xs) [] e h = absurd (omega (arith, e))
 same_lists A d (x ∷ xs) (y ∷ ys) e h =
-    ap₂ (λ (z : A) (zs : List A). z ∷ zs) (h 0 (omega arith)) (same_lists A d xs ys (omega (arith, e)) (λ n l. h (suc n) (omega (arith, l))))
+    ap₂ (λ (z : A) (zs : List A). z ∷ zs) (h 0 (omega arith))
+    (same_lists A d xs ys (omega (arith, e)) (λ n l. h (suc n) (omega (arith, l))))
 
 same_stretches : (layers : List (List Row)) (y : ℤ) (all more : List (List Run)) → AreStretchesFrom layers 0 y all
     → AreStretchesFrom layers 0 y more → all ≡ more
@@ -263,17 +271,23 @@ module _ (layers covers : List (List Row)) (heights : List ℤ) (alls : List (Li
 
   pub all_apart : All AreRows covers
   all_apart = All-from_get_or AreRows covers [] (λ n l. let m = rows.as_many in
-      subst AreRows (sym (row_is n (omega (arith, l, m)))) (are_rows_apart layers Stretches heights alls lines hs are n (omega (arith, l, m))))
+      subst AreRows (sym (row_is n (omega (arith, l, m))))
+      (are_rows_apart layers Stretches heights alls lines hs are n (omega (arith, l, m))))
 
-  pub few_enough : (counted : ℕ) → IsCount layers heights counted → counted ≤ stretch_limit → run_count covers ≤ stretch_limit
+  pub few_enough : (counted : ℕ) → IsCount layers heights counted → counted ≤ stretch_limit
+      → run_count covers ≤ stretch_limit
   few_enough counted c o =
       let m = rows.as_many in
       let w = length_covers layers Stretches heights alls lines are in
-      let same : covers ≡ covers_of (length layers) heights alls = same_lists (List Row) [] covers (covers_of (length layers) heights alls)
+      let same : covers ≡ covers_of (length layers) heights alls =
+      same_lists (List Row) [] covers (covers_of (length layers) heights alls)
       (omega (arith, m, w))
-      (λ n l. row_is n (omega (arith, l, m)) ∙ sym (get_covers layers Stretches heights alls lines n (omega (arith, l, m)) are)) in
+      (λ n l. row_is n (omega (arith, l, m))
+      ∙ sym (get_covers layers Stretches heights alls lines n (omega (arith, l, m)) are)) in
       let n = ap run_count same ∙ count_covers layers Stretches heights alls lines are in
       let e = c.counts in
-      let f : sum_by (λ (all : List (List Run)). sum_by length all) c.alls ≡ sum_by (λ (all : List (List Run)). sum_by length all) alls =
-      ap (sum_by (λ (all : List (List Run)). sum_by length all)) (same_lines layers Count Stretches heights c.alls alls c.lines lines c.are are) in
+      let f : sum_by (λ (all : List (List Run)). sum_by length all) c.alls
+      ≡ sum_by (λ (all : List (List Run)). sum_by length all) alls =
+      ap (sum_by (λ (all : List (List Run)). sum_by length all))
+      (same_lines layers Count Stretches heights c.alls alls c.lines lines c.are are) in
       omega (arith, n, e, f, o)

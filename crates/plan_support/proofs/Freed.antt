@@ -1,7 +1,7 @@
 -- What holes leave of a run, found one hole after another.
 use Rattle.std.proofs.Common.{◌≡◌, ◌⊎◌, inl, inr, ℕ, zero, suc, ◌+◌, ◌<◌, ◌≤◌, Bool, true, false, cond, not, List, [], ◌∷◌, ◌++◌, length, get_or, take, refl, sym, ap, subst, ◌∙◌, arith, ℤ, pos, ◌+ℤ◌, ◌-ℤ◌, ◌<ℤ◌}
 use lib.Signed.{◌≤ℤ◌}
-use Rattle.std.specs.Prelude.{All, Contains, int_le, int_lt, ◌||◌, ◌&&◌}
+use Rattle.std.specs.Prelude.{All, int_le, int_lt, ◌||◌, ◌&&◌}
 use Rattle.std.specs.Int.{int_max}
 use Rattle.std.proofs.lemmas.Int.{ints}
 use Rattle.std.proofs.lemmas.List.{append-nil, take_more, take_all}
@@ -30,15 +30,19 @@ on_some from to x = by_test (int_le from to) refl
   where
     one : Run
     one = record { from = from; to = to }
+
     none : (p q : Bool) → int_le from x ≡ p → int_le x to ≡ q → int_le from to ≡ false → false ≡ (p && q)
     none false q a b e = refl
     none true false a b e = refl
     none true true a b e = absurd (omega (arith, ints, a, b, e))
-    by_test : (t : Bool) → int_le from to ≡ t → is_on (cond t (record { from = from; to = to } ∷ []) []) x ≡ (int_le from x && int_le x to)
+
+    by_test : (t : Bool) → int_le from to ≡ t → is_on (cond t (record { from = from; to = to } ∷ []) []) x
+        ≡ (int_le from x && int_le x to)
     by_test true e = or_false (int_le from x && int_le x to)
     by_test false e = none (int_le from x) (int_le x to) refl refl e
 
-on_more : (out : List Run) (from to x : ℤ) → is_on (out ++ some_run from to) x ≡ (is_on out x || (int_le from x && int_le x to))
+on_more : (out : List Run) (from to x : ℤ) → is_on (out ++ some_run from to) x
+    ≡ (is_on out x || (int_le from x && int_le x to))
 on_more out from to x = list_any-append (λ (r : Run). has_place r x) out (some_run from to)
     ∙ ap (λ (t : Bool). is_on out x || t) (on_some from to x)
 
@@ -51,7 +55,8 @@ apart_more out from to a b = by_test (int_le from to) refl
         (record { apart = a; behind = b; place = omega (arith, ints, e) })
     by_test false e = subst AreApart (sym (append-nil out)) a
 
-all_more : (P : Run → Type 0) (out : List Run) (from to : ℤ) → All P out → (from ≤ℤ to → P (record { from = from; to = to }))
+all_more : (P : Run → Type 0) (out : List Run) (from to : ℤ) → All P out
+    → (from ≤ℤ to → P (record { from = from; to = to }))
     → All P (out ++ some_run from to)
 all_more P out from to a h = by_test (int_le from to) refl
   where
@@ -90,7 +95,8 @@ freed_start old run hs i a b p n t = record {
   on = λ x. sym (ap (λ (s : Bool). is_on old x || s) (none_yet run.from x (not (is_on hs x))) ∙ or_false (is_on old x));
 }
 
-module _ (old : List Run) (run : Run) (hs : List Run) (i : ℕ) (from : ℤ) (out : List Run) (d : Run) (apart : AreApart hs)
+module _ (old : List Run) (run : Run) (hs : List Run) (i : ℕ) (from : ℤ) (out : List Run) (d : Run)
+    (apart : AreApart hs)
     (f : FreedUpTo old run hs i from out) where
   on_next : (to x : ℤ) (more : Bool) → (is_free_from hs run.from from x || (int_le from x && int_le x to)) ≡ more
       → is_on (out ++ some_run from to) x ≡ (is_on old x || more)
@@ -99,7 +105,8 @@ module _ (old : List Run) (run : Run) (hs : List Run) (i : ℕ) (from : ℤ) (ou
       ∙ or_or (is_on old x) (is_free_from hs run.from from x) (int_le from x && int_le x to)
       ∙ ap (λ (t : Bool). is_on old x || t) e
 
-  pub freed_more : (next : ℤ) → i < length hs → (get_or hs i d).to <ℤ run.to → next ≡ int_max from ((get_or hs i d).to +ℤ pos 1)
+  pub freed_more : (next : ℤ) → i < length hs → (get_or hs i d).to <ℤ run.to → next
+      ≡ int_max from ((get_or hs i d).to +ℤ pos 1)
       → FreedUpTo old run hs (i + 1) next (out ++ some_run from ((get_or hs i d).from -ℤ pos 1))
   freed_more next l ends n =
       let hole = get_or hs i d in
@@ -126,7 +133,8 @@ module _ (old : List Run) (run : Run) (hs : List Run) (i : ℕ) (from : ℤ) (ou
             low = omega (arith, ints, low, onward);
             high = within;
             passed = All-more (λ (h : Run). h.to <ℤ next) hs i d l
-                (All-weaker (λ (h : Run). h.to <ℤ from) (λ (h : Run). h.to <ℤ next) (λ h k. omega (arith, ints, k, onward))
+                (All-weaker (λ (h : Run). h.to <ℤ from) (λ (h : Run). h.to <ℤ next)
+                (λ h k. omega (arith, ints, k, onward))
                 (take i hs) f.passed) past;
             apart = apart_more out from ((get_or hs i d).from -ℤ pos 1) f.apart f.behind;
             behind = all_more (λ (r : Run). (r.to +ℤ pos 1) <ℤ next) out from ((get_or hs i d).from -ℤ pos 1)
@@ -149,7 +157,8 @@ module _ (old : List Run) (run : Run) (hs : List Run) (i : ℕ) (from : ℤ) (ou
             (λ r k. omega (arith, ints, k, high)) out f.behind) (λ o. most);
         count = f.count;
         places = places;
-        ends = All-weaker (λ (h : Run). h.to <ℤ from) (λ (h : Run). h.to <ℤ run.to) (λ h k. omega (arith, ints, k, high))
+        ends = All-weaker (λ (h : Run). h.to <ℤ from) (λ (h : Run). h.to <ℤ run.to)
+            (λ h k. omega (arith, ints, k, high))
             (take i hs) f.passed;
         on = λ x. on_next end x (has_place run x && not (is_on hs x))
             (the_rest hs i d apart run.from from low f.passed run end x refl high is last);
@@ -159,7 +168,8 @@ module _ (old : List Run) (run : Run) (hs : List Run) (i : ℕ) (from : ℤ) (ou
 pub record WithoutUpTo (runs hs : List Run) (i next : ℕ) (out : List Run) : Type 0 where
   pub places : All HasPlaces (take i runs)
   pub count : next ≤ length hs
-  pub passed : (k : ℕ) (d : Run) → i ≤ k → k < length runs → All (λ (h : Run). h.to <ℤ (get_or runs k d).from) (take next hs)
+  pub passed : (k : ℕ) (d : Run) → i ≤ k → k < length runs
+      → All (λ (h : Run). h.to <ℤ (get_or runs k d).from) (take next hs)
   pub apart : AreApart out
   pub behind : (k : ℕ) (d : Run) → i ≤ k → k < length runs
       → All (λ (r : Run). (r.to +ℤ pos 1) <ℤ (get_or runs k d).from) out
@@ -190,15 +200,20 @@ or_and true true false = refl
 or_and true false false = refl
 or_and false b n = refl
 
-pub without_more : (runs hs : List Run) (i next more : ℕ) (out new : List Run) (d : Run) → AreApart runs → i < length runs
+pub without_more : (runs hs : List Run) (i next more : ℕ) (out new : List Run) (d : Run) → AreApart runs
+    → i < length runs
     → WithoutUpTo runs hs i next out → AddsFree out (get_or runs i d) hs new more → WithoutUpTo runs hs (i + 1) more new
 without_more runs hs i next more out new d apart l w f = record {
   places = All-more HasPlaces runs i d l w.places f.places;
   count = f.count;
-  passed = λ k e o m. All-weaker (λ (h : Run). h.to <ℤ (get_or runs i d).to) (λ (h : Run). h.to <ℤ (get_or runs k e).from)
-      (λ h q. let g = apart_at runs i k e d apart (omega (arith, o)) m in omega (arith, ints, q, g)) (take more hs) f.ends;
+  passed =
+      λ k e o m. All-weaker (λ (h : Run). h.to <ℤ (get_or runs i d).to) (λ (h : Run). h.to <ℤ (get_or runs k e).from)
+      (λ h q. let g = apart_at runs i k e d apart (omega (arith, o)) m in omega (arith, ints, q, g)) (take more hs)
+      f.ends;
   apart = f.apart;
-  behind = λ k e o m. All-weaker (λ (r : Run). r.to ≤ℤ (get_or runs i d).to) (λ (r : Run). (r.to +ℤ pos 1) <ℤ (get_or runs k e).from)
+  behind =
+      λ k e o m. All-weaker (λ (r : Run). r.to ≤ℤ (get_or runs i d).to)
+      (λ (r : Run). (r.to +ℤ pos 1) <ℤ (get_or runs k e).from)
       (λ r q. let g = apart_at runs i k e d apart (omega (arith, o)) m in omega (arith, ints, q, g)) new f.behind;
   on = λ x. f.on x
       ∙ ap (λ (t : Bool). t || (has_place (get_or runs i d) x && not (is_on hs x))) (w.on x)
@@ -207,7 +222,8 @@ without_more runs hs i next more out new d apart l w f = record {
 }
 
 -- ---- those that are long
-pub at_least_append : (least : ℕ) (xs ys : List Run) → at_least least (xs ++ ys) ≡ at_least least xs ++ at_least least ys
+pub at_least_append : (least : ℕ) (xs ys : List Run) → at_least least (xs ++ ys)
+    ≡ at_least least xs ++ at_least least ys
 at_least_append least [] ys = refl
 at_least_append least (x ∷ xs) ys = by_test (int_le (pos least) (x.to -ℤ x.from)) (at_least_append least xs ys)
   where
@@ -225,7 +241,8 @@ at_least_more least runs out new i d l e f =
     ∙ sym (at_least_append least (take i runs) (get_or runs i d ∷ []))
     ∙ ap (at_least least) (sym (take_more runs i d l))
 
-pub place_at : (runs : List Run) (i : ℕ) (d : Run) → AreApart runs → i < length runs → (get_or runs i d).from ≤ℤ (get_or runs i d).to
+pub place_at : (runs : List Run) (i : ℕ) (d : Run) → AreApart runs → i < length runs
+    → (get_or runs i d).from ≤ℤ (get_or runs i d).to
 place_at runs i d a l = is_some runs (get_or runs i d) a (Contains-get_or runs i d l)
 
 pub are_left : (runs hs : List Run) (i next : ℕ) (out : List Run) → length runs ≤ i → WithoutUpTo runs hs i next out

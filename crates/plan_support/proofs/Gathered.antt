@@ -1,34 +1,33 @@
 -- The rows of each layer, gathered from the lines.
-use Rattle.std.proofs.Common.{◌≡◌, ◌≢◌, ◌⊎◌, inl, inr, ℕ, zero, suc, ◌+◌, ◌-◌, ◌<◌, ◌≤◌, min, ltb, Bool, true, false, cond, List, [], ◌∷◌, ◌++◌, length, get_or, drop, map, flat_map, refl, sym, ap, ap₂, subst, ◌∙◌, arith, ℤ, ◌<ℤ◌, add-zero}
-use lib.Signed.{◌≤ℤ◌}
-use Rattle.std.specs.Prelude.{All, Contains, unsigned_abs, ◌||◌, sum_by, nat_lt, if◌then◌else◌}
+use Rattle.std.proofs.Common.{◌≡◌, ◌≢◌, inl, inr, ℕ, zero, suc, ◌+◌, ◌-◌, ◌<◌, ◌≤◌, Bool, true, false, cond, List, [], ◌∷◌, ◌++◌, length, get_or, drop, flat_map, refl, sym, ap, ap₂, subst, ◌∙◌, arith, ℤ, ◌<ℤ◌, add-zero}
+use Rattle.std.specs.Prelude.{All, Contains, unsigned_abs, ◌||◌, nat_lt, if◌then◌else◌}
 use Rattle.std.specs.List.{list_any}
-use Rattle.std.proofs.Math.Seq.{drop-cons, get_or-append_seam}
+use Rattle.std.proofs.Math.Seq.{get_or-append_seam}
 use Rattle.std.proofs.lemmas.Int.{ints}
 use Rattle.std.proofs.lemmas.Bool.{both_ways}
 use borrow.Author.Tests.{ltb-true, ltb-false}
 use Rattle.std.proofs.lemmas.List.{get_or_append_left, length-append}
-use Rattle.std.proofs.lemmas.List.Sums.{sum_by-append}
-use Rattle.std.proofs.lemmas.List.Elements.{All-nil, All-head, All-tail, All-cons, All-append, All-weaker, Contains-append_left, Contains-append_right}
+use Rattle.std.proofs.lemmas.List.Elements.{All-nil, All-head, All-tail, All-cons, All-append, Contains-append_left, Contains-append_right}
 use Rattle.scad_geom.specs.Limits.{coordinate_limit}
 use Rattle.scad_geom.proofs.Rising.{by_order, order}
 use Rattle.plan_infill.specs.declared.run.Run.{Run}
 use Rattle.plan_support.specs.declared.line.Line.{Line}
 use Rattle.plan_support.specs.declared.line.Want.{Want}
-use Rattle.plan_support.specs.declared.line.Want.TheVariants.{Count, Stretches}
-use Rattle.plan_support.specs.Rows.{Row, runs_at, GoUpwards, AreApart, AreRows, AreRowsOf}
+use Rattle.plan_support.specs.declared.line.Want.TheVariants.{Stretches}
+use Rattle.plan_support.specs.Rows.{Row, runs_at, GoUpwards, AreRows, AreRowsOf}
 use Rattle.plan_support.specs.Spans.{row_of}
 use Rattle.plan_support.specs.Stretches.{AreStretches}
-use Rattle.plan_support.specs.On.{has_place, is_on, is_on_some, is_covered}
-use Rattle.plan_support.specs.Lines.{Ascend, row_heights, AreHeights, AreStretchesBelow, AreStretchesFrom, some_of, wanted_of, kept_of, kept_row, kept_rows, greatest_count, IsLine, AreLines, IsCount, AreRowsOfLines}
-use Rattle.plan_support.specs.Covers.{IsCovered, AreCovers, run_count, stretch_limit, AreTooMany}
-use Rattle.plan_support.proofs.Canonical.{has, run_there, are_stretches, first_in, other_in, first_or_other}
+use Rattle.plan_support.specs.On.{is_on, is_on_some, is_covered}
+use Rattle.plan_support.specs.Lines.{Ascend, row_heights, AreHeights, AreStretchesBelow, AreStretchesFrom, some_of, kept_of, kept_row, kept_rows, AreLines}
+use Rattle.plan_support.specs.Covers.{IsCovered}
+use Rattle.plan_support.proofs.Canonical.{has, are_stretches, first_in, other_in, first_or_other}
 use Rattle.plan_support.proofs.Stretched.{no_stretches}
-use Rattle.plan_support.proofs.Listed.{same_height, other_height, none_above}
+use Rattle.plan_support.proofs.Listed.{same_height, other_height}
 use Rattle.plan_support.proofs.Spanned.{rows_apart}
 
 -- ---- what lies below higher layers lies below more from a lower one
-any_rest : {X : Type 0} (p : X → Bool) (xs : List X) (n : ℕ) → list_any p (drop (suc n) xs) ≡ true → list_any p (drop n xs) ≡ true
+any_rest : {X : Type 0} (p : X → Bool) (xs : List X) (n : ℕ) → list_any p (drop (suc n) xs) ≡ true
+    → list_any p (drop n xs) ≡ true
 any_rest p [] zero h = h
 any_rest p [] (suc n) h = h
 any_rest p (x ∷ xs) zero h = or_second (p x) (list_any p xs) h
@@ -38,12 +37,14 @@ any_rest p (x ∷ xs) zero h = or_second (p x) (list_any p xs) h
     or_second false b e = e
 any_rest p (x ∷ xs) (suc n) h = any_rest p xs n h
 
-covered_lower : (layers : List (List Row)) (n k : ℕ) (x y : ℤ) → is_covered layers (n + k) x y ≡ true → is_covered layers n x y ≡ true
+covered_lower : (layers : List (List Row)) (n k : ℕ) (x y : ℤ) → is_covered layers (n + k) x y ≡ true
+    → is_covered layers n x y ≡ true
 covered_lower layers n zero x y h = subst (λ (j : ℕ). is_covered layers j x y ≡ true) (add-zero n) h
 covered_lower layers n (suc k) x y h =
     covered_lower layers n k x y (any_rest (λ rows. is_on (runs_at y rows) x) layers ((n + k) + 1) (again h))
   where
-    again : is_covered layers (n + suc k) x y ≡ true → list_any (λ rows. is_on (runs_at y rows) x) (drop (suc ((n + k) + 1)) layers) ≡ true
+    again : is_covered layers (n + suc k) x y ≡ true
+        → list_any (λ rows. is_on (runs_at y rows) x) (drop (suc ((n + k) + 1)) layers) ≡ true
     again h =
         let e : (n + suc k) + 1 ≡ suc ((n + k) + 1) = omega arith in
         subst (λ (j : ℕ). list_any (λ rows. is_on (runs_at y rows) x) (drop j layers) ≡ true) e h
@@ -83,10 +84,12 @@ sinks layers n y (r ∷ rs) a = (
   where
     first : AreStretchesBelow layers n y r
     first = subst (λ (j : ℕ). AreStretchesBelow layers j y r) (add-zero n) (a.each 0 (omega arith))
+
     none_at : r ≡ [] → (k : ℕ) (d : List Run) → k < length rs → get_or rs k d ≡ []
     none_at e k d l =
         at_any rs k d [] l
-        ∙ no_more_above layers n (suc k) y (get_or rs k []) (subst (AreStretchesBelow layers n y) e first) (a.each (suc k) (omega (arith, l)))
+        ∙ no_more_above layers n (suc k) y (get_or rs k []) (subst (AreStretchesBelow layers n y) e first)
+        (a.each (suc k) (omega (arith, l)))
 
 none_kept : (all : List (List Run)) → All (λ (q : List Run). q ≡ []) all → kept_of Stretches all ≡ []
 none_kept [] a = refl
@@ -117,11 +120,13 @@ longer : (ks : List (List Run)) (r : List Run) → length (ks ++ r ∷ []) ≡ l
 longer ks r = length-append ks (r ∷ [])
 
 -- one list more is that of the lowest layer, and the others are those of one layer more
-row_lowest : (y : ℤ) (ks : List (List Run)) (r : List Run) → kept_row 0 y (ks ++ r ∷ []) ≡ record { y = y; runs = r } ∷ []
+row_lowest : (y : ℤ) (ks : List (List Run)) (r : List Run) → kept_row 0 y (ks ++ r ∷ [])
+    ≡ record { y = y; runs = r } ∷ []
 row_lowest y ks r =
     let e = longer ks r in
     let m : length (ks ++ r ∷ []) - (0 + 1) ≡ length ks = omega (arith, e) in
-    ap (λ (t : Bool). cond t (record { y = y; runs = get_or (ks ++ r ∷ []) (length (ks ++ r ∷ []) - (0 + 1)) [] } ∷ []) [])
+    ap (λ (t : Bool). cond t (record { y = y; runs = get_or (ks ++ r ∷ []) (length (ks ++ r ∷ []) - (0 + 1)) [] } ∷ [])
+    [])
     (less 0 (length (ks ++ r ∷ [])) (omega (arith, e)))
     ∙ ap (λ (j : ℕ). record { y = y; runs = get_or (ks ++ r ∷ []) j [] } ∷ []) m
     ∙ ap (λ (q : List Run). record { y = y; runs = q } ∷ []) (get_or-append_seam ks r [] [])
@@ -134,23 +139,29 @@ row_higher n y ks r = by_test (nat_lt n (length ks)) refl
         let l = ltb-true n (length ks) e in
         let m = longer ks r in
         let i : length (ks ++ r ∷ []) - (suc n + 1) ≡ length ks - (n + 1) = omega (arith, m, l) in
-        ap (λ (t : Bool). cond t (record { y = y; runs = get_or (ks ++ r ∷ []) (length (ks ++ r ∷ []) - (suc n + 1)) [] } ∷ []) [])
+        ap (λ (t : Bool). cond t
+        (record { y = y; runs = get_or (ks ++ r ∷ []) (length (ks ++ r ∷ []) - (suc n + 1)) [] } ∷ []) [])
         (less (suc n) (length (ks ++ r ∷ [])) (omega (arith, m, l)))
         ∙ ap (λ (j : ℕ). record { y = y; runs = get_or (ks ++ r ∷ []) j [] } ∷ []) i
-        ∙ ap (λ (q : List Run). record { y = y; runs = q } ∷ []) (get_or_append_left ks (r ∷ []) [] (length ks - (n + 1)) (omega (arith, l)))
+        ∙ ap (λ (q : List Run). record { y = y; runs = q } ∷ [])
+        (get_or_append_left ks (r ∷ []) [] (length ks - (n + 1)) (omega (arith, l)))
         ∙ sym (ap (λ (t : Bool). cond t (record { y = y; runs = get_or ks (length ks - (n + 1)) [] } ∷ []) []) e)
     by_test false e =
         let l = ltb-false n (length ks) e in
         let m = longer ks r in
-        ap (λ (t : Bool). cond t (record { y = y; runs = get_or (ks ++ r ∷ []) (length (ks ++ r ∷ []) - (suc n + 1)) [] } ∷ []) [])
+        ap (λ (t : Bool). cond t
+        (record { y = y; runs = get_or (ks ++ r ∷ []) (length (ks ++ r ∷ []) - (suc n + 1)) [] } ∷ []) [])
         (not_less (suc n) (length (ks ++ r ∷ [])) (omega (arith, m, l)))
         ∙ sym (ap (λ (t : Bool). cond t (record { y = y; runs = get_or ks (length ks - (n + 1)) [] } ∷ []) []) e)
 
-row_kept : (all : List (List Run)) (n : ℕ) (y : ℤ) → Sinks all → kept_row n y (kept_of Stretches all) ≡ row_of y (get_or all n [])
-row_kept [] n y s = ap (λ (t : Bool). cond t (record { y = y; runs = get_or [] (0 - (n + 1)) [] } ∷ []) []) (not_less n 0 (omega arith))
+row_kept : (all : List (List Run)) (n : ℕ) (y : ℤ) → Sinks all → kept_row n y (kept_of Stretches all)
+    ≡ row_of y (get_or all n [])
+row_kept [] n y s =
+    ap (λ (t : Bool). cond t (record { y = y; runs = get_or [] (0 - (n + 1)) [] } ∷ []) []) (not_less n 0 (omega arith))
 row_kept ([] ∷ rs) n y s =
     ap (λ (ks : List (List Run)). kept_row n y (ks ++ [])) (none_kept rs (s.0 refl))
-    ∙ ap (λ (t : Bool). cond t (record { y = y; runs = get_or [] (0 - (n + 1)) [] } ∷ []) []) (not_less n 0 (omega arith))
+    ∙ ap (λ (t : Bool). cond t (record { y = y; runs = get_or [] (0 - (n + 1)) [] } ∷ []) [])
+    (not_less n 0 (omega arith))
     ∙ sym (ap (row_of y) (at_none n))
   where
     at_none : (n : ℕ) → get_or ([] ∷ rs) n [] ≡ []
@@ -178,7 +189,8 @@ rows_kept layers n (y ∷ ys) (a ∷ us) (l ∷ ls) h =
     (rows_kept layers n ys us ls h.1)
 
 -- heights alone matter for the order
-rows_all : (P : ℤ → Type 0) (n : ℕ) (ys : List ℤ) (alls : List (List (List Run))) → All P ys → All (λ (r : Row). P r.y) (rows_at n ys alls)
+rows_all : (P : ℤ → Type 0) (n : ℕ) (ys : List ℤ) (alls : List (List (List Run))) → All P ys
+    → All (λ (r : Row). P r.y) (rows_at n ys alls)
 rows_all P n [] alls a = All-nil (λ (r : Row). P r.y)
 rows_all P n (y ∷ ys) [] a = All-nil (λ (r : Row). P r.y)
 rows_all P n (y ∷ ys) (all ∷ alls) a =
@@ -187,7 +199,9 @@ rows_all P n (y ∷ ys) (all ∷ alls) a =
   where
     one : (rs : List Run) → All (λ (r : Row). P r.y) (row_of y rs)
     one [] = All-nil (λ (r : Row). P r.y)
-    one (q ∷ qs) = All-cons (λ (r : Row). P r.y) (record { y = y; runs = q ∷ qs }) [] (All-head P y ys a) (All-nil (λ (r : Row). P r.y))
+    one (q ∷ qs) =
+        All-cons (λ (r : Row). P r.y) (record { y = y; runs = q ∷ qs }) [] (All-head P y ys a)
+        (All-nil (λ (r : Row). P r.y))
 
 rows_upwards : (n : ℕ) (ys : List ℤ) (alls : List (List (List Run))) → Ascend ys → GoUpwards (rows_at n ys alls)
 rows_upwards n [] alls a = tt
@@ -205,10 +219,12 @@ rows_some n (y ∷ ys) (all ∷ alls) = one (get_or all n []) (rows_some n ys al
   where
     not_none : (q : Run) (qs : List Run) → q ∷ qs ≡ [] → ⊥
     not_none q qs e = cc
+
     one : (rs : List Run) → All (λ (r : Row). r.runs ≢ []) (rows_at n ys alls)
         → All (λ (r : Row). r.runs ≢ []) (row_of y rs ++ rows_at n ys alls)
     one [] a = a
-    one (q ∷ qs) a = All-cons (λ (r : Row). r.runs ≢ []) (record { y = y; runs = q ∷ qs }) (rows_at n ys alls) (not_none q qs) a
+    one (q ∷ qs) a =
+        All-cons (λ (r : Row). r.runs ≢ []) (record { y = y; runs = q ∷ qs }) (rows_at n ys alls) (not_none q qs) a
 
 -- above a height there is no row
 none_over : (y : ℤ) (rows : List Row) → All (λ (r : Row). y <ℤ r.y) rows → runs_at y rows ≡ []
@@ -231,8 +247,10 @@ data Lined (layers : List (List Row)) (n : ℕ) (ys : List ℤ) (y : ℤ) (runs 
   on_line : AreStretchesBelow layers n y runs → Lined layers n ys y runs
   no_line : runs ≡ [] → (Contains ys y → ⊥) → Lined layers n ys y runs
 
-lined : (layers : List (List Row)) (want : Want) (n : ℕ) (ys : List ℤ) (alls : List (List (List Run))) (lines : List Line) (y : ℤ)
-    → n < length layers → Ascend ys → AreLines layers want ys alls lines → Lined layers n ys y (runs_at y (rows_at n ys alls))
+lined : (layers : List (List Row)) (want : Want) (n : ℕ) (ys : List ℤ) (alls : List (List (List Run)))
+    (lines : List Line) (y : ℤ)
+    → n < length layers → Ascend ys → AreLines layers want ys alls lines
+    → Lined layers n ys y (runs_at y (rows_at n ys alls))
 lined layers want n [] [] [] y l a h = no_line refl (λ c. let k = c.1 in absurd (omega (arith, k)))
 lined layers want n [] [] (m ∷ ms) y l a h = absurd h
 lined layers want n [] (a2 ∷ us) ls y l a h = absurd h
@@ -250,15 +268,18 @@ lined layers want n (z ∷ zs) (all ∷ us) (m ∷ ms) y l a h = by_order (order
         let m = h.0.are.as_many in
         let e : 0 + n ≡ n = omega arith in
         subst (λ (j : ℕ). AreStretchesBelow layers j z (get_or all n [])) e (h.0.are.each n (omega (arith, m, l)))
+
     at_first : Lined layers n (z ∷ zs) z (runs_at z (row_of z (get_or all n []) ++ rows_at n zs us))
     at_first = on_line (subst (AreStretchesBelow layers n z)
         (sym (stay z (get_or all n []) (rows_at n zs us)
         (none_over z (rows_at n zs us) (rows_all (λ w. z <ℤ w) n zs us a.0)))) there)
+
     behind : (z ≡ y → ⊥) → Lined layers n zs y (runs_at y (rows_at n zs us))
         → Lined layers n (z ∷ zs) y (runs_at y (row_of z (get_or all n []) ++ rows_at n zs us))
-    behind ne (on_line s) = on_line (subst (AreStretchesBelow layers n y) (sym (skip y z (get_or all n []) (rows_at n zs us) ne)) s)
+    behind ne (on_line s) =
+        on_line (subst (AreStretchesBelow layers n y) (sym (skip y z (get_or all n []) (rows_at n zs us) ne)) s)
     behind ne (no_line e c) = no_line (skip y z (get_or all n []) (rows_at n zs us) ne ∙ e)
-        (λ k. elim (first_or_other z zs y k) [ | inl f ↦ ne f | inr f ↦ c f ])
+        (λ k. elim (first_or_other z zs y k) [ inl f ↦ ne f | inr f ↦ c f ])
 
 -- ---- where no layer has a row there is nothing
 no_row_runs : (y : ℤ) (rows : List Row) → (Contains (row_heights rows) y → ⊥) → runs_at y rows ≡ []
@@ -268,16 +289,19 @@ no_row_runs y (r ∷ rs) n =
     (other_height r.y y (λ e. n (subst (Contains (r.y ∷ row_heights rs)) e (first_in r.y (row_heights rs)))))
     ∙ no_row_runs y rs (λ c. n (other_in r.y (row_heights rs) y c))
 
-not_on_some : (layers : List (List Row)) (x y : ℤ) → (Contains (flat_map row_heights layers) y → ⊥) → is_on_some layers x y ≡ false
+not_on_some : (layers : List (List Row)) (x y : ℤ) → (Contains (flat_map row_heights layers) y → ⊥)
+    → is_on_some layers x y ≡ false
 not_on_some [] x y n = refl
 not_on_some (rows ∷ layers) x y n =
     ap₂ (λ (rs : List Run) (t : Bool). is_on rs x || t)
     (no_row_runs y rows (λ c. n (Contains-append_left (row_heights rows) (flat_map row_heights layers) y c)))
     (not_on_some layers x y (λ c. n (Contains-append_right (row_heights rows) (flat_map row_heights layers) y c)))
 
-covered_on_some : (layers : List (List Row)) (n : ℕ) (x y : ℤ) → is_on_some (drop n layers) x y ≡ true → is_on_some layers x y ≡ true
+covered_on_some : (layers : List (List Row)) (n : ℕ) (x y : ℤ) → is_on_some (drop n layers) x y ≡ true
+    → is_on_some layers x y ≡ true
 covered_on_some layers zero x y h = h
-covered_on_some layers (suc n) x y h = covered_on_some layers n x y (any_rest (λ rows. is_on (runs_at y rows) x) layers n h)
+covered_on_some layers (suc n) x y h =
+    covered_on_some layers n x y (any_rest (λ rows. is_on (runs_at y rows) x) layers n h)
 
 module _ (layers : List (List Row)) (want : Want) (heights : List ℤ) (alls : List (List (List Run))) (lines : List Line)
     (hs : AreHeights layers heights) (are : AreLines layers want heights alls lines) where
@@ -285,10 +309,12 @@ module _ (layers : List (List Row)) (want : Want) (heights : List ℤ) (alls : L
   are_rows n l = record {
     upwards = rows_upwards n heights alls hs.ascend;
     some = rows_some n heights alls;
-    each = λ y. by_line y (runs_at y (rows_at n heights alls)) (lined layers want n heights alls lines y l hs.ascend are);
+    each = λ y. by_line y (runs_at y (rows_at n heights alls))
+        (lined layers want n heights alls lines y l hs.ascend are);
   }
     where
-      by_line : (y : ℤ) (runs : List Run) → Lined layers n heights y runs → AreStretches (λ x. IsCovered layers n x y) 0 runs
+      by_line : (y : ℤ) (runs : List Run) → Lined layers n heights y runs
+          → AreStretches (λ x. IsCovered layers n x y) 0 runs
       by_line y runs (on_line s) = are_stretches (λ x. IsCovered layers n x y) runs s.apart
           (λ x c. s.on x ∙ c) (λ x o. sym (s.on x) ∙ o)
       by_line y runs (no_line e c) = subst (AreStretches (λ x. IsCovered layers n x y) 0) (sym e)
@@ -300,7 +326,8 @@ module _ (layers : List (List Row)) (want : Want) (heights : List ℤ) (alls : L
       (rows_all (λ y. unsigned_abs y ≤ coordinate_limit) n heights alls hs.within)
 
 -- ---- a line for each height
-pub lines_length : (layers : List (List Row)) (want : Want) (ys : List ℤ) (alls : List (List (List Run))) (ls : List Line)
+pub lines_length : (layers : List (List Row)) (want : Want) (ys : List ℤ) (alls : List (List (List Run)))
+    (ls : List Line)
     → AreLines layers want ys alls ls → length ys ≡ length ls
 lines_length layers want [] [] [] h = refl
 lines_length layers want [] [] (l ∷ ls) h = absurd h

@@ -1,12 +1,11 @@
 -- The places of a row that aren't free: outlines wind round them, or they lie near to a side.
-use Rattle.std.proofs.Common.{◌≡◌, ◌≢◌, ◌⊎◌, inl, inr, ℕ, zero, suc, ◌+◌, ◌*◌, ◌<◌, ◌≤◌, ltb, Bool, true, false, not, Option, Some, None, List, [], ◌∷◌, ◌++◌, length, get_or, take, flat_map, refl, sym, ap, subst, ◌∙◌, arith, ℤ, pos, ◌+ℤ◌, ◌-ℤ◌, ◌<ℤ◌}
+use Rattle.std.proofs.Common.{◌≡◌, ◌⊎◌, inl, inr, ℕ, zero, suc, ◌+◌, ◌*◌, ◌<◌, ◌≤◌, ltb, Bool, true, false, not, Option, List, [], ◌∷◌, ◌++◌, length, get_or, flat_map, refl, sym, ap, subst, ◌∙◌, arith, ℤ, pos, ◌+ℤ◌, ◌-ℤ◌}
 use lib.Signed.{◌≤ℤ◌}
-use Rattle.std.specs.Prelude.{All, Contains, unsigned_abs, ◌||◌, option_to_list}
+use Rattle.std.specs.Prelude.{All, unsigned_abs, ◌||◌, option_to_list}
 use Rattle.std.proofs.lemmas.Int.{ints}
 use Rattle.std.proofs.lemmas.Bool.{both_ways}
-use Rattle.std.proofs.lemmas.List.{append-nil}
 use Rattle.std.proofs.lemmas.List.Folds.{list_any-append}
-use Rattle.std.proofs.lemmas.List.Elements.{All-nil, All-more, All-append, All-get_or, All-contains, All-take}
+use Rattle.std.proofs.lemmas.List.Elements.{All-append, All-contains}
 use Rattle.scad_geom.specs.declared.point.Pt.{Pt}
 use Rattle.scad_geom.specs.declared.point.Edge.{Edge}
 use Rattle.scad_geom.specs.Point.{whole}
@@ -19,14 +18,12 @@ use Rattle.std.proofs.lemmas.Bool.Decides.{Decides-int_eq}
 use borrow.Author.Tests.{ltb-true, ltb-false}
 use Rattle.plan_infill.specs.declared.line.Line.TheVariants.{Row as AtHeight}
 use Rattle.plan_infill.specs.declared.run.Run.{Run}
-use Rattle.plan_infill.specs.Runs.{IsDeep, IsRun, AreRuns}
+use Rattle.plan_infill.specs.Runs.{IsRun, AreRuns}
 use Rattle.plan_infill.proofs.Beyond.{extent, none_far}
-use Rattle.plan_support.specs.Rows.{AreApart}
 use Rattle.plan_support.specs.On.{has_place, is_on}
 use Rattle.plan_support.specs.Spans.{point_at, IsWound}
-use Rattle.plan_support.specs.Supports.{IsFree}
-use Rattle.plan_support.specs.Near.{IsPlace, AreNear, AddsNear, AreHoles}
-use Rattle.plan_support.proofs.Canonical.{HasRun, run_there, place_on}
+use Rattle.plan_support.specs.Near.{IsPlace, AreNear, AreHoles}
+use Rattle.plan_support.proofs.Canonical.{run_there, place_on}
 use Rattle.plan_support.proofs.Wound.{deep_if}
 use Rattle.plan_support.proofs.Wholly.{start_of, end_of}
 use Rattle.plan_support.proofs.Listed.{same_height, other_height}

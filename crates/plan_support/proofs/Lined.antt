@@ -1,5 +1,5 @@
 -- The work on one line, from the top layer down, and on all lines.
-use Rattle.std.proofs.Common.{◌≡◌, ℕ, zero, suc, ◌+◌, ◌<◌, ◌≤◌, min, Bool, true, false, List, [], ◌∷◌, ◌++◌, length, get_or, drop, refl, sym, ap, ap₂, subst, ◌∙◌, arith, ℤ, add-zero, add-suc}
+use Rattle.std.proofs.Common.{◌≡◌, ℕ, zero, suc, ◌+◌, ◌<◌, min, Bool, true, false, List, [], ◌∷◌, ◌++◌, length, get_or, drop, refl, sym, ap, subst, ◌∙◌, arith, ℤ, add-zero}
 use Rattle.std.specs.Prelude.{◌||◌, sum_by, All, if◌then◌else◌}
 use Rattle.std.specs.Ordering.{int_eq}
 use Rattle.std.proofs.lemmas.List.Elements.{All-head, All-tail}
@@ -9,7 +9,7 @@ use Rattle.plan_infill.specs.declared.run.Run.{Run}
 use Rattle.plan_support.specs.declared.line.Line.{Line}
 use Rattle.plan_support.specs.declared.line.Want.{Want}
 use Rattle.plan_support.specs.Rows.{Row, runs_at, AreApart}
-use Rattle.plan_support.specs.On.{is_on, is_on_some, is_covered}
+use Rattle.plan_support.specs.On.{is_on, is_on_some}
 use Rattle.plan_support.specs.Lines.{AreStretchesBelow, AreStretchesFrom, wanted_of, kept_of, greatest_count, IsLine, HasLine, AreLines, HasLines}
 
 -- what is known of the layers from the layer n on
@@ -39,7 +39,8 @@ or_turned false true = refl
 or_turned false false = refl
 
 -- one layer more
-module _ (layers : List (List Row)) (y : ℤ) (want : Want) (n : ℕ) (above : List Run) (count : ℕ) (kept : List (List Run))
+module _ (layers : List (List Row)) (y : ℤ) (want : Want) (n : ℕ) (above : List Run) (count : ℕ)
+    (kept : List (List Run))
     (a : AboveFrom layers y want (n + 1) above count kept) (l : n < length layers) where
   each_from : (k : ℕ) → k < length (above ∷ a.all) → AreStretchesBelow layers (n + k) y (get_or (above ∷ a.all) k [])
   each_from zero m = subst (λ (j : ℕ). AreStretchesBelow layers j y above) (sym (add-zero n))
@@ -52,7 +53,8 @@ module _ (layers : List (List Row)) (y : ℤ) (want : Want) (n : ℕ) (above : L
       → total ≡ min (sum_by length (above ∷ a.all)) greatest_count
   counted total e =
       let c = a.counts in
-      let s : sum_by length (above ∷ a.all) ≡ (0 + length above) + sum_by length a.all = sum_by-append length (above ∷ []) a.all in
+      let s : sum_by length (above ∷ a.all) ≡ (0 + length above) + sum_by length a.all =
+      sum_by-append length (above ∷ []) a.all in
       omega (arith, c, e, s)
 
   pub above_more : (more : List Run) (total : ℕ) (lists : List (List Run)) → AreApart more
@@ -62,22 +64,23 @@ module _ (layers : List (List Row)) (y : ℤ) (want : Want) (n : ℕ) (above : L
   above_more more total lists p o c k =
       let next : n + 1 ≡ suc n = omega arith in
       record {
-    all = above ∷ a.all;
-    are = record { as_many = (let m = a.are.as_many in omega (arith, m)); each = each_from };
-    apart = p;
-    on = λ x. o x
-        ∙ ap (λ (t : Bool). t || is_on (runs_at y (get_or layers n [])) x) (a.on x)
-        ∙ ap (λ (j : ℕ). is_on_some (drop j layers) x y || is_on (runs_at y (get_or layers n [])) x) next
-        ∙ or_turned (is_on_some (drop (suc n) layers) x y) (is_on (runs_at y (get_or layers n [])) x)
-        ∙ sym (ap (λ (ls : List (List Row)). is_on_some ls x y) (drop-cons layers n [] l));
-    counts = counted total c;
-    keeps = k ∙ ap (λ (ls : List (List Run)). ls ++ wanted_of want above) a.keeps;
-  }
+        all = above ∷ a.all;
+        are = record { as_many = (let m = a.are.as_many in omega (arith, m)); each = each_from };
+        apart = p;
+        on = λ x. o x
+            ∙ ap (λ (t : Bool). t || is_on (runs_at y (get_or layers n [])) x) (a.on x)
+            ∙ ap (λ (j : ℕ). is_on_some (drop j layers) x y || is_on (runs_at y (get_or layers n [])) x) next
+            ∙ or_turned (is_on_some (drop (suc n) layers) x y) (is_on (runs_at y (get_or layers n [])) x)
+            ∙ sym (ap (λ (ls : List (List Row)). is_on_some ls x y) (drop-cons layers n [] l));
+        counts = counted total c;
+        keeps = k ∙ ap (λ (ls : List (List Run)). ls ++ wanted_of want above) a.keeps;
+      }
 
 -- when all layers are passed
 pub line_of : (layers : List (List Row)) (y : ℤ) (want : Want) (above : List Run) (line : Line)
     → AboveFrom layers y want 0 above line.count line.covers → HasLine layers y want line
-line_of layers y want above line a = record { all = a.all; is = record { are = a.are; count = a.counts; kept = a.keeps } }
+line_of layers y want above line a =
+    record { all = a.all; is = record { are = a.are; count = a.counts; kept = a.keeps } }
 
 -- ---- one line after another
 lines_push : (layers : List (List Row)) (want : Want) (ys : List ℤ) (alls : List (List (List Run))) (ls : List Line)

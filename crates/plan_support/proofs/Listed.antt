@@ -3,7 +3,7 @@ use Rattle.std.proofs.Common.{Less, Equal, Greater, ◌≡◌, ℕ, zero, suc, �
 use lib.Signed.{◌≤ℤ◌}
 use Rattle.std.specs.Prelude.{All, if◌then◌else◌}
 use Rattle.std.specs.Ordering.{int_eq, int_cmp, ordering_index}
-use Rattle.std.specs.List.{HoldsAt, AllWithin}
+use Rattle.std.specs.List.{HoldsAt}
 use Rattle.std.specs.List.Sorted.{IsNonDecreasingBy, IsPartitionPoint}
 use Rattle.std.proofs.lemmas.Cmp.{int_ranked}
 use Rattle.std.proofs.lemmas.Int.{ints}
@@ -71,7 +71,8 @@ pub row_push : (ys : List ℤ) (lists : List (List Run)) (y : ℤ) (rs : List Ru
 row_push [] [] y rs e = refl
 row_push [] (l ∷ ls) y rs e = absurd (omega (arith, e))
 row_push (z ∷ zs) [] y rs e = absurd (omega (arith, e))
-row_push (z ∷ zs) (l ∷ ls) y rs e = ap (λ (rows : List Row). record { y = z; runs = l } ∷ rows) (row_push zs ls y rs (omega (arith, e)))
+row_push (z ∷ zs) (l ∷ ls) y rs e =
+    ap (λ (rows : List Row). record { y = z; runs = l } ∷ rows) (row_push zs ls y rs (omega (arith, e)))
 
 pub row_count : (ys : List ℤ) (lists : List (List Run)) → length ys ≡ length lists
     → length (row_list ys lists) ≡ length ys
@@ -87,7 +88,8 @@ row_get (z ∷ zs) (x ∷ xs) zero d e l = refl
 row_get (z ∷ zs) (x ∷ xs) (suc i) d e l = row_get zs xs i d (omega (arith, e)) (omega (arith, l))
 
 -- ---- rows searched by their height
-pub heights_listed : (ys : List ℤ) (lists : List (List Run)) → length ys ≡ length lists → map (λ (r : Row). r.y) (row_list ys lists) ≡ ys
+pub heights_listed : (ys : List ℤ) (lists : List (List Run)) → length ys ≡ length lists
+    → map (λ (r : Row). r.y) (row_list ys lists) ≡ ys
 heights_listed [] lists e = refl
 heights_listed (y ∷ ys) [] e = absurd (omega (arith, e))
 heights_listed (y ∷ ys) (l ∷ ls) e = ap (λ (zs : List ℤ). y ∷ zs) (heights_listed ys ls (omega (arith, e)))
@@ -105,7 +107,8 @@ rank_by a b y h = by_tests (int_lt a y) (int_lt y a) (int_lt b y) (int_lt y b) r
     by_tests false false false true d e f g = omega arith
     by_tests false false false false d e f g = omega arith
 
-heights_up : (rows : List Row) (i k : ℕ) (d : Row) → GoUpwards rows → i ≤ k → k < length rows → (get_or rows i d).y ≤ℤ (get_or rows k d).y
+heights_up : (rows : List Row) (i k : ℕ) (d : Row) → GoUpwards rows → i ≤ k → k < length rows
+    → (get_or rows i d).y ≤ℤ (get_or rows k d).y
 heights_up [] i k d a o l = absurd (omega (arith, l))
 heights_up (r ∷ rs) zero zero d a o l = omega (arith, ints)
 heights_up (r ∷ rs) zero (suc k) d a o l = let b = a.0 k d (omega (arith, l)) in omega (arith, ints, b)
@@ -115,7 +118,8 @@ heights_up (r ∷ rs) (suc i) (suc k) d a o l = heights_up rs i k d a.1 (omega (
 -- the heights rank in their order beside a place
 module _ (ys : List ℤ) (lists : List (List Run)) (rows : List Row) (y : ℤ) (as_many : length ys ≡ length lists)
     (is : row_list ys lists ≡ rows) (up : GoUpwards rows) where
-  row_at : (i : ℕ) (d : ℤ) → i < length ys → get_or rows i no_row ≡ record { y = get_or ys i d; runs = get_or lists i [] }
+  row_at : (i : ℕ) (d : ℤ) → i < length ys → get_or rows i no_row
+      ≡ record { y = get_or ys i d; runs = get_or lists i [] }
   row_at i d l = sym (ap (λ (rs : List Row). get_or rs i no_row) is) ∙ row_get ys lists i d as_many l
 
   pub searchable : IsNonDecreasingBy (λ (z : ℤ). ordering_index (int_cmp z y)) ys
@@ -127,7 +131,8 @@ module _ (ys : List ℤ) (lists : List (List Run)) (rows : List Row) (y : ℤ) (
       let b = ap (λ (r : Row). r.y) (row_at j d l) in
       rank_by (get_or ys i d) (get_or ys j d) y (omega (arith, ints, u, a, b))
 
-  pub found_row : (i : ℕ) → i < length ys → HoldsAt (λ (z : ℤ). int_cmp z y ≡ Equal) ys i → get_or lists i [] ≡ runs_at y rows
+  pub found_row : (i : ℕ) → i < length ys → HoldsAt (λ (z : ℤ). int_cmp z y ≡ Equal) ys i → get_or lists i []
+      ≡ runs_at y rows
   found_row i l h =
       let n = row_count ys lists as_many in
       let m = ap length is in
@@ -148,5 +153,7 @@ pub missed_row : (ys : List ℤ) (lists : List (List Run)) (rows : List Row) (y 
     → IsPartitionPoint (λ (z : ℤ). int_cmp z y ≡ Less) (λ (z : ℤ). int_cmp z y ≡ Greater) ys i → runs_at y rows ≡ []
 missed_row ys lists rows y i is p =
     sym (ap (runs_at y) is) ∙ missed y ys lists (λ k d l e. by_order (order (pos i) (pos k))
-    (λ o. let g = int_ranked (get_or ys k d) y Greater (sym (p.1 k d (omega (arith, ints, o)) l)) in omega (arith, ints, e, g))
-    (λ o. let g = int_ranked (get_or ys k d) y Less (sym (p.0 k d (omega arith) (omega (arith, ints, o)))) in omega (arith, ints, e, g)))
+    (λ o. let g = int_ranked (get_or ys k d) y Greater (sym (p.1 k d (omega (arith, ints, o)) l)) in
+    omega (arith, ints, e, g))
+    (λ o. let g = int_ranked (get_or ys k d) y Less (sym (p.0 k d (omega arith) (omega (arith, ints, o)))) in
+    omega (arith, ints, e, g)))

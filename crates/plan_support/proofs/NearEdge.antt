@@ -1,12 +1,11 @@
 -- What is told of an edge's ends and of its line decides which places of a row lie near to it.
-use Rattle.std.proofs.Common.{◌≡◌, ◌⊎◌, inl, inr, ℕ, ◌*◌, Bool, true, false, cond, Option, None, [], ◌∷◌, refl, sym, ap, ap₂, subst, ◌∙◌, arith, ℤ, pos, negsuc, ◌+ℤ◌, ◌-ℤ◌, ◌*ℤ◌, ◌<ℤ◌}
+use Rattle.std.proofs.Common.{◌≡◌, ℕ, ◌*◌, Bool, true, false, cond, Option, None, [], ◌∷◌, refl, sym, ap, subst, ◌∙◌, arith, ℤ, pos, ◌+ℤ◌, ◌-ℤ◌, ◌*ℤ◌, ◌<ℤ◌}
 use lib.Signed.{◌≤ℤ◌}
-use Rattle.std.specs.Prelude.{int_lt, int_le, unsigned_abs, ◌&&◌, ◌↔◌, option_to_list}
+use Rattle.std.specs.Prelude.{int_lt, int_le, unsigned_abs, ◌&&◌}
 use Rattle.std.specs.Int.{int_min, int_max}
 use Rattle.std.proofs.lemmas.Int.{ints}
 use Rattle.std.proofs.lemmas.Bool.{both_ways, and_parts}
 use Rattle.std.proofs.lemmas.List.Elements.{All-nil}
-use Rattle.scad_geom.specs.declared.point.Pt.{Pt}
 use Rattle.scad_geom.specs.declared.point.Edge.{Edge}
 use Rattle.scad_geom.specs.Point.{whole}
 use Rattle.scad_geom.specs.Line.{low, high, rise, run, offset, x_at}
@@ -18,8 +17,7 @@ use Rattle.scad_geom.proofs.Bounds.{rise_at_least}
 use Rattle.plan_infill.specs.declared.run.Run.{Run}
 use Rattle.plan_support.specs.declared.reach.Reach.{Reach}
 use Rattle.plan_support.specs.Spans.{point_at}
-use Rattle.plan_support.specs.On.{is_on}
-use Rattle.plan_support.specs.Near.{IsPlace, AreNear, IsIn, IsBesideEnds, IsBesideLine, IsWithinReach, IsClipped}
+use Rattle.plan_support.specs.Near.{AreNear, IsBesideEnds, IsBesideLine, IsWithinReach, IsClipped}
 use Rattle.plan_support.proofs.Extents.{lesser, greater}
 use Rattle.plan_support.proofs.NearRow.{FoundFor, meets_if, found_if, turned, mirrored_lies, mirrored_back, cross_is, IsTold, found_by, told_of}
 
@@ -39,11 +37,13 @@ flat_cross : (lx ly hx x y : ℤ) → (hx -ℤ x) *ℤ (ly -ℤ y) -ℤ (lx -ℤ
 flat_cross lx ly hx x y = ring (lx ∷ ly ∷ hx ∷ x ∷ y ∷ [])
     ((v2 ⊖ v3) ⊗ (v1 ⊖ v4) ⊖ (v0 ⊖ v3) ⊗ (v1 ⊖ v4)) ((v2 ⊖ v0) ⊗ (v1 ⊖ v4)) refl
 
-flat_over : (g lx ly hx y : ℤ) → (hx -ℤ lx) *ℤ (g -ℤ (ly -ℤ y)) ≡ g *ℤ ((hx -ℤ lx) +ℤ (ly -ℤ ly)) -ℤ (hx -ℤ lx) *ℤ (ly -ℤ y)
+flat_over : (g lx ly hx y : ℤ) → (hx -ℤ lx) *ℤ (g -ℤ (ly -ℤ y))
+    ≡ g *ℤ ((hx -ℤ lx) +ℤ (ly -ℤ ly)) -ℤ (hx -ℤ lx) *ℤ (ly -ℤ y)
 flat_over g lx ly hx y = ring (g ∷ lx ∷ ly ∷ hx ∷ y ∷ [])
     ((v3 ⊖ v1) ⊗ (v0 ⊖ (v2 ⊖ v4))) (v0 ⊗ ((v3 ⊖ v1) ⊕ (v2 ⊖ v2)) ⊖ (v3 ⊖ v1) ⊗ (v2 ⊖ v4)) refl
 
-flat_under : (g lx ly hx y : ℤ) → (hx -ℤ lx) *ℤ (g +ℤ (ly -ℤ y)) ≡ g *ℤ ((hx -ℤ lx) +ℤ (ly -ℤ ly)) +ℤ (hx -ℤ lx) *ℤ (ly -ℤ y)
+flat_under : (g lx ly hx y : ℤ) → (hx -ℤ lx) *ℤ (g +ℤ (ly -ℤ y))
+    ≡ g *ℤ ((hx -ℤ lx) +ℤ (ly -ℤ ly)) +ℤ (hx -ℤ lx) *ℤ (ly -ℤ y)
 flat_under g lx ly hx y = ring (g ∷ lx ∷ ly ∷ hx ∷ y ∷ [])
     ((v3 ⊖ v1) ⊗ (v0 ⊕ (v2 ⊖ v4))) (v0 ⊗ ((v3 ⊖ v1) ⊕ (v2 ⊖ v2)) ⊕ (v3 ⊖ v1) ⊗ (v2 ⊖ v4)) refl
 
@@ -104,7 +104,8 @@ module _ (g lx ly hx hy x y : ℤ) (up : ly ≤ℤ hy) (r : lx ≤ℤ hx) where
       }
 
 -- ---- of one that runs to the left on its way up, by its mirror image
-mirror_cross : (lx ly hx hy x y : ℤ) → ((pos 0 -ℤ hx) -ℤ (pos 0 -ℤ x)) *ℤ (ly -ℤ y) -ℤ ((pos 0 -ℤ lx) -ℤ (pos 0 -ℤ x)) *ℤ (hy -ℤ y)
+mirror_cross : (lx ly hx hy x y : ℤ)
+    → ((pos 0 -ℤ hx) -ℤ (pos 0 -ℤ x)) *ℤ (ly -ℤ y) -ℤ ((pos 0 -ℤ lx) -ℤ (pos 0 -ℤ x)) *ℤ (hy -ℤ y)
     ≡ ((hx -ℤ lx) *ℤ y +ℤ ((hy -ℤ ly) *ℤ lx -ℤ (hx -ℤ lx) *ℤ ly) *ℤ pos 1) -ℤ x *ℤ (hy -ℤ ly)
 mirror_cross lx ly hx hy x y = ring (lx ∷ ly ∷ hx ∷ hy ∷ x ∷ y ∷ [])
     (((num (pos 0) ⊖ v2) ⊖ (num (pos 0) ⊖ v4)) ⊗ (v1 ⊖ v5) ⊖ ((num (pos 0) ⊖ v0) ⊖ (num (pos 0) ⊖ v4)) ⊗ (v3 ⊖ v5))
@@ -245,8 +246,17 @@ module _ (e : Edge) (gap : ℕ) (x y : ℤ) where
   pub found_if_beside : IsBesideRow e y gap → IsBesideEnds e gap x → (pos 0 <ℤ rise e → IsBesideLine e y gap x)
       → FoundFor gap x y (low e) (high e)
   unfolding x_at offset run rise
-  found_if_beside b ends line = found_beside (pos gap) (low e).x (low e).y (high e).x (high e).y x y (omega (arith, ints)) goes_up
-      (record { below = b.below; above = b.above; from = ends.from; to = ends.to; line_from = λ r. (line r).from; line_to = λ r. (line r).to })
+  found_if_beside b ends line =
+      found_beside (pos gap) (low e).x (low e).y (high e).x (high e).y x y (omega (arith, ints)) goes_up
+      (record {
+        below = b.below;
+        above = b.above;
+        from = ends.from;
+        to = ends.to;
+        line_from =
+            λ r. (line r).from;
+        line_to = λ r. (line r).to;
+      })
 
   told : FoundFor gap x y (low e) (high e) → IsBeside (pos gap) (low e).x (low e).y (high e).x (high e).y x y
       (pos gap *ℤ (pos (unsigned_abs ((high e).x -ℤ (low e).x)) +ℤ ((high e).y -ℤ (low e).y)))
@@ -279,10 +289,12 @@ module _ (e : Edge) (gap : ℕ) (x y : ℤ) where
       by_test true = turned (pos gap) (e.a.x -ℤ x) (e.a.y -ℤ y) (e.b.x -ℤ x) (e.b.y -ℤ y) f
       by_test false = f
 
-  pub meets : FoundFor gap x y (low e) (high e) → MeetsBox (pos (2 * gap)) (whole (point_at x y)) (whole e.a) (whole e.b)
+  pub meets : FoundFor gap x y (low e) (high e)
+      → MeetsBox (pos (2 * gap)) (whole (point_at x y)) (whole e.a) (whole e.b)
   meets f = meets_if gap x y e.a e.b (as_it_is f)
 
-  pub clear : (FoundFor gap x y (low e) (high e) → ⊥) → IsClear (pos (2 * gap)) (whole (point_at x y)) (whole e.a) (whole e.b)
+  pub clear : (FoundFor gap x y (low e) (high e) → ⊥)
+      → IsClear (pos (2 * gap)) (whole (point_at x y)) (whole e.a) (whole e.b)
   clear n s t from to some c = n (upwards (found_if gap x y e.a e.b s t from to some c))
 
 -- ---- the places of a row

@@ -1,20 +1,14 @@
--- Which places of a row lie within a gap of an edge along both axes: those that aren't far from its ends, nor from its line.
-use Rattle.std.proofs.Common.{◌≡◌, ◌⊎◌, inl, inr, ℕ, ◌*◌, Bool, true, false, cond, [], ◌∷◌, refl, sym, ap, subst, ◌∙◌, arith, ℤ, pos, ◌+ℤ◌, ◌-ℤ◌, ◌*ℤ◌, ◌<ℤ◌}
+-- Which places of a row lie within a gap of an edge along both axes: those that aren't far from its ends, nor from its
+-- line.
+use Rattle.std.proofs.Common.{◌≡◌, ℕ, ◌*◌, [], ◌∷◌, refl, sym, subst, arith, ℤ, pos, ◌+ℤ◌, ◌-ℤ◌, ◌*ℤ◌, ◌<ℤ◌}
 use lib.Signed.{◌≤ℤ◌}
-use Rattle.std.specs.Prelude.{int_lt, unsigned_abs}
-use Rattle.std.specs.Int.{int_min, int_max}
 use Rattle.std.proofs.lemmas.Int.{ints}
 use Rattle.scad_geom.specs.declared.point.Pt.{Pt}
-use Rattle.scad_geom.specs.declared.point.Edge.{Edge}
 use Rattle.scad_geom.specs.Point.{whole}
-use Rattle.scad_geom.specs.Line.{low, high, rise, run, offset, x_at}
-use Rattle.scad_geom.specs.Near.{mean, IsHalf, IsClose, MeetsBox, IsClear}
+use Rattle.scad_geom.specs.Near.{mean, IsHalf, IsClose, MeetsBox}
 use Rattle.scad_geom.proofs.Ring.{ring, num, ◌⊕◌, ◌⊖◌, ◌⊗◌, v0, v1, v2, v3, v4, v5, v6}
-use Rattle.scad_geom.proofs.Rising.{Lies, Found, Passes, found, passes, by_order, order}
-use Rattle.scad_geom.proofs.Signs.{at_least_mul}
+use Rattle.scad_geom.proofs.Rising.{Lies, Found, found, passes}
 use Rattle.plan_support.specs.Spans.{point_at}
-use Rattle.plan_support.specs.Near.{IsBesideEnds, IsBesideLine}
-use Rattle.plan_support.proofs.Extents.{lesser, greater}
 
 -- ---- points of an edge, seen from a whole point
 place : (s t a b x : ℤ) → (s *ℤ a +ℤ t *ℤ b) *ℤ pos 1 -ℤ x *ℤ (s *ℤ pos 1 +ℤ t *ℤ pos 1)
@@ -31,9 +25,11 @@ doubled_gap : (gap : ℕ) → pos (2 * gap) ≡ pos 2 *ℤ pos gap
 doubled_gap gap = omega (arith, ints)
 
 half_of : (gap : ℕ) (s t a b x : ℤ) → Lies (pos gap) s t (a -ℤ x) (b -ℤ x)
-    → IsHalf (pos (2 * gap)) ((s *ℤ a +ℤ t *ℤ b) *ℤ pos 1 -ℤ x *ℤ (s *ℤ pos 1 +ℤ t *ℤ pos 1)) ((s *ℤ pos 1 +ℤ t *ℤ pos 1) *ℤ pos 1)
+    → IsHalf (pos (2 * gap)) ((s *ℤ a +ℤ t *ℤ b) *ℤ pos 1 -ℤ x *ℤ (s *ℤ pos 1 +ℤ t *ℤ pos 1))
+    ((s *ℤ pos 1 +ℤ t *ℤ pos 1) *ℤ pos 1)
 half_of gap s t a b x l =
-    subst (λ (h : ℤ). IsHalf h ((s *ℤ a +ℤ t *ℤ b) *ℤ pos 1 -ℤ x *ℤ (s *ℤ pos 1 +ℤ t *ℤ pos 1)) ((s *ℤ pos 1 +ℤ t *ℤ pos 1) *ℤ pos 1))
+    subst (λ (h : ℤ). IsHalf h ((s *ℤ a +ℤ t *ℤ b) *ℤ pos 1 -ℤ x *ℤ (s *ℤ pos 1 +ℤ t *ℤ pos 1))
+    ((s *ℤ pos 1 +ℤ t *ℤ pos 1) *ℤ pos 1))
     (sym (doubled_gap gap))
     (let f = l.from in
     let g = l.to in
@@ -42,10 +38,13 @@ half_of gap s t a b x l =
     record { from = omega (arith, ints, f, p, w); to = omega (arith, ints, g, p, w) })
 
 lies_of : (gap : ℕ) (s t a b x : ℤ)
-    → IsHalf (pos (2 * gap)) ((s *ℤ a +ℤ t *ℤ b) *ℤ pos 1 -ℤ x *ℤ (s *ℤ pos 1 +ℤ t *ℤ pos 1)) ((s *ℤ pos 1 +ℤ t *ℤ pos 1) *ℤ pos 1)
+    → IsHalf (pos (2 * gap)) ((s *ℤ a +ℤ t *ℤ b) *ℤ pos 1 -ℤ x *ℤ (s *ℤ pos 1 +ℤ t *ℤ pos 1))
+    ((s *ℤ pos 1 +ℤ t *ℤ pos 1) *ℤ pos 1)
     → Lies (pos gap) s t (a -ℤ x) (b -ℤ x)
 lies_of gap s t a b x h =
-    let k = subst (λ (z : ℤ). IsHalf z ((s *ℤ a +ℤ t *ℤ b) *ℤ pos 1 -ℤ x *ℤ (s *ℤ pos 1 +ℤ t *ℤ pos 1)) ((s *ℤ pos 1 +ℤ t *ℤ pos 1) *ℤ pos 1))
+    let k = subst
+    (λ (z : ℤ). IsHalf z ((s *ℤ a +ℤ t *ℤ b) *ℤ pos 1 -ℤ x *ℤ (s *ℤ pos 1 +ℤ t *ℤ pos 1))
+    ((s *ℤ pos 1 +ℤ t *ℤ pos 1) *ℤ pos 1))
     (doubled_gap gap) h in
     let f = k.from in
     let g = k.to in
@@ -81,7 +80,8 @@ found_if gap x y a b s t from to some c = record {
 
 -- the same with the ends exchanged
 turned_lies : (w s t a b : ℤ) → Lies w s t a b → Lies w t s b a
-turned_lies w s t a b l = let f = l.from in let g = l.to in record { from = omega (arith, ints, f, e); to = omega (arith, ints, g, e) }
+turned_lies w s t a b l = let f = l.from in let g = l.to in
+    record { from = omega (arith, ints, f, e); to = omega (arith, ints, g, e) }
   where
     e : w *ℤ (t +ℤ s) ≡ w *ℤ (s +ℤ t)
     e = ring (w ∷ s ∷ t ∷ []) (v0 ⊗ (v2 ⊕ v1)) (v0 ⊗ (v1 ⊕ v2)) refl
@@ -101,16 +101,20 @@ turned w ax ay bx by f =
 
 -- and mirrored across
 pub mirrored_lies : (w s t a b x : ℤ) → Lies w s t (a -ℤ x) (b -ℤ x) → Lies w s t (x -ℤ a) (x -ℤ b)
-mirrored_lies w s t a b x l = let f = l.from in let g = l.to in record { from = omega (arith, ints, g, e); to = omega (arith, ints, f, e) }
+mirrored_lies w s t a b x l = let f = l.from in let g = l.to in
+    record { from = omega (arith, ints, g, e); to = omega (arith, ints, f, e) }
   where
     e : s *ℤ (x -ℤ a) +ℤ t *ℤ (x -ℤ b) ≡ pos 0 -ℤ (s *ℤ (a -ℤ x) +ℤ t *ℤ (b -ℤ x))
-    e = ring (s ∷ t ∷ a ∷ b ∷ x ∷ []) (v0 ⊗ (v4 ⊖ v2) ⊕ v1 ⊗ (v4 ⊖ v3)) (num (pos 0) ⊖ (v0 ⊗ (v2 ⊖ v4) ⊕ v1 ⊗ (v3 ⊖ v4))) refl
+    e = ring (s ∷ t ∷ a ∷ b ∷ x ∷ []) (v0 ⊗ (v4 ⊖ v2) ⊕ v1 ⊗ (v4 ⊖ v3))
+        (num (pos 0) ⊖ (v0 ⊗ (v2 ⊖ v4) ⊕ v1 ⊗ (v3 ⊖ v4))) refl
 
 pub mirrored_back : (w s t a b x : ℤ) → Lies w s t (x -ℤ a) (x -ℤ b) → Lies w s t (a -ℤ x) (b -ℤ x)
-mirrored_back w s t a b x l = let f = l.from in let g = l.to in record { from = omega (arith, ints, g, e); to = omega (arith, ints, f, e) }
+mirrored_back w s t a b x l = let f = l.from in let g = l.to in
+    record { from = omega (arith, ints, g, e); to = omega (arith, ints, f, e) }
   where
     e : s *ℤ (a -ℤ x) +ℤ t *ℤ (b -ℤ x) ≡ pos 0 -ℤ (s *ℤ (x -ℤ a) +ℤ t *ℤ (x -ℤ b))
-    e = ring (s ∷ t ∷ a ∷ b ∷ x ∷ []) (v0 ⊗ (v2 ⊖ v4) ⊕ v1 ⊗ (v3 ⊖ v4)) (num (pos 0) ⊖ (v0 ⊗ (v4 ⊖ v2) ⊕ v1 ⊗ (v4 ⊖ v3))) refl
+    e = ring (s ∷ t ∷ a ∷ b ∷ x ∷ []) (v0 ⊗ (v2 ⊖ v4) ⊕ v1 ⊗ (v3 ⊖ v4))
+        (num (pos 0) ⊖ (v0 ⊗ (v4 ⊖ v2) ⊕ v1 ⊗ (v4 ⊖ v3))) refl
 
 -- ---- the tests of an edge read upwards, from (lx, ly) to (hx, hy)
 -- how far a point lies to the side of its line, times its length

@@ -1,7 +1,7 @@
 -- The places that an edge reaches, by its ends and by its line.
 use Rattle.std.proofs.Common.{◌≡◌, ℕ, Bool, true, false, Some, None, [], ◌∷◌, refl, arith, ℤ, pos, ◌+ℤ◌, ◌-ℤ◌, ◌*ℤ◌, ◌<ℤ◌}
 use lib.Signed.{◌≤ℤ◌}
-use Rattle.std.specs.Prelude.{◌↔◌, unsigned_abs, int_le, ◌||◌, ◌&&◌}
+use Rattle.std.specs.Prelude.{int_le, ◌||◌, ◌&&◌}
 use Rattle.std.specs.Int.{int_min, int_max}
 use Rattle.std.proofs.lemmas.Int.{ints}
 use Rattle.std.proofs.lemmas.Bool.{both_ways, and_parts}
@@ -15,7 +15,7 @@ use Rattle.plan_infill.specs.declared.run.Run.{Run}
 use Rattle.plan_support.specs.On.{is_on}
 use Rattle.plan_support.proofs.Canonical.{place_on, first_in}
 use Rattle.plan_support.specs.declared.reach.Reach.{Reach}
-use Rattle.plan_support.specs.Near.{IsIn, IsBesideEnds, IsBesideLine, line_reach, IsWithinReach, IsClipped}
+use Rattle.plan_support.specs.Near.{IsBesideEnds, line_reach, IsWithinReach, IsClipped}
 use Rattle.plan_support.proofs.Extents.{lesser, greater}
 
 from_ceiling : (n d r x : ℤ) → pos 0 <ℤ d → IsCeiling n d r → r ≤ℤ x → n ≤ℤ (x *ℤ d)
@@ -46,7 +46,8 @@ module _ (e : Edge) (y : ℤ) (gap : ℕ) (ends : Reach) (from : ends.from ≡ i
   pub within_ends : (pos 0 <ℤ rise e → ⊥) → IsWithinReach e y gap ends
   within_ends flat x = (
     (λ i. (ends_if x i.from i.to, λ r. absurd (flat r))),
-    (λ k. let a = k.0.from in let b = k.0.to in record { from = omega (arith, ints, a, from); to = omega (arith, ints, b, to) }),
+    (λ k. let a = k.0.from in let b = k.0.to in
+        record { from = omega (arith, ints, a, from); to = omega (arith, ints, b, to) }),
   )
 
   pub within_both : (line both : Reach) → pos 0 <ℤ rise e
@@ -61,28 +62,31 @@ module _ (e : Edge) (y : ℤ) (gap : ℕ) (ends : Reach) (from : ends.from ≡ i
       let l1 = l.first in
       let l2 = l.second in (
         (λ i.
-        let a = i.from in
-        let b = i.to in (
-          ends_if x (omega (arith, ints, a, g1)) (omega (arith, ints, b, l1)),
-          λ r. record {
-            from = from_ceiling (x_at e y (pos 1) -ℤ line_reach e gap) (rise e) line.from x rises c (omega (arith, ints, a, g2));
-            to = from_floor (x_at e y (pos 1) +ℤ line_reach e gap) (rise e) line.to x rises f (omega (arith, ints, b, l2));
-          },
-        )),
+            let a = i.from in
+            let b = i.to in (
+              ends_if x (omega (arith, ints, a, g1)) (omega (arith, ints, b, l1)),
+              λ r. record {
+                from = from_ceiling (x_at e y (pos 1) -ℤ line_reach e gap) (rise e) line.from x rises c
+                    (omega (arith, ints, a, g2));
+                to = from_floor (x_at e y (pos 1) +ℤ line_reach e gap) (rise e) line.to x rises f
+                    (omega (arith, ints, b, l2));
+              },
+            )),
         (λ k.
-        let a = k.0.from in
-        let b = k.0.to in
-        let s = k.1 rises in
-        record {
-          from = g.least x (omega (arith, ints, a, from))
-              (to_ceiling (x_at e y (pos 1) -ℤ line_reach e gap) (rise e) line.from x rises c s.from);
-          to = l.greatest x (omega (arith, ints, b, to))
-              (to_floor (x_at e y (pos 1) +ℤ line_reach e gap) (rise e) line.to x rises f s.to);
-        }),
+            let a = k.0.from in
+            let b = k.0.to in
+            let s = k.1 rises in
+            record {
+              from = g.least x (omega (arith, ints, a, from))
+                  (to_ceiling (x_at e y (pos 1) -ℤ line_reach e gap) (rise e) line.from x rises c s.from);
+              to = l.greatest x (omega (arith, ints, b, to))
+                  (to_floor (x_at e y (pos 1) +ℤ line_reach e gap) (rise e) line.to x rises f s.to);
+            }),
       )
 
 -- ---- clipped to the places that a run can have
-module _ (from to first last : ℤ) (f : first ≡ int_max from (pos 0 -ℤ pos 2147483648)) (t : last ≡ int_min to (pos 2147483647)) where
+module _ (from to first last : ℤ) (f : first ≡ int_max from (pos 0 -ℤ pos 2147483648))
+    (t : last ≡ int_min to (pos 2147483647)) where
   pub clipped_some : first ≤ℤ last → IsClipped from to (Some (record { from = first; to = last }))
   clipped_some o =
       let g = greater from (pos 0 -ℤ pos 2147483648) first f in
@@ -90,27 +94,30 @@ module _ (from to first last : ℤ) (f : first ≡ int_max from (pos 0 -ℤ pos 
       let g1 = g.first in
       let l1 = l.first in
       record {
-        some = All-cons (λ (r : Run). r.from ≤ℤ r.to) (record { from = first; to = last }) [] o (All-nil (λ (r : Run). r.from ≤ℤ r.to));
+        some = All-cons (λ (r : Run). r.from ≤ℤ r.to) (record { from = first; to = last }) [] o
+            (All-nil (λ (r : Run). r.from ≤ℤ r.to));
         is = λ x p. (
-            (λ h.
-            let a = place_from x h in
-            let b = place_to x h in
-            (omega (arith, ints, a, g1), omega (arith, ints, b, l1))),
-            (λ k.
-            let a = g.least x k.0 p.from in
-            let b = l.greatest x k.1 p.to in
-            place_on (record { from = first; to = last } ∷ []) (record { from = first; to = last }) x
-            (first_in (record { from = first; to = last }) []) a b),
+          (λ h.
+              let a = place_from x h in
+              let b = place_to x h in
+              (omega (arith, ints, a, g1), omega (arith, ints, b, l1))),
+          (λ k.
+              let a = g.least x k.0 p.from in
+              let b = l.greatest x k.1 p.to in
+              place_on (record { from = first; to = last } ∷ []) (record { from = first; to = last }) x
+              (first_in (record { from = first; to = last }) []) a b),
         );
       }
     where
       or_false : (b : Bool) → (b || false) ≡ true → b ≡ true
       or_false true h = refl
       or_false false h = h
+
       place_from : (x : ℤ) → is_on (record { from = first; to = last } ∷ []) x ≡ true → first ≤ℤ x
       place_from x h =
           let p = (and_parts (int_le first x) (int_le x last) (or_false (int_le first x && int_le x last) h)).0 in
           omega (arith, ints, p)
+
       place_to : (x : ℤ) → is_on (record { from = first; to = last } ∷ []) x ≡ true → x ≤ℤ last
       place_to x h =
           let p = (and_parts (int_le first x) (int_le x last) (or_false (int_le first x && int_le x last) h)).1 in
@@ -123,10 +130,10 @@ module _ (from to first last : ℤ) (f : first ≡ int_max from (pos 0 -ℤ pos 
       record {
         some = All-nil (λ (r : Run). r.from ≤ℤ r.to);
         is = λ x p. (
-            (λ h. absurd (both_ways _ refl h)),
-            (λ k.
-            let a = g.least x k.0 p.from in
-            let b = l.greatest x k.1 p.to in
-            absurd (omega (arith, ints, o, a, b))),
+          (λ h. absurd (both_ways _ refl h)),
+          (λ k.
+              let a = g.least x k.0 p.from in
+              let b = l.greatest x k.1 p.to in
+              absurd (omega (arith, ints, o, a, b))),
         );
       }

@@ -118,7 +118,8 @@ module _ (outlines : List (List Pt)) (spacing : ℕ) where
         record {
           upwards = upwards_push rows row s.upwards s.below;
           some = All-push (λ (q : Row). q.runs ≢ []) rows row s.some (λ e. not_none e);
-          below = All-push (λ (q : Row). q.y <ℤ (place +ℤ pos spacing)) rows row still_below (omega (arith, ints, spaced));
+          below = All-push (λ (q : Row). q.y <ℤ (place +ℤ pos spacing)) rows row still_below
+              (omega (arith, ints, spaced));
           within = All-push (λ (q : Row). unsigned_abs q.y ≤ coordinate_limit) rows row s.within w;
           each = λ y l. by_order (order place y)
               (λ k. by_order (order y place)

@@ -1,7 +1,6 @@
 -- Sorted runs are in the order of their starts.
 use Rattle.std.proofs.Common.{◌≡◌, ℕ, zero, suc, ◌<◌, ◌≤◌, Bool, false, List, [], ◌∷◌, length, get_or, sym, arith, int_lt}
 use lib.Signed.{◌≤ℤ◌}
-use Rattle.std.specs.Prelude.{All}
 use Rattle.std.specs.List.Sorted.{IsSortedBy}
 use Rattle.std.specs.Cmp.{IsStrictWeakOrder}
 use Rattle.std.proofs.lemmas.Int.{ints}

@@ -1,7 +1,7 @@
 -- The support runs of rows, one row after another.
-use Rattle.std.proofs.Common.{◌≡◌, ◌≢◌, ◌⊎◌, inl, inr, ℕ, zero, suc, ◌+◌, ◌<◌, ◌≤◌, Bool, true, false, cond, not, List, [], ◌∷◌, ◌++◌, length, get_or, take, refl, sym, ap, ap₂, subst, ◌∙◌, arith, ℤ, pos, ◌+ℤ◌, ◌-ℤ◌, ◌<ℤ◌}
+use Rattle.std.proofs.Common.{◌≡◌, ◌≢◌, inl, inr, ℕ, zero, suc, ◌+◌, ◌<◌, ◌≤◌, Bool, true, false, cond, not, List, [], ◌∷◌, ◌++◌, length, get_or, take, refl, sym, ap, ap₂, subst, ◌∙◌, arith, ℤ, pos, ◌+ℤ◌, ◌-ℤ◌, ◌<ℤ◌}
 use lib.Signed.{◌≤ℤ◌}
-use Rattle.std.specs.Prelude.{All, Contains, int_le, ◌||◌, ◌&&◌, unsigned_abs}
+use Rattle.std.specs.Prelude.{All, Contains, int_le, ◌&&◌}
 use Rattle.std.proofs.lemmas.Int.{ints}
 use Rattle.std.proofs.lemmas.Bool.{both_ways, and_parts}
 use Rattle.std.proofs.lemmas.List.{append-nil, append_assoc, take_more, take_all}
@@ -11,12 +11,12 @@ use Rattle.scad_geom.proofs.Rising.{by_order, order}
 use Rattle.plan_infill.specs.declared.run.Run.{Run}
 use Rattle.plan_infill.specs.Runs.{GoUp}
 use Rattle.plan_support.specs.Stretches.{IsStretch, AreStretches}
-use Rattle.plan_support.specs.Rows.{Row, runs_at, GoUpwards, AreApart, AreRows, AreRowsOf, no_row}
-use Rattle.plan_support.specs.On.{has_place, is_on}
-use Rattle.plan_support.specs.Spans.{point_at, row_of}
+use Rattle.plan_support.specs.Rows.{Row, runs_at, GoUpwards, AreRowsOf}
+use Rattle.plan_support.specs.On.{is_on}
+use Rattle.plan_support.specs.Spans.{row_of}
 use Rattle.plan_support.specs.Free.{at_least, AreLeft}
 use Rattle.plan_support.specs.Near.{IsPlace, HasPlaces, AreHoles}
-use Rattle.plan_support.specs.Supports.{IsFree, IsSupported, IsFreeOn, row_paths, paths_of, way_behind, AddsRow, AreSupports}
+use Rattle.plan_support.specs.Supports.{IsSupported, IsFreeOn, row_paths, paths_of, way_behind, AddsRow, AreSupports}
 use Rattle.plan_support.proofs.Canonical.{run_there, are_stretches, first_in, other_in, first_or_other}
 use Rattle.plan_support.proofs.Stretched.{no_stretches}
 use Rattle.plan_support.proofs.Listed.{none_above, others_stay, last_row, upwards_push}
@@ -77,7 +77,8 @@ module _ (Holds : ℤ → Type 0) (least : ℕ) where
   longer : Run → Bool
   longer r = int_le (pos least) (r.to -ℤ r.from)
 
-  kept_after : (r : Run) (rs : List Run) → All (λ (s : Run). r.to <ℤ s.from) rs → All (λ (s : Run). r.to <ℤ s.from) (at_least least rs)
+  kept_after : (r : Run) (rs : List Run) → All (λ (s : Run). r.to <ℤ s.from) rs
+      → All (λ (s : Run). r.to <ℤ s.from) (at_least least rs)
   kept_after r [] a = All-nil (λ (s : Run). r.to <ℤ s.from)
   kept_after r (q ∷ qs) a =
       by_test (int_le (pos least) (q.to -ℤ q.from)) (kept_after r qs (All-tail (λ (s : Run). r.to <ℤ s.from) q qs a))
@@ -109,7 +110,8 @@ module _ (Holds : ℤ → Type 0) (least : ℕ) where
           (record { long = omega (arith, ints, e); holds = s.holds; before = s.before; after = s.after }) rest
       by_test false e rest = rest
 
-  kept_there : (rs : List Run) (r : Run) → pos least ≤ℤ (r.to -ℤ r.from) → Contains rs r → Contains (at_least least rs) r
+  kept_there : (rs : List Run) (r : Run) → pos least ≤ℤ (r.to -ℤ r.from) → Contains rs r
+      → Contains (at_least least rs) r
   kept_there [] r l c = c
   kept_there (q ∷ qs) r l c =
       by_test (int_le (pos least) (q.to -ℤ q.from)) refl (λ o. kept_there qs r l o)
@@ -119,6 +121,7 @@ module _ (Holds : ℤ → Type 0) (least : ℕ) where
           let a : q.from ≡ r.from = ap (λ (z : Run). z.from) s in
           let b : q.to ≡ r.to = ap (λ (z : Run). z.to) s in
           omega (arith, ints, a, b, e, l)
+
       by_test : (t : Bool) → int_le (pos least) (q.to -ℤ q.from) ≡ t → (Contains qs r → Contains (at_least least qs) r)
           → Contains (cond t (q ∷ at_least least qs) (at_least least qs)) r
       by_test true e others = elim (first_or_other q qs r c) [
@@ -135,7 +138,11 @@ module _ (Holds : ℤ → Type 0) (least : ℕ) where
     upwards = kept_up rs a.upwards;
     each = kept_each rs a.each;
     all = λ r s. let l = s.long in kept_there rs r l (a.all r (record {
-        long = omega (arith, ints, l); holds = s.holds; before = s.before; after = s.after }));
+      long = omega (arith, ints, l);
+      holds = s.holds;
+      before = s.before;
+      after = s.after;
+    }));
   }
 
 -- ---- paths of one row more
@@ -146,7 +153,8 @@ paths_more right (r ∷ rs) more =
     ap (λ (ps : List (List Pt)). row_paths right r ++ ps) (paths_more (not right) rs more)
     ∙ sym (append_assoc (row_paths right r) (paths_of (not right) rs) (paths_of (way_behind (not right) rs) more))
 
-way_more : (right : Bool) (rows more : List Row) → way_behind right (rows ++ more) ≡ way_behind (way_behind right rows) more
+way_more : (right : Bool) (rows more : List Row) → way_behind right (rows ++ more)
+    ≡ way_behind (way_behind right rows) more
 way_more right [] more = refl
 way_more right (r ∷ rs) more = way_more (not right) rs more
 
@@ -174,7 +182,8 @@ supported_start outlines cover gap least = record {
 }
 
 -- rows upwards, by their places in the list
-up_at : (rows : List Row) (i k : ℕ) (d e : Row) → GoUpwards rows → i < k → k < length rows → (get_or rows i e).y <ℤ (get_or rows k d).y
+up_at : (rows : List Row) (i k : ℕ) (d e : Row) → GoUpwards rows → i < k → k < length rows
+    → (get_or rows i e).y <ℤ (get_or rows k d).y
 up_at [] i k d e a o l = absurd (omega (arith, l))
 up_at (r ∷ rs) zero zero d e a o l = absurd (omega (arith, o))
 up_at (r ∷ rs) zero (suc k) d e a o l = a.0 k d (omega (arith, l))
@@ -190,97 +199,107 @@ taken_below (r ∷ rs) (suc i) d a l =
     (taken_below rs i d a.1 (omega (arith, l)))
 
 module _ (outlines : List (List Pt)) (cover : List Row) (gap least i : ℕ) (right : Bool) (paths : List (List Pt))
-    (up : GoUpwards cover) (l : i < length cover) (d : Row) (s : SupportedUpTo outlines cover gap least i right paths) where
-  abbrev here : Row
-  here = get_or cover i d
+    (up : GoUpwards cover) (l : i < length cover) (d : Row) (s : SupportedUpTo outlines cover gap least i right paths)
+  where
+    abbrev here : Row
+    here = get_or cover i d
 
-  -- what holds on other rows stays
-  same_there : (x y : ℤ) → (here.y ≡ y → ⊥) → is_on (runs_at y (take i cover ++ here ∷ [])) x ≡ is_on (runs_at y (take i cover)) x
-  same_there x y n = ap (λ (rs : List Run). is_on rs x) (others_stay y (take i cover) here n)
+    -- what holds on other rows stays
+    same_there : (x y : ℤ) → (here.y ≡ y → ⊥) → is_on (runs_at y (take i cover ++ here ∷ [])) x
+        ≡ is_on (runs_at y (take i cover)) x
+    same_there x y n = ap (λ (rs : List Run). is_on rs x) (others_stay y (take i cover) here n)
 
-  one_here : (x : ℤ) → is_on (runs_at here.y (take i cover ++ here ∷ [])) x ≡ is_on here.runs x
-  one_here x = ap (λ (rs : List Run). is_on rs x) (last_row here.y (take i cover) here.runs (taken_below cover i d up l))
+    one_here : (x : ℤ) → is_on (runs_at here.y (take i cover ++ here ∷ [])) x ≡ is_on here.runs x
+    one_here x =
+        ap (λ (rs : List Run). is_on rs x) (last_row here.y (take i cover) here.runs (taken_below cover i d up l))
 
-  -- the stretches of a row stay where it has another height
-  there : (y : ℤ) (rs : List Run) → (here.y ≡ y → ⊥)
-      → AreStretches (λ x. IsSupported outlines (take i cover) gap x y) least rs
-      → AreStretches (λ x. IsSupported outlines (take i cover ++ here ∷ []) gap x y) least rs
-  there y rs n a = same_stretches (λ x. IsSupported outlines (take i cover) gap x y)
-      (λ x. IsSupported outlines (take i cover ++ here ∷ []) gap x y) least rs
-      (λ x h. record { covered = same_there x y n ∙ h.covered; free = h.free })
-      (λ x h. record { covered = sym (same_there x y n) ∙ h.covered; free = h.free }) a
+    -- the stretches of a row stay where it has another height
+    there : (y : ℤ) (rs : List Run) → (here.y ≡ y → ⊥)
+        → AreStretches (λ x. IsSupported outlines (take i cover) gap x y) least rs
+        → AreStretches (λ x. IsSupported outlines (take i cover ++ here ∷ []) gap x y) least rs
+    there y rs n a = same_stretches (λ x. IsSupported outlines (take i cover) gap x y)
+        (λ x. IsSupported outlines (take i cover ++ here ∷ []) gap x y) least rs
+        (λ x h. record { covered = same_there x y n ∙ h.covered; free = h.free })
+        (λ x h. record { covered = sym (same_there x y n) ∙ h.covered; free = h.free }) a
 
-  at_here : (rs : List Run) → AreStretches (IsFreeOn outlines gap here.y here.runs) least rs
-      → AreStretches (λ x. IsSupported outlines (take i cover ++ here ∷ []) gap x here.y) least rs
-  at_here rs a = same_stretches (IsFreeOn outlines gap here.y here.runs)
-      (λ x. IsSupported outlines (take i cover ++ here ∷ []) gap x here.y) least rs
-      (λ x h. record { covered = one_here x ∙ h.on; free = h.free })
-      (λ x h. record { on = sym (one_here x) ∙ h.covered; free = h.free }) a
+    at_here : (rs : List Run) → AreStretches (IsFreeOn outlines gap here.y here.runs) least rs
+        → AreStretches (λ x. IsSupported outlines (take i cover ++ here ∷ []) gap x here.y) least rs
+    at_here rs a = same_stretches (IsFreeOn outlines gap here.y here.runs)
+        (λ x. IsSupported outlines (take i cover ++ here ∷ []) gap x here.y) least rs
+        (λ x h. record { covered = one_here x ∙ h.on; free = h.free })
+        (λ x h. record { on = sym (one_here x) ∙ h.covered; free = h.free }) a
 
-  none_yet : All (λ (r : Row). r.y <ℤ here.y) s.rows
-  none_yet = s.below i d (omega arith) l
+    none_yet : All (λ (r : Row). r.y <ℤ here.y) s.rows
+    none_yet = s.below i d (omega arith) l
 
-  no_row_here : runs_at here.y s.rows ≡ []
-  no_row_here = subst (λ (rs : List Row). runs_at here.y rs ≡ []) (append-nil s.rows) (none_above here.y s.rows [] none_yet)
+    no_row_here : runs_at here.y s.rows ≡ []
+    no_row_here =
+        subst (λ (rs : List Row). runs_at here.y rs ≡ []) (append-nil s.rows) (none_above here.y s.rows [] none_yet)
 
-  by_height : (P : ℤ → Type 0) (y : ℤ) → ((here.y ≡ y → ⊥) → P y) → P here.y → P y
-  by_height P y f g = by_order (order here.y y)
-      (λ a. by_order (order y here.y)
-      (λ b. let e : here.y ≡ y = omega (arith, ints, a, b) in subst P e g)
-      (λ b. f (λ e. omega (arith, ints, b, e))))
-      (λ a. f (λ e. omega (arith, ints, a, e)))
+    by_height : (P : ℤ → Type 0) (y : ℤ) → ((here.y ≡ y → ⊥) → P y) → P here.y → P y
+    by_height P y f g = by_order (order here.y y)
+        (λ a. by_order (order y here.y)
+        (λ b. let e : here.y ≡ y = omega (arith, ints, a, b) in subst P e g)
+        (λ b. f (λ e. omega (arith, ints, b, e))))
+        (λ a. f (λ e. omega (arith, ints, a, e)))
 
-  rows_more : (rs : List Run) → AreStretches (IsFreeOn outlines gap here.y here.runs) least rs
-      → AreRowsOf (IsSupported outlines (take i cover ++ here ∷ []) gap) least (s.rows ++ row_of here.y rs)
-  rows_more [] a =
-      subst (AreRowsOf (IsSupported outlines (take i cover ++ here ∷ []) gap) least) (sym (append-nil s.rows)) (record {
-        upwards = s.are.upwards;
-        some = s.are.some;
-        each = λ y. by_height
-            (λ y. AreStretches (λ x. IsSupported outlines (take i cover ++ here ∷ []) gap x y) least (runs_at y s.rows)) y
-            (λ n. there y (runs_at y s.rows) n (s.are.each y))
-            (subst (AreStretches (λ x. IsSupported outlines (take i cover ++ here ∷ []) gap x here.y) least)
-            (sym no_row_here) (at_here [] a));
-      })
-  rows_more (q ∷ qs) a =
-      let row : Row = record { y = here.y; runs = q ∷ qs } in
-      record {
-        upwards = upwards_push s.rows row s.are.upwards none_yet;
-        some = All-push (λ (r : Row). r.runs ≢ []) s.rows row s.are.some (λ e. not_none q qs e);
-        each = λ y. by_height
-            (λ y. AreStretches (λ x. IsSupported outlines (take i cover ++ here ∷ []) gap x y) least
-            (runs_at y (s.rows ++ row ∷ []))) y
-            (λ n. subst (AreStretches (λ x. IsSupported outlines (take i cover ++ here ∷ []) gap x y) least)
-            (sym (others_stay y s.rows row n)) (there y (runs_at y s.rows) n (s.are.each y)))
-            (subst (AreStretches (λ x. IsSupported outlines (take i cover ++ here ∷ []) gap x here.y) least)
-            (sym (last_row here.y s.rows (q ∷ qs) none_yet)) (at_here (q ∷ qs) a));
-      }
-    where
-      not_none : (q : Run) (qs : List Run) → q ∷ qs ≡ [] → ⊥
-      not_none q qs e = cc
+    rows_more : (rs : List Run) → AreStretches (IsFreeOn outlines gap here.y here.runs) least rs
+        → AreRowsOf (IsSupported outlines (take i cover ++ here ∷ []) gap) least (s.rows ++ row_of here.y rs)
+    rows_more [] a =
+        subst (AreRowsOf (IsSupported outlines (take i cover ++ here ∷ []) gap) least) (sym (append-nil s.rows)) (record {
+          upwards = s.are.upwards;
+          some = s.are.some;
+          each = λ y. by_height
+              (λ y. AreStretches (λ x. IsSupported outlines (take i cover ++ here ∷ []) gap x y) least
+              (runs_at y s.rows)) y
+              (λ n. there y (runs_at y s.rows) n (s.are.each y))
+              (subst (AreStretches (λ x. IsSupported outlines (take i cover ++ here ∷ []) gap x here.y) least)
+              (sym no_row_here) (at_here [] a));
+        })
+    rows_more (q ∷ qs) a =
+        let row : Row = record { y = here.y; runs = q ∷ qs } in
+        record {
+          upwards = upwards_push s.rows row s.are.upwards none_yet;
+          some = All-push (λ (r : Row). r.runs ≢ []) s.rows row s.are.some (λ e. not_none q qs e);
+          each = λ y. by_height
+              (λ y. AreStretches (λ x. IsSupported outlines (take i cover ++ here ∷ []) gap x y) least
+              (runs_at y (s.rows ++ row ∷ []))) y
+              (λ n. subst (AreStretches (λ x. IsSupported outlines (take i cover ++ here ∷ []) gap x y) least)
+              (sym (others_stay y s.rows row n)) (there y (runs_at y s.rows) n (s.are.each y)))
+              (subst (AreStretches (λ x. IsSupported outlines (take i cover ++ here ∷ []) gap x here.y) least)
+              (sym (last_row here.y s.rows (q ∷ qs) none_yet)) (at_here (q ∷ qs) a));
+        }
+      where
+        not_none : (q : Run) (qs : List Run) → q ∷ qs ≡ [] → ⊥
+        not_none q qs e = cc
 
-  row_below : (rs : List Run) (z : ℤ) → here.y <ℤ z → All (λ (r : Row). r.y <ℤ z) (row_of here.y rs)
-  row_below [] z h = All-nil (λ (r : Row). r.y <ℤ z)
-  row_below (q ∷ qs) z h = All-cons (λ (r : Row). r.y <ℤ z) (record { y = here.y; runs = q ∷ qs }) [] h (All-nil (λ (r : Row). r.y <ℤ z))
+    row_below : (rs : List Run) (z : ℤ) → here.y <ℤ z → All (λ (r : Row). r.y <ℤ z) (row_of here.y rs)
+    row_below [] z h = All-nil (λ (r : Row). r.y <ℤ z)
+    row_below (q ∷ qs) z h =
+        All-cons (λ (r : Row). r.y <ℤ z) (record { y = here.y; runs = q ∷ qs }) [] h (All-nil (λ (r : Row). r.y <ℤ z))
 
-  pub supported_more : (rs : List Run) (next : Bool) (new : List (List Pt))
-      → AreStretches (IsFreeOn outlines gap here.y here.runs) least rs
-      → AddsRow right (record { y = here.y; runs = rs }) paths new next
-      → SupportedUpTo outlines cover gap least (i + 1) next new
-  supported_more rs next new a k = record {
-    rows = s.rows ++ row_of here.y rs;
-    are = subst (λ (c : List Row). AreRowsOf (IsSupported outlines c gap) least (s.rows ++ row_of here.y rs))
-        (sym (take_more cover i d l)) (rows_more rs a);
-    below = λ j e o m. All-append (λ (r : Row). r.y <ℤ (get_or cover j e).y) s.rows (row_of here.y rs)
-        (s.below j e (omega (arith, o)) m) (row_below rs (get_or cover j e).y (up_at cover i j e d up (omega (arith, o)) m));
-    paths_are = k.added
-        ∙ ap₂ (λ (ps : List (List Pt)) (w : Bool). ps ++ paths_of w (row_of here.y rs)) s.paths_are s.way
-        ∙ sym (paths_more true s.rows (row_of here.y rs));
-    way = k.way ∙ ap (λ (w : Bool). way_behind w (row_of here.y rs)) s.way ∙ sym (way_more true s.rows (row_of here.y rs));
-  }
+    pub supported_more : (rs : List Run) (next : Bool) (new : List (List Pt))
+        → AreStretches (IsFreeOn outlines gap here.y here.runs) least rs
+        → AddsRow right (record { y = here.y; runs = rs }) paths new next
+        → SupportedUpTo outlines cover gap least (i + 1) next new
+    supported_more rs next new a k = record {
+      rows = s.rows ++ row_of here.y rs;
+      are = subst (λ (c : List Row). AreRowsOf (IsSupported outlines c gap) least (s.rows ++ row_of here.y rs))
+          (sym (take_more cover i d l)) (rows_more rs a);
+      below = λ j e o m. All-append (λ (r : Row). r.y <ℤ (get_or cover j e).y) s.rows (row_of here.y rs)
+          (s.below j e (omega (arith, o)) m)
+          (row_below rs (get_or cover j e).y (up_at cover i j e d up (omega (arith, o)) m));
+      paths_are = k.added
+          ∙ ap₂ (λ (ps : List (List Pt)) (w : Bool). ps ++ paths_of w (row_of here.y rs)) s.paths_are s.way
+          ∙ sym (paths_more true s.rows (row_of here.y rs));
+      way = k.way ∙ ap (λ (w : Bool). way_behind w (row_of here.y rs)) s.way
+          ∙ sym (way_more true s.rows (row_of here.y rs));
+    }
 
-pub are_supports : (outlines : List (List Pt)) (cover : List Row) (gap least i : ℕ) (right : Bool) (paths : List (List Pt))
-    → length cover ≤ i → SupportedUpTo outlines cover gap least i right paths → AreSupports outlines cover gap least paths
+pub are_supports : (outlines : List (List Pt)) (cover : List Row) (gap least i : ℕ) (right : Bool)
+    (paths : List (List Pt))
+    → length cover ≤ i → SupportedUpTo outlines cover gap least i right paths
+    → AreSupports outlines cover gap least paths
 are_supports outlines cover gap least i right paths l s = record {
   rows = s.rows;
   are_rows = subst (λ (c : List Row). AreRowsOf (IsSupported outlines c gap) least s.rows) (take_all i cover l) s.are;

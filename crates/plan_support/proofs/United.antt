@@ -1,12 +1,12 @@
 -- Runs united one after another.
-use Rattle.std.proofs.Common.{◌≡◌, ◌⊎◌, inl, inr, ℕ, ◌+◌, ◌<◌, ◌≤◌, Bool, true, false, cond, List, [], ◌∷◌, ◌++◌, length, get_or, take, refl, sym, ap, ap₂, subst, ◌∙◌, arith, ℤ, pos, ◌+ℤ◌, ◌<ℤ◌}
+use Rattle.std.proofs.Common.{◌≡◌, ◌⊎◌, inl, inr, ℕ, ◌+◌, ◌<◌, ◌≤◌, Bool, true, false, cond, List, [], ◌∷◌, ◌++◌, length, get_or, take, refl, sym, ap, subst, ◌∙◌, arith, ℤ, pos, ◌+ℤ◌, ◌<ℤ◌}
 use lib.Signed.{◌≤ℤ◌}
 use Rattle.std.specs.Prelude.{All, Contains, int_le, int_lt, ◌||◌, ◌&&◌}
 use Rattle.std.specs.Int.{int_max}
 use Rattle.std.proofs.lemmas.Int.{ints}
 use Rattle.std.proofs.lemmas.List.Folds.{list_any-append, list_any_more}
-use Rattle.std.proofs.lemmas.List.Elements.{All-nil, All-head, All-tail, All-push, All-weaker, All-append, All-cons, All-contains, Contains-push, Contains-append_left, Contains-get_or}
-use Rattle.scad_geom.proofs.Rising.{by_order, order}
+use Rattle.std.proofs.lemmas.List.Elements.{All-nil, All-head, All-tail, All-push, All-weaker, All-cons, All-contains, Contains-push, Contains-append_left, Contains-get_or}
+use Rattle.scad_geom.proofs.Rising.{order}
 use Rattle.plan_infill.specs.declared.run.Run.{Run}
 use Rattle.plan_support.specs.Rows.{AreApart}
 use Rattle.plan_support.specs.On.{has_place, is_on}
@@ -35,6 +35,7 @@ last_of (r ∷ rs) last h =
         → (r.to +ℤ pos 1) <ℤ last.from
     last_one [] a = All-head (λ (s : Run). (r.to +ℤ pos 1) <ℤ s.from) last [] a
     last_one (s ∷ ss) a = last_one ss (All-tail (λ (s : Run). (r.to +ℤ pos 1) <ℤ s.from) s (ss ++ last ∷ []) a)
+
     all_but : (ss : List Run) → All (λ (s : Run). (r.to +ℤ pos 1) <ℤ s.from) (ss ++ last ∷ [])
         → All (λ (s : Run). (r.to +ℤ pos 1) <ℤ s.from) ss
     all_but [] a = All-nil (λ (s : Run). (r.to +ℤ pos 1) <ℤ s.from)
@@ -57,31 +58,34 @@ apart_push (q ∷ qs) r k =
     )
 
 -- ---- one more run that starts no sooner
-module _ (last run : Run) (starts : last.from ≤ℤ run.from) (place : run.from ≤ℤ run.to) (held : last.from ≤ℤ last.to) where
-  -- where it reaches the last one, the places of both are those of one
-  pub joined : (to x : ℤ) → ((to ≡ last.to) × (run.to ≤ℤ last.to)) ⊎ ((to ≡ run.to) × (last.to ≤ℤ run.to))
-      → run.from ≤ℤ (last.to +ℤ pos 1)
-      → has_place (record { from = last.from; to = to }) x ≡ (has_place last x || has_place run x)
-  joined to x m reach = by_tests (int_le last.from x) (int_le x last.to) (int_le run.from x) (int_le x run.to)
-      (int_le x to) refl refl refl refl refl m
-    where
-      by_tests : (p q r s t : Bool) → int_le last.from x ≡ p → int_le x last.to ≡ q → int_le run.from x ≡ r
-          → int_le x run.to ≡ s → int_le x to ≡ t
-          → ((to ≡ last.to) × (run.to ≤ℤ last.to)) ⊎ ((to ≡ run.to) × (last.to ≤ℤ run.to))
-          → (p && t) ≡ ((p && q) || (r && s))
-      by_tests false q false s t a b c d e m = refl
-      by_tests false q true s t a b c d e m = absurd (omega (arith, ints, a, c, starts))
-      by_tests true true r s true a b c d e m = refl
-      by_tests true true r s false a b c d e (inl m) = let f = m.0 in absurd (omega (arith, ints, b, e, f))
-      by_tests true true r s false a b c d e (inr m) = let f = m.0 in let g = m.1 in absurd (omega (arith, ints, b, e, f, g))
-      by_tests true false true true true a b c d e m = refl
-      by_tests true false false s true a b c d e m = absurd (omega (arith, ints, b, c, reach))
-      by_tests true false true false true a b c d e (inl m) = let f = m.0 in absurd (omega (arith, ints, b, e, f))
-      by_tests true false true false true a b c d e (inr m) = let f = m.0 in absurd (omega (arith, ints, d, e, f))
-      by_tests true false false s false a b c d e m = refl
-      by_tests true false true false false a b c d e m = refl
-      by_tests true false true true false a b c d e (inl m) = let f = m.0 in let g = m.1 in absurd (omega (arith, ints, d, e, f, g))
-      by_tests true false true true false a b c d e (inr m) = let f = m.0 in absurd (omega (arith, ints, d, e, f))
+module _ (last run : Run) (starts : last.from ≤ℤ run.from) (place : run.from ≤ℤ run.to) (held : last.from ≤ℤ last.to)
+  where
+    -- where it reaches the last one, the places of both are those of one
+    pub joined : (to x : ℤ) → ((to ≡ last.to) × (run.to ≤ℤ last.to)) ⊎ ((to ≡ run.to) × (last.to ≤ℤ run.to))
+        → run.from ≤ℤ (last.to +ℤ pos 1)
+        → has_place (record { from = last.from; to = to }) x ≡ (has_place last x || has_place run x)
+    joined to x m reach = by_tests (int_le last.from x) (int_le x last.to) (int_le run.from x) (int_le x run.to)
+        (int_le x to) refl refl refl refl refl m
+      where
+        by_tests : (p q r s t : Bool) → int_le last.from x ≡ p → int_le x last.to ≡ q → int_le run.from x ≡ r
+            → int_le x run.to ≡ s → int_le x to ≡ t
+            → ((to ≡ last.to) × (run.to ≤ℤ last.to)) ⊎ ((to ≡ run.to) × (last.to ≤ℤ run.to))
+            → (p && t) ≡ ((p && q) || (r && s))
+        by_tests false q false s t a b c d e m = refl
+        by_tests false q true s t a b c d e m = absurd (omega (arith, ints, a, c, starts))
+        by_tests true true r s true a b c d e m = refl
+        by_tests true true r s false a b c d e (inl m) = let f = m.0 in absurd (omega (arith, ints, b, e, f))
+        by_tests true true r s false a b c d e (inr m) = let f = m.0 in let g = m.1 in
+            absurd (omega (arith, ints, b, e, f, g))
+        by_tests true false true true true a b c d e m = refl
+        by_tests true false false s true a b c d e m = absurd (omega (arith, ints, b, c, reach))
+        by_tests true false true false true a b c d e (inl m) = let f = m.0 in absurd (omega (arith, ints, b, e, f))
+        by_tests true false true false true a b c d e (inr m) = let f = m.0 in absurd (omega (arith, ints, d, e, f))
+        by_tests true false false s false a b c d e m = refl
+        by_tests true false true false false a b c d e m = refl
+        by_tests true false true true false a b c d e (inl m) = let f = m.0 in let g = m.1 in
+            absurd (omega (arith, ints, d, e, f, g))
+        by_tests true false true true false a b c d e (inr m) = let f = m.0 in absurd (omega (arith, ints, d, e, f))
 
 regroup : (f l r : Bool) → (f || ((l || r) || false)) ≡ ((f || (l || false)) || r)
 regroup true l r = refl
@@ -89,7 +93,8 @@ regroup false true r = refl
 regroup false false true = refl
 regroup false false false = refl
 
-pub on_joined : (front : List Run) (last run one : Run) (x : ℤ) → has_place one x ≡ (has_place last x || has_place run x)
+pub on_joined : (front : List Run) (last run one : Run) (x : ℤ) → has_place one x
+    ≡ (has_place last x || has_place run x)
     → is_on (front ++ one ∷ []) x ≡ (is_on (front ++ last ∷ []) x || has_place run x)
 on_joined front last run one x e =
     list_any-append (λ (r : Run). has_place r x) front (one ∷ [])
@@ -130,14 +135,17 @@ module _ (old new front : List Run) (last run : Run) (is : old ≡ front ++ last
   parted = last_of front last (subst AreApart is apart)
 
   last_starts : last.from ≤ℤ run.from
-  last_starts = All-contains (StartsBy run) old last behind (subst (λ (os : List Run). Contains os last) (sym is) (Contains-push front last))
+  last_starts =
+      All-contains (StartsBy run) old last behind
+      (subst (λ (os : List Run). Contains os last) (sym is) (Contains-push front last))
 
   front_starts : All (StartsBy run) front
   front_starts = λ k d l. All-contains (StartsBy run) old (get_or front k d) behind
       (subst (λ (os : List Run). Contains os (get_or front k d)) (sym is)
       (Contains-append_left front (last ∷ []) (get_or front k d) (Contains-get_or front k d l)))
 
-  pub taken_joined : (one : Run) → one.from ≡ last.from → one.to ≡ int_max last.to run.to → run.from ≤ℤ (last.to +ℤ pos 1)
+  pub taken_joined : (one : Run) → one.from ≡ last.from → one.to ≡ int_max last.to run.to
+      → run.from ≤ℤ (last.to +ℤ pos 1)
       → new ≡ front ++ one ∷ [] → TakeIn old run new
   taken_joined one f t reach n =
       let p = parted.place in
@@ -167,7 +175,9 @@ module _ (old new front : List Run) (last run : Run) (is : old ≡ front ++ last
               (λ r k. omega (arith, ints, k, s)) front parted.behind) far;
           place = place;
         });
-        behind = All-push (StartsBy run) (front ++ last ∷ []) run (subst (All (StartsBy run)) is behind) (omega (arith, ints));
+        behind =
+            All-push (StartsBy run) (front ++ last ∷ []) run (subst (All (StartsBy run)) is behind)
+            (omega (arith, ints));
         on = λ x. on_push (front ++ last ∷ []) run x;
       }))
 
@@ -188,7 +198,9 @@ pub united_more : (runs : List Run) (i : ℕ) (out new : List Run) (d : Run) →
     → UnitedUpTo runs i out → TakeIn out (get_or runs i d) new → UnitedUpTo runs (i + 1) new
 united_more runs i out new d order l u t = record {
   apart = t.apart;
-  behind = λ k e a m. All-weaker (λ (r : Run). r.from ≤ℤ (get_or runs i d).from) (λ (r : Run). r.from ≤ℤ (get_or runs k e).from)
+  behind =
+      λ k e a m. All-weaker (λ (r : Run). r.from ≤ℤ (get_or runs i d).from)
+      (λ (r : Run). r.from ≤ℤ (get_or runs k e).from)
       (λ r h. let s = no_sooner runs i k e d order (omega (arith, a)) m in omega (arith, ints, h, s)) new t.behind;
   on = λ x. t.on x
       ∙ ap (λ (b : Bool). b || has_place (get_or runs i d) x) (u.on x)

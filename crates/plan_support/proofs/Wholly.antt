@@ -1,7 +1,6 @@
 -- Where something is tested true at a place, and false far from it, the place lies on a maximal stretch.
-use Rattle.std.proofs.Common.{◌≡◌, ◌⊎◌, inl, inr, ℕ, zero, suc, Bool, true, false, List, refl, arith, ℤ, pos, ◌+ℤ◌, ◌-ℤ◌, ◌<ℤ◌}
+use Rattle.std.proofs.Common.{◌≡◌, ℕ, zero, suc, Bool, true, false, refl, arith, ℤ, pos, ◌+ℤ◌, ◌-ℤ◌}
 use lib.Signed.{◌≤ℤ◌}
-use Rattle.std.specs.Prelude.{unsigned_abs}
 use Rattle.std.proofs.lemmas.Int.{ints}
 use Rattle.std.proofs.lemmas.Bool.{both_ways}
 use Rattle.scad_geom.proofs.Rising.{by_order, order}
@@ -28,7 +27,8 @@ module _ (test : ℤ → Bool) where
   start_of (suc k) x far h =
       by_test (test (x -ℤ pos 1)) refl (λ e. start_of k (x -ℤ pos 1) (λ z o. far z (omega (arith, ints, o))) e)
     where
-      by_test : (t : Bool) → test (x -ℤ pos 1) ≡ t → (test (x -ℤ pos 1) ≡ true → HasStart test (x -ℤ pos 1)) → HasStart test x
+      by_test : (t : Bool) → test (x -ℤ pos 1) ≡ t → (test (x -ℤ pos 1) ≡ true → HasStart test (x -ℤ pos 1))
+          → HasStart test x
       by_test true e below =
           let s = below e in
           let l = s.low in
@@ -52,7 +52,8 @@ module _ (test : ℤ → Bool) where
   end_of (suc k) x far h =
       by_test (test (x +ℤ pos 1)) refl (λ e. end_of k (x +ℤ pos 1) (λ z o. far z (omega (arith, ints, o))) e)
     where
-      by_test : (t : Bool) → test (x +ℤ pos 1) ≡ t → (test (x +ℤ pos 1) ≡ true → HasEnd test (x +ℤ pos 1)) → HasEnd test x
+      by_test : (t : Bool) → test (x +ℤ pos 1) ≡ t → (test (x +ℤ pos 1) ≡ true → HasEnd test (x +ℤ pos 1))
+          → HasEnd test x
       by_test true e above =
           let s = above e in
           let l = s.high in

@@ -1,9 +1,8 @@
 -- Places on runs that lie on none of the holes.
-use Rattle.std.proofs.Common.{◌≡◌, ◌⊎◌, inl, inr, ℕ, zero, suc, ◌+◌, ◌<◌, ◌≤◌, Bool, true, false, not, List, [], ◌∷◌, length, get_or, take, refl, sym, ap, ap₂, ◌∙◌, arith, ℤ, pos, ◌+ℤ◌, ◌-ℤ◌, ◌<ℤ◌}
+use Rattle.std.proofs.Common.{◌≡◌, ◌⊎◌, inl, inr, ℕ, zero, suc, ◌+◌, ◌<◌, ◌≤◌, Bool, true, false, not, List, [], ◌∷◌, length, get_or, take, refl, sym, ap, ◌∙◌, arith, ℤ, pos, ◌+ℤ◌, ◌-ℤ◌, ◌<ℤ◌}
 use lib.Signed.{◌≤ℤ◌}
-use Rattle.std.specs.Prelude.{All, Contains, int_le, int_lt, ◌||◌, ◌&&◌}
+use Rattle.std.specs.Prelude.{All, int_le, int_lt, ◌||◌, ◌&&◌}
 use Rattle.std.proofs.lemmas.Int.{ints}
-use Rattle.std.proofs.lemmas.Bool.{both_ways}
 use Rattle.std.proofs.lemmas.List.Elements.{All-head, All-tail, All-weaker, Contains-get_or}
 use Rattle.scad_geom.proofs.Rising.{by_order, order}
 use Rattle.plan_infill.specs.declared.run.Run.{Run}
@@ -83,6 +82,7 @@ module _ (hs : List Run) (i : ℕ) (d : Run) (a : AreApart hs) (low from : ℤ) 
             | inr m ↦ let f = m.1 in sym (omega (arith, ints, k, f))
           ] in
           rw (p, q, r) (or_false _)
+
       from_on : from ≤ℤ x
           → (is_free_from hs low from x || (int_le from x && int_le x ((get_or hs i d).from -ℤ pos 1)))
           ≡ is_free_from hs low next x
@@ -128,6 +128,7 @@ module _ (hs : List Run) (i : ℕ) (d : Run) (a : AreApart hs) (low from : ℤ) 
           let q : int_le from x ≡ false = sym (omega (arith, ints, k)) in
           let r : int_le x run.to ≡ true = sym (omega (arith, ints, k, f)) in
           rw (e, p, q, r) (or_false _)
+
       from_on : from ≤ℤ x
           → (is_free_from hs low from x || (int_le from x && int_le x end)) ≡ (has_place run x && not (is_on hs x))
       from_on k =

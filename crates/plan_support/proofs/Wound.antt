@@ -44,6 +44,7 @@ module _ (outlines : List (List Pt)) (spacing : ℕ) (y : ℤ) (m : IsMultiple s
       → AreStretches (λ x. IsSpanned outlines spacing x y) 0 rs
   spanned_runs rs a = record {
     upwards = a.upwards;
-    each = All-weaker (IsRun outlines 0 (AtHeight y) 0) (IsStretch (λ x. IsSpanned outlines spacing x y) 0) stretch_of rs a.each;
+    each = All-weaker (IsRun outlines 0 (AtHeight y) 0) (IsStretch (λ x. IsSpanned outlines spacing x y) 0) stretch_of
+        rs a.each;
     all = λ r s. a.all r (run_of r s);
   }

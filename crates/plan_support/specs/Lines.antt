@@ -64,7 +64,8 @@ pub record HasLine (layers : List (List Row)) (y : ℤ) (want : Want) (line : Li
 -- the work on lines at heights, with the stretches of each
 abbrev pub AreLines : List (List Row) → Want → List ℤ → List (List (List Run)) → List Line → Type 0
 AreLines layers want [] [] [] = Unit {0}
-AreLines layers want (y ∷ ys) (all ∷ alls) (line ∷ lines) = IsLine layers y want all line × AreLines layers want ys alls lines
+AreLines layers want (y ∷ ys) (all ∷ alls) (line ∷ lines) =
+    IsLine layers y want all line × AreLines layers want ys alls lines
 AreLines layers want ys alls lines = ⊥
 
 pub record HasLines (layers : List (List Row)) (heights : List ℤ) (want : Want) (lines : List Line) : Type 0 where

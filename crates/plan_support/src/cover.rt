@@ -18,8 +18,8 @@ use std::thread::Threads;
 const STRETCH_LIMIT: u64 = 10_000_000;
 
 /// For each layer and each height the maximal stretches of whole points that lie on a run of that height in some higher
-/// layer. Their number is judged before memory is taken for them. The result is one for every number of workers: the lines
-/// aren't shared among workers yet.
+/// layer. Their number is judged before memory is taken for them. The result is one for every number of workers: the
+/// lines aren't shared among workers yet.
 ///
 /// The time is that of one look-up for each line and layer, and of sorting the runs of each row with what lies above.
 pub fn covers<R: Threads + Sync>(
@@ -66,7 +66,12 @@ fn count_of(lines: &[Line]) -> u64
 }
 
 // The stretches of lines, layer by layer.
-fn gathered(alloc: Global, heights: &[i32], lines: &[Line], layers: usize) -> Result<Covers, AllocError>
+fn gathered(
+    alloc: Global,
+    heights: &[i32],
+    lines: &[Line],
+    layers: usize,
+) -> Result<Covers, AllocError>
     requires { length heights.now ≡ length lines.now }
     ensures { IfOk result (AreRowsOfLines heights.now lines.now layers) }
 {

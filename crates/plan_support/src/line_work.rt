@@ -12,7 +12,12 @@ use plan_infill::Run;
 use std::alloc::{AllocError, Global};
 
 /// Works the line at a height.
-pub(crate) fn work_line(alloc: Global, layers: &[Rows], y: i32, want: Want) -> Result<Line, AllocError>
+pub(crate) fn work_line(
+    alloc: Global,
+    layers: &[Rows],
+    y: i32,
+    want: Want,
+) -> Result<Line, AllocError>
     requires { All AreRows layers.now }
     ensures { IfOk result (HasLine layers.now y want) }
 {

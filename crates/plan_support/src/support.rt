@@ -38,13 +38,25 @@ pub fn supports(
     'rows: for i in 0..cover.len() {
         let y = cover.y(i);
         let free = free_runs(alloc, outlines, y, cover.runs(i), gap)?;
-        to_right = push_row(alloc, &mut paths, to_right, y, &long_runs(alloc, &free, min)?)?;
+        to_right = push_row(
+            alloc,
+            &mut paths,
+            to_right,
+            y,
+            &long_runs(alloc, &free, min)?,
+        )?;
     }
     Ok(paths)
 }
 
 // The stretches of a row's runs that outlines don't wind round and that don't lie near to a side.
-fn free_runs(alloc: Global, outlines: &[Loop], y: i32, runs: &[Run], gap: u32) -> Result<Vec<Run>, AllocError>
+fn free_runs(
+    alloc: Global,
+    outlines: &[Loop],
+    y: i32,
+    runs: &[Run],
+    gap: u32,
+) -> Result<Vec<Run>, AllocError>
     requires within { All (λ l. All (IsWithin coordinate_limit) l) outlines.now }
     requires row { unsigned_abs y ≤ coordinate_limit }
     requires runs { AreApart runs.now }
@@ -104,7 +116,12 @@ fn push_row(
     Ok(!to_right)
 }
 
-fn push_rightwards(alloc: Global, paths: &mut Vec<Path>, y: i32, runs: &[Run]) -> Result<(), AllocError>
+fn push_rightwards(
+    alloc: Global,
+    paths: &mut Vec<Path>,
+    y: i32,
+    runs: &[Run],
+) -> Result<(), AllocError>
     ensures { OnOk result (paths.new.items ≡ paths.old.items ++ map (rightwards y) runs.now) }
 {
     'runs: for run in runs {
@@ -113,7 +130,12 @@ fn push_rightwards(alloc: Global, paths: &mut Vec<Path>, y: i32, runs: &[Run]) -
     Ok(())
 }
 
-fn push_leftwards(alloc: Global, paths: &mut Vec<Path>, y: i32, runs: &[Run]) -> Result<(), AllocError>
+fn push_leftwards(
+    alloc: Global,
+    paths: &mut Vec<Path>,
+    y: i32,
+    runs: &[Run],
+) -> Result<(), AllocError>
     ensures { OnOk result (paths.new.items ≡ paths.old.items ++ map (leftwards y) runs.now) }
 {
     'runs: for run in runs {

@@ -1,4 +1,4 @@
-use Rattle.std.proofs.Common.{◌≡◌, min, List, ap, ◌∙◌}
+use Rattle.std.proofs.Common.{min, List, ap, ◌∙◌}
 use Rattle.std.specs.Prelude.{sum_by}
 use Rattle.plan_support.specs.declared.line.Line.{Line}
 use Rattle.plan_support.specs.Lines.{greatest_count}
@@ -9,4 +9,5 @@ pub returns : goal.returns
 returns c =
     let h = c.in_ok-work_lines.ensures in
     is_count c.args.layers.now c.args.heights.now c.in_ok-work_lines.field-0.items h.alls c.count_of.result h.are
-    (c.count_of.ensures ∙ ap (λ (ls : List Line). min (sum_by (λ (l : Line). l.count) ls) greatest_count) c.deref.ensures.value)
+    (c.count_of.ensures
+    ∙ ap (λ (ls : List Line). min (sum_by (λ (l : Line). l.count) ls) greatest_count) c.deref.ensures.value)

@@ -1,5 +1,4 @@
-use Rattle.std.proofs.Common.{◌≡◌, ◌<◌, ◌≤◌, List, length, sym, subst, ap, ◌∙◌, rules, ℤ}
-use Rattle.plan_support.specs.declared.line.Line.{Line}
+use Rattle.std.proofs.Common.{◌≡◌, ◌<◌, ◌≤◌, length, sym, subst, ap, ◌∙◌, rules}
 use Rattle.plan_support.specs.declared.line.Want.TheVariants.{Stretches}
 use Rattle.plan_support.specs.Lines.{AreHeights, AreLines}
 use Rattle.plan_support.specs.Covers.{stretch_limit, AreTooMany}
@@ -11,7 +10,8 @@ pub returns-then-counted-gt-STRETCH_LIMIT-clause-runs : goal.returns-then-counte
 returns-then-counted-gt-STRETCH_LIMIT-clause-runs g c counted e =
     let layers = c.args.layers.now in
     let heights = c.as_slice-heights.result.now in
-    let hs : AreHeights layers heights = subst (AreHeights layers) (sym c.as_slice-heights.ensures.value) c.in_ok-heights.ensures in
+    let hs : AreHeights layers heights =
+    subst (AreHeights layers) (sym c.as_slice-heights.ensures.value) c.in_ok-heights.ensures in
     let over : stretch_limit < c.in_ok-counted.counted = search rules in
     let same : c.in_ok-counted.counted ≡ counted = cc in
     subst (AreTooMany layers) same (too_many layers heights c.in_ok-counted.counted hs c.in_ok-counted.ensures over)
@@ -26,7 +26,8 @@ pub returns-clause-covers : goal.returns-clause-covers
 returns-clause-covers g c =
     let layers = c.args.layers.now in
     let heights = c.as_slice-heights.result.now in
-    let hs : AreHeights layers heights = subst (AreHeights layers) (sym c.as_slice-heights.ensures.value) c.in_ok-heights.ensures in
+    let hs : AreHeights layers heights =
+    subst (AreHeights layers) (sym c.as_slice-heights.ensures.value) c.in_ok-heights.ensures in
     let h = c.in_ok-lines.ensures in
     let are : AreLines layers Stretches heights h.alls c.as_slice.result.now =
     subst (AreLines layers Stretches heights h.alls) (sym c.as_slice.ensures.value) h.are in
@@ -36,7 +37,8 @@ pub returns-clause-rows : goal.returns-clause-rows
 returns-clause-rows g c =
     let layers = c.args.layers.now in
     let heights = c.as_slice-heights.result.now in
-    let hs : AreHeights layers heights = subst (AreHeights layers) (sym c.as_slice-heights.ensures.value) c.in_ok-heights.ensures in
+    let hs : AreHeights layers heights =
+    subst (AreHeights layers) (sym c.as_slice-heights.ensures.value) c.in_ok-heights.ensures in
     let h = c.in_ok-lines.ensures in
     let are : AreLines layers Stretches heights h.alls c.as_slice.result.now =
     subst (AreLines layers Stretches heights h.alls) (sym c.as_slice.ensures.value) h.are in
@@ -46,7 +48,8 @@ pub returns-clause-within : goal.returns-clause-within
 returns-clause-within g c =
     let layers = c.args.layers.now in
     let heights = c.as_slice-heights.result.now in
-    let hs : AreHeights layers heights = subst (AreHeights layers) (sym c.as_slice-heights.ensures.value) c.in_ok-heights.ensures in
+    let hs : AreHeights layers heights =
+    subst (AreHeights layers) (sym c.as_slice-heights.ensures.value) c.in_ok-heights.ensures in
     let h = c.in_ok-lines.ensures in
     let are : AreLines layers Stretches heights h.alls c.as_slice.result.now =
     subst (AreLines layers Stretches heights h.alls) (sym c.as_slice.ensures.value) h.are in

@@ -18,7 +18,8 @@ pub sides-preserved : goal.sides-preserved
 unfolding no_side
 sides-preserved c =
     let side : Edge = get_or c.args.sides.now c.sides.side-index no_side in
-    let within = All-get_or (IsEdgeWithin coordinate_limit) c.args.sides.now c.sides.side-index no_side c.sides-test.true
+    let within =
+    All-get_or (IsEdgeWithin coordinate_limit) c.args.sides.now c.sides.side-index no_side c.sides-test.true
     c.requires in
     let below = within.a.y in
     let above = within.b.y in

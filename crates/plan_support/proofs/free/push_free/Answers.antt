@@ -21,8 +21,10 @@ holes-preserved c =
     let fits : FitsSigned w64 c.max-from.result = record { sfits = c.max-from.type_inv } in
     let next : c.max-from.result ≡ int_max from (hole.to +ℤ pos 1) = search (rules, casts) in
     let ends : hole.to <ℤ c.args.run.to = search (rules, casts) in
-    let out : c.push_some.new.out.items ≡ c.holes.out.items ++ some_run from (hole.from -ℤ pos 1) = search (rules, casts) in
-    simp to_z-of_z (subst (FreedUpTo c.args.out.now.items c.args.run c.args.holes.now (c.holes.i + 1) c.max-from.result) (sym out)
+    let out : c.push_some.new.out.items ≡ c.holes.out.items ++ some_run from (hole.from -ℤ pos 1) =
+    search (rules, casts) in
+    simp to_z-of_z
+    (subst (FreedUpTo c.args.out.now.items c.args.run c.args.holes.now (c.holes.i + 1) c.max-from.result) (sym out)
     (freed_more c.args.out.now.items c.args.run c.args.holes.now c.holes.i from c.holes.out.items none c.requires.holes
     c.holes.invariant c.max-from.result c.holes-test.true ends next))
 
@@ -30,7 +32,8 @@ pub returns : goal.returns
 returns c =
     let from = to_z w64 c.holes.from-bits in
     let hole = get_or c.args.holes.now c.holes.i none in
-    let out : c.push_some-2.new.out.items ≡ c.holes.out.items ++ some_run from c.end_before.result = search (rules, casts) in
+    let out : c.push_some-2.new.out.items ≡ c.holes.out.items ++ some_run from c.end_before.result =
+    search (rules, casts) in
     let places : HasPlaces c.args.run = record {
       from = record { from = omega (arith, ints); to = omega (arith, ints) };
       to = record { from = omega (arith, ints); to = omega (arith, ints) };

@@ -1,4 +1,4 @@
-use Rattle.std.proofs.Common.{◌++◌, sym, subst}
+use Rattle.std.proofs.Common.{sym, subst}
 use lib.Signed.{◌≤ℤ◌}
 use Rattle.std.specs.Prelude.{All}
 use Rattle.std.proofs.lemmas.List.Elements.{All-append}
@@ -10,4 +10,5 @@ pub united-requires : goal.united-requires
 united-requires c =
     subst (All (λ (r : Run). r.from ≤ℤ r.to)) (sym c.in_ok-extend_from_slice.ensures.items)
     (All-append (λ (r : Run). r.from ≤ℤ r.to) c.args.above.items c.args.runs.now
-    (λ k d l. place_at c.args.above.items k d c.requires.above l) (λ k d l. place_at c.args.runs.now k d c.requires.runs l))
+    (λ k d l. place_at c.args.above.items k d c.requires.above l)
+    (λ k d l. place_at c.args.runs.now k d c.requires.runs l))

@@ -9,4 +9,5 @@ returns-clause-order c =
     omega (arith, o, s)
 
 pub returns-clause-within : goal.returns-clause-within
-returns-clause-within c = (ends_order 0 c.args.ends.now (length c.args.runs.now) c.args.i c.requires.ends c.requires.there).1
+returns-clause-within c =
+    (ends_order 0 c.args.ends.now (length c.args.runs.now) c.args.i c.requires.ends c.requires.there).1

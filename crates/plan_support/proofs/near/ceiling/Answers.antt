@@ -13,7 +13,8 @@ returns c =
     let small = c.requires.size in
     let turned : FitsSigned w128 (pos 0 -ℤ c.args.n) = omega (arith, ints) in
     let q_fits : FitsSigned w128 c.div_euclid.result = record { sfits = c.div_euclid.type_inv } in
-    let told : c.div_euclid.result ≡ int_div_euclid (pos 0 -ℤ c.args.n) c.args.d = simp to_z-of_z at c.div_euclid.ensures in
+    let told : c.div_euclid.result ≡ int_div_euclid (pos 0 -ℤ c.args.n) c.args.d =
+    simp to_z-of_z at c.div_euclid.ensures in
     let bound = floor_size (pos 0 -ℤ c.args.n) c.args.d c.div_euclid.result c.requires.divisor
     (floor_is (pos 0 -ℤ c.args.n) c.args.d c.div_euclid.result c.requires.divisor told) in
     let fits : FitsSigned w128 (pos 0 -ℤ c.div_euclid.result) = omega (arith, ints, bound) in

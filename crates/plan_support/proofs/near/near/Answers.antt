@@ -2,7 +2,7 @@ use Rattle.std.proofs.Common.{◌≡◌, true, false, rules, pos, ◌+ℤ◌, �
 use Rattle.std.specs.Prelude.{int_le, ◌&&◌}
 use Rattle.scad_geom.specs.Line.{low, high}
 use Rattle.scad_geom.proofs.Casts.{casts}
-use Rattle.plan_support.specs.Near.{IsWithinReach, IsClipped}
+use Rattle.plan_support.specs.Near.{IsWithinReach}
 use Rattle.plan_support.proofs.NearEdge.{near_some, near_none}
 use Rattle.plan_support.proofs.near.near.Goals as goal
 

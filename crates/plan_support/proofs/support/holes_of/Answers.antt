@@ -21,7 +21,8 @@ none = record { a = record { x = pos 0; y = pos 0 }; b = record { x = pos 0; y =
 pub sides-init : goal.sides-init
 sides-init c =
     let y_fits = c.ranges.y in
-    let are : AreRuns c.args.outlines.now 0 (AtHeight c.args.y) 0 c.in_ok-holes.holes.items = simp to_z-of_z at c.in_ok-holes.ensures in
+    let are : AreRuns c.args.outlines.now 0 (AtHeight c.args.y) 0 c.in_ok-holes.holes.items =
+    simp to_z-of_z at c.in_ok-holes.ensures in
     simp to_z-of_z (holed_start c.args.outlines.now c.args.y c.args.gap c.in_ok-holes.holes.items are)
 
 pub push_near-requires-clause-edge : goal.push_near-requires-clause-edge
@@ -42,7 +43,8 @@ sides-preserved c =
     let l : i < length es = let a = ap length same in let b = c.sides-test.true in omega (arith, a, b) in
     let side = get_or c.deref-side-items.result.now i none in
     let before : HoledUpTo outlines y gap i c.sides.holes.items = simp to_z-of_z at c.sides.invariant in
-    let add : AddsNear side y gap c.sides.holes.items c.push_near.new.holes.items = simp to_z-of_z at c.in_ok-push_near.ensures in
+    let add : AddsNear side y gap c.sides.holes.items c.push_near.new.holes.items =
+    simp to_z-of_z at c.in_ok-push_near.ensures in
     let after : HoledUpTo outlines y gap (i + 1) c.push_near.new.holes.items =
     subst (HoledUpTo outlines y gap (i + 1)) (sym add.added)
     (holed_more outlines y gap i c.sides.holes.items side add.found before add.near
@@ -57,7 +59,8 @@ returns-clause-holes c =
     let gap = c.args.gap in
     let es = flat_map sides outlines in
     let same : c.deref-side-items.result.now ≡ es = c.deref-side-items.ensures.value ∙ c.in_ok-sides.ensures in
-    let l : length es ≤ c.sides.side-index = let a = ap length same in let b = c.sides-test.false in omega (arith, a, b) in
+    let l : length es ≤ c.sides.side-index = let a = ap length same in let b = c.sides-test.false in
+    omega (arith, a, b) in
     let all : HoledUpTo outlines y gap c.sides.side-index c.sides.holes.items = simp to_z-of_z at c.sides.invariant in
     IfOk-weaker c.united.result (λ v. (x : ℤ) → is_on v.items x ≡ is_on c.sides.holes.items x)
     (λ v. AreHoles outlines y gap v.items)

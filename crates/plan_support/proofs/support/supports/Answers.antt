@@ -1,6 +1,5 @@
-use Rattle.std.proofs.Common.{◌≡◌, ◌+◌, ◌<◌, true, FitsSigned, List, length, get_or, sym, subst, ap, ◌∙◌, arith, ℤ}
+use Rattle.std.proofs.Common.{◌≡◌, ◌<◌, true, FitsSigned, List, length, get_or, sym, subst, ap, ◌∙◌, arith, ℤ}
 use Rattle.std.proofs.lemmas.Int.{to_z-of_z}
-use Rattle.scad_geom.specs.declared.point.Pt.{Pt}
 use Rattle.plan_infill.specs.declared.run.Run.{Run}
 use Rattle.plan_support.specs.Stretches.{AreStretches}
 use Rattle.plan_support.specs.Rows.{Row, no_row}
@@ -12,7 +11,8 @@ use mir.Syntax.{w32}
 
 pub rows-init : goal.rows-init
 rows-init c =
-    subst (SupportedUpTo c.args.outlines.now c.args.cover.now c.args.gap c.args.min 0 true) (sym c.new-paths.ensures.items)
+    subst (SupportedUpTo c.args.outlines.now c.args.cover.now c.args.gap c.args.min 0 true)
+    (sym c.new-paths.ensures.items)
     (supported_start c.args.outlines.now c.args.cover.now c.args.gap c.args.min)
 
 pub rows-preserved : goal.rows-preserved
@@ -29,7 +29,8 @@ rows-preserved c =
     let y_is : y ≡ here.y = c.y-y.ensures in
     let runs_are : runs ≡ here.runs = c.runs.ensures in
     let l : i < length cover = let a = c.rows-test.true in let b = c.len-i-end.ensures in omega (arith, a, b) in
-    let free : AreStretches (IsFreeOn outlines gap y runs) 0 c.in_ok-free.free.items = simp to_z-of_z at c.in_ok-free.ensures in
+    let free : AreStretches (IsFreeOn outlines gap y runs) 0 c.in_ok-free.free.items =
+    simp to_z-of_z at c.in_ok-free.ensures in
     let found = c.in_ok-long_runs.field-0.items in
     let found_is : found ≡ at_least least c.in_ok-free.free.items =
     c.in_ok-long_runs.ensures ∙ ap (at_least least) c.deref.ensures.value in
@@ -45,6 +46,8 @@ rows-preserved c =
     λ j. record { y = y_is j; runs = c.deref-in-rows.ensures.value j } in
     let adds_here : AddsRow c.rows.to_right (record { y = here.y; runs = found }) c.rows.paths.items
     c.push_row.new.paths.items c.in_ok-to_right.to_right =
-    subst (λ (row : Row). AddsRow c.rows.to_right row c.rows.paths.items c.push_row.new.paths.items c.in_ok-to_right.to_right) one adds in
-    supported_more outlines cover gap least i c.rows.to_right c.rows.paths.items c.requires.cover.upwards l no_row c.rows.invariant
+    subst (λ (row : Row). AddsRow c.rows.to_right row c.rows.paths.items c.push_row.new.paths.items
+    c.in_ok-to_right.to_right) one adds in
+    supported_more outlines cover gap least i c.rows.to_right c.rows.paths.items c.requires.cover.upwards l no_row
+    c.rows.invariant
     found c.in_ok-to_right.to_right c.push_row.new.paths.items long_here adds_here

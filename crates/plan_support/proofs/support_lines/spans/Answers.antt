@@ -16,7 +16,8 @@ use mir.Syntax.{w32, w64}
 
 pub extent_of-extent-requires : goal.extent_of-extent-requires
 extent_of-extent-requires c =
-    subst (λ (es : List Edge). All (IsEdgeWithin coordinate_limit) es) (sym (c.deref.ensures.value ∙ c.in_ok-sides.ensures))
+    subst (λ (es : List Edge). All (IsEdgeWithin coordinate_limit) es)
+    (sym (c.deref.ensures.value ∙ c.in_ok-sides.ensures))
     (outlines_within coordinate_limit c.args.outlines.now c.requires.within)
 
 among : (c : goal.After-multiple_from-y)

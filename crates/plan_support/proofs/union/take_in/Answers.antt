@@ -18,6 +18,7 @@ returns-in_ok-push-4 c =
     let last = c.in-Some.last in
     let is : c.args.out.now.items ≡ c.pop.new.self.items ++ last ∷ [] = search rules in
     let far : (last.to +ℤ pos 1) <ℤ c.args.run.from = search (rules, casts) in
-    let new : c.push-else-reaches-2.new.self.items ≡ (c.pop.new.self.items ++ last ∷ []) ++ c.args.run ∷ [] = search (rules, casts) in
+    let new : c.push-else-reaches-2.new.self.items ≡ (c.pop.new.self.items ++ last ∷ []) ++ c.args.run ∷ [] =
+    search (rules, casts) in
     taken_pushed c.args.out.now.items c.push-else-reaches-2.new.self.items c.pop.new.self.items last c.args.run is
     c.requires.apart c.requires.place c.requires.behind far new

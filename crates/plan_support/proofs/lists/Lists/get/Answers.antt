@@ -18,5 +18,6 @@ returns c =
     sym (length_cut 0 c.self.inside.ends.items c.self.inside.runs.items) ∙ ap length c.self.view_is in
     let part = c.part_of-part.result in
     list_at part.start part.end c.args.i c.self.inside.ends.items c.as_slice-ends.result.now c.self.inside.runs.items
-    c.as_slice-runs.result.now c.args.self.now c.self.view_is c.as_slice-ends.ensures.value c.as_slice-runs.ensures.value
+    c.as_slice-runs.result.now c.args.self.now c.self.view_is c.as_slice-ends.ensures.value
+    c.as_slice-runs.ensures.value
     c.part_of-part.ensures.start c.part_of-part.ensures.end (omega (arith, there, told))

@@ -18,6 +18,7 @@ returns c =
     let heights = c.self.inside.heights in
     let told : length heights.items ≡ length c.args.self.now =
     sym (row_count heights.items c.self.inside.lists c.self.invariant) ∙ ap length c.self.view_is in
-    let row = row_get heights.items c.self.inside.lists c.args.i (pos 0) c.self.invariant (omega (arith, there, told)) in
+    let row =
+    row_get heights.items c.self.inside.lists c.args.i (pos 0) c.self.invariant (omega (arith, there, told)) in
     c.get.ensures ∙ sym (ap (λ (r : Row). r.runs) row)
     ∙ ap (λ (rows : List Row). (get_or rows c.args.i no_row).runs) c.self.view_is
