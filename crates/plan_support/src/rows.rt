@@ -7,7 +7,7 @@ use plan_infill::Run;
 use std::alloc::{AllocError, Global};
 use std::marker::Model;
 
-/// Rows of a layer, each a height and the runs there. They lie in two pieces of memory, however many there are.
+/// Rows of a layer, each a height and the runs there. They lie in three pieces of memory, however many there are.
 #[derive(Debug, Drop)]
 pub struct Rows {
     heights: Vec<i32>,
