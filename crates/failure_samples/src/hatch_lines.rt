@@ -106,9 +106,9 @@ fn told(alloc: Global, answer: &Result<Cli, CliFault>) -> Result<String, AllocEr
 /// The text with this line behind the outline of its first layer; an empty one stands for none.
 fn with_line(alloc: Global, line: &str) -> Result<String, AllocError> {
     if line.is_empty() {
-        format!(in alloc; "{HEAD}{LAYER}{END}")
+        format!(in alloc; "{}{}{}", HEAD, LAYER, END)
     } else {
-        format!(in alloc; "{HEAD}{LAYER}{line}\n{END}")
+        format!(in alloc; "{}{}{line}\n{}", HEAD, LAYER, END)
     }
 }
 
@@ -129,7 +129,7 @@ fn lines_of_hatches(rt: HostRuntime) {
 
 #[test]
 fn hatches_want_a_layer(rt: HostRuntime) {
-    let text = format!(in rt.alloc(); "{HEAD}$$HATCHES/1,2,1,2,3,4\n{LAYER}{END}").expect(
+    let text = format!(in rt.alloc(); "{}$$HATCHES/1,2,1,2,3,4\n{}{}", HEAD, LAYER, END).expect(
         &rt, "a text",
     );
     assert!(rt; is_told(rt.alloc(), text.as_str(), "BadLine 8"));
