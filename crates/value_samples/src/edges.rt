@@ -63,8 +63,16 @@ fn edges_lie_left_right_and_on(rt: HostRuntime) {
     assert!(rt; cmp_x_at(&E, &F, &ONE) == Ordering::Less);
     assert!(rt; cmp_x_at(&F, &E, &ONE) == Ordering::Greater);
     assert!(rt; cmp_x_at(&F, &G, &ONE) == Ordering::Equal);
+}
+
+#[test]
+fn slopes_compare(rt: HostRuntime) {
     assert!(rt; cmp_slope(&F, &G) == Ordering::Less);
     assert!(rt; cmp_slope(&E, &E) == Ordering::Equal);
+}
+
+#[test]
+fn points_lie_left_right_and_on(rt: HostRuntime) {
     let sides = [
         side(&E, Pt { x: 0, y: 1 }),
         side(&E, Pt { x: 1, y: 0 }),

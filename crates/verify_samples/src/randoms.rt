@@ -1,7 +1,6 @@
 //! Verdicts over random moves by random outlines, which may cross themselves and one another, with hatches beside them.
 use crate::judging::judged;
 use plan_verify::Verdict;
-use std::test::Fail;
 
 const FIRST: &str = "\
 $$HEADERSTART\n\
@@ -288,10 +287,9 @@ const ROWS: [(&str, &str, Verdict); 40] = [
 ];
 
 #[test]
-fn random_moves(rt: HostRuntime) -> Result<(), Fail> {
+fn random_moves(rt: HostRuntime) {
     let alloc = rt.alloc();
     for &(outlines, program, wanted) in &ROWS {
         assert!(rt; judged(alloc, outlines.as_bytes(), program, 100) == Some(Ok(wanted)));
     }
-    Ok(())
 }

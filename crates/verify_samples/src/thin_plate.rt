@@ -2,7 +2,6 @@
 use crate::judging::judged;
 use plan_verify::{Verdict, VerifyFault};
 use std::alloc::{AllocError, Global};
-use std::test::Fail;
 
 const PLATE: &str = "\
 $$HEADERSTART\n\
@@ -94,20 +93,19 @@ fn program_with(alloc: Global, fifteenth: &str) -> Result<String, AllocError> {
 }
 
 #[test]
-fn programs_of_a_thin_plate(rt: HostRuntime) -> Result<(), Fail> {
+fn programs_of_a_thin_plate(rt: HostRuntime) {
     let alloc = rt.alloc();
     for &(outlines, fifteenth, wanted) in &ROWS {
-        let program = program_with(alloc, fifteenth)?;
+        let program = program_with(alloc, fifteenth).expect(&rt, "memory");
         assert!(rt; judged(alloc, outlines.as_bytes(), program.as_str(), 450) == Some(wanted));
     }
-    Ok(())
 }
 
 /// The clearance is that of half a width, rounded down.
 #[test]
-fn wider_lines(rt: HostRuntime) -> Result<(), Fail> {
+fn wider_lines(rt: HostRuntime) {
     let alloc = rt.alloc();
-    let program = program_with(alloc, FIFTEENTH)?;
+    let program = program_with(alloc, FIFTEENTH).expect(&rt, "memory");
     let inside = Verdict::Inside { moves: 9 };
     assert!(rt; judged(alloc, PLATE.as_bytes(), program.as_str(), 451) == Some(Ok(inside)));
     let outside = Verdict::Outside {
@@ -115,13 +113,11 @@ fn wider_lines(rt: HostRuntime) -> Result<(), Fail> {
         line: 15,
     };
     assert!(rt; judged(alloc, PLATE.as_bytes(), program.as_str(), 452) == Some(Ok(outside)));
-    Ok(())
 }
 
 /// An empty text is none of outlines.
 #[test]
-fn no_outlines(rt: HostRuntime) -> Result<(), Fail> {
+fn no_outlines(rt: HostRuntime) {
     let alloc = rt.alloc();
     assert!(rt; judged(alloc, b"", FRONT, 450) == None);
-    Ok(())
 }

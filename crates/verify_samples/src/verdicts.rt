@@ -1,7 +1,6 @@
 //! Verdicts over the outlines of a plate with a square hole.
 use crate::judging::judged;
 use plan_verify::{Verdict, VerifyFault};
-use std::test::Fail;
 
 /// A square of 10 mm with a square hole of 2 mm, 0.2 mm high.
 const PLATE: &str = "\
@@ -286,19 +285,17 @@ const MORE_ROWS: [(&str, &str, Verdict); 6] = [
 ];
 
 #[test]
-fn programs_over_a_plate(rt: HostRuntime) -> Result<(), Fail> {
+fn programs_over_a_plate(rt: HostRuntime) {
     let alloc = rt.alloc();
     for &(program, wanted) in &ROWS {
         assert!(rt; judged(alloc, PLATE.as_bytes(), program, 450) == Some(wanted));
     }
-    Ok(())
 }
 
 #[test]
-fn programs_over_more(rt: HostRuntime) -> Result<(), Fail> {
+fn programs_over_more(rt: HostRuntime) {
     let alloc = rt.alloc();
     for &(outlines, program, wanted) in &MORE_ROWS {
         assert!(rt; judged(alloc, outlines.as_bytes(), program, 450) == Some(Ok(wanted)));
     }
-    Ok(())
 }
