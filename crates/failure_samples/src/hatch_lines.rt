@@ -127,10 +127,13 @@ fn lines_of_hatches(rt: HostRuntime) {
     }
 }
 
+/// The text with a line of hatches before its first layer.
+fn before_layer(alloc: Global) -> Result<String, AllocError> {
+    format!(in alloc; "{}$$HATCHES/1,2,1,2,3,4\n{}{}", HEAD, LAYER, END)
+}
+
 #[test]
 fn hatches_want_a_layer(rt: HostRuntime) {
-    let text = format!(in rt.alloc(); "{}$$HATCHES/1,2,1,2,3,4\n{}{}", HEAD, LAYER, END).expect(
-        &rt, "a text",
-    );
+    let text = before_layer(rt.alloc()).expect(&rt, "memory for a text");
     assert!(rt; is_told(rt.alloc(), text.as_str(), "BadLine 8"));
 }

@@ -142,13 +142,11 @@ fn four_threads_draw_each_layer_once(rt: HostRuntime) {
     let alloc = rt.alloc();
     let (board, passes) = Board::new(alloc, 500, 4).expect(&rt, "memory");
     let shared = &board;
-    let results = thread::map_vec(&rt, passes, &|pass| draw(alloc, shared, pass, 500)).expect(
-        &rt, "memory",
-    );
+    let results = thread::map_vec(&rt, passes, &|pass| draw(alloc, shared, pass, 500));
     let mut all = Vec::new(alloc);
-    for result in results {
-        all.extend_from_slice(&result.expect(&rt, "memory").finished)
-            .expect(&rt, "memory");
+    for result in results.expect(&rt, "memory") {
+        let drawn = result.expect(&rt, "memory");
+        all.extend_from_slice(&drawn.finished).expect(&rt, "memory");
     }
     all.sort().expect(&rt, "memory");
     assert!(rt; all.len() == 500);

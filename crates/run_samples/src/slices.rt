@@ -126,19 +126,19 @@ fn sliced<R: Threads + Sync + Abort>(
     answer_of(rt, alloc, &words, source.as_bytes(), fails, room)
 }
 
+fn done_line(alloc: Global, layers: u32, loops: u32) -> Result<String, AllocError> {
+    format!(in alloc; "done: {layers} layers, {loops} loops\n")
+}
+
 #[test]
 fn trees_sliced(rt: HostRuntime) {
     let alloc = rt.alloc();
     for &(source, count, loops, layers) in &SLICED {
         let answer = sliced(&rt, alloc, source, &[], ROOM);
-        let report = format!(in alloc; "done: {count} layers, {loops} loops\n").expect(
-            &rt, "memory",
-        );
+        let report = done_line(alloc, count, loops).expect(&rt, "memory");
         expect(&rt, &answer, 0, report.as_str(), source);
-        assert!(rt;
-            answer.cli == outlines(alloc, count, layers).expect(&rt, "memory"),
-            "{source}"
-        );
+        let wanted = outlines(alloc, count, layers).expect(&rt, "memory");
+        assert!(rt; answer.cli == wanted, "{source}");
     }
 }
 
@@ -180,9 +180,8 @@ fn a_layer_with_too_many_edges(rt: HostRuntime) {
         "budget 7 LayerEdges layer 4 count 20010\n",
         source,
     );
-    assert!(rt;
-        answer.cli == begun(alloc, 15, 4, SQUARE).expect(&rt, "memory") && answer.faults == 0
-    );
+    let wanted = begun(alloc, 15, 4, SQUARE).expect(&rt, "memory");
+    assert!(rt; answer.cli == wanted && answer.faults == 0);
 }
 
 /// A source with a line of `echo` and two layers.
