@@ -11,7 +11,7 @@ use scad_modules::{
 use scad_num::Num;
 use scad_value::Value;
 use std::alloc::Global;
-use std::process::Abort;
+use std::test::Fail;
 
 fn number(n: u8) -> Num {
     Num::within(i64::from(n) * 1_000_000)
@@ -22,25 +22,25 @@ fn value(n: u8) -> Value {
 }
 
 // An argument with a name, or without one where that is empty.
-fn arg(rt: &impl Abort, alloc: Global, name: &[u8]) -> Arg {
+fn arg(alloc: Global, name: &[u8]) -> Result<Arg, Fail> {
     let name = if name.is_empty() {
         None
     } else {
-        Some(Text::of(alloc, name).expect(rt, "memory for a name"))
+        Some(Text::of(alloc, name)?)
     };
     let at = Place { line: 1, col: 1 };
-    Arg {
+    Ok(Arg {
         name,
         value: Expr {
             at,
             node: Node::Undef,
         },
-    }
+    })
 }
 
 #[test]
 fn names_have_meanings(rt: HostRuntime) {
-    for &(name, meaning) in &[
+    for (name, meaning) in [
         ("cube", Name::Known(Module::Shape(Shape::Cube))),
         ("square", Name::Known(Module::Flat(Flat::Square))),
         ("render", Name::Known(Module::Union)),
@@ -50,144 +50,124 @@ fn names_have_meanings(rt: HostRuntime) {
         ("Cube", Name::Unknown),
         ("", Name::Unknown),
     ] {
-        assert!(rt; meaning_of(name.as_bytes()) == meaning, "{name}");
-    }
-}
-
-fn is_number(found: Option<&Value>, n: u8) -> bool {
-    match found {
-        Some(Value::Number(x)) => *x == number(n),
-        _ => false,
+        assert_eq!(rt; meaning_of(name.as_bytes()), meaning, "{name}");
     }
 }
 
 #[test]
-fn later_arguments_win_and_undef_is_none(rt: HostRuntime) {
+fn later_arguments_win_and_undef_is_none(rt: HostRuntime) -> Result<(), Fail> {
     let alloc = rt.alloc();
-    let args = [
-        arg(&rt, alloc, b""),
-        arg(&rt, alloc, b"size"),
-        arg(&rt, alloc, b""),
-    ];
+    let args = [arg(alloc, b"")?, arg(alloc, b"size")?, arg(alloc, b"")?];
     let values = [value(1), value(2), Value::Undef];
-    assert!(rt; is_number(taken(Some(0), b"size", &args, &values), 2));
-    assert!(rt; taken(Some(1), b"center", &args, &values).is_none());
-    assert!(rt; taken(None, b"r", &args, &values).is_none());
-}
-
-fn vector(rt: &impl Abort, alloc: Global) -> Value {
-    let elements = Vec::from_array(alloc, [value(1), value(2)]).expect(rt, "memory for elements");
-    Value::vector(alloc, elements).expect(rt, "memory for a vector")
+    let size = taken(Some(0), b"size", &args, &values);
+    assert_eq!(rt; size.is_some(), true);
+    if let Some(Value::Number(n)) = size {
+        assert_eq!(rt; *n, number(2));
+    }
+    assert_eq!(rt; taken(Some(1), b"center", &args, &values).is_none(), true);
+    assert_eq!(rt; taken(None, b"r", &args, &values).is_none(), true);
+    Ok(())
 }
 
 #[test]
-fn transformations_give_matrices(rt: HostRuntime) {
-    let args = [arg(&rt, rt.alloc(), b"")];
+fn transformations_give_matrices(rt: HostRuntime) -> Result<(), Fail> {
+    let args = [arg(rt.alloc(), b"")?];
     let turned = matrix_of(Transform::Rotate, &args, &[value(90)]);
-    assert!(rt; turned == Ok(turn(Axis::Z, 90_000)));
-    let shift = [vector(&rt, rt.alloc())];
-    let moved = matrix_of(Transform::Translate, &args, &shift);
-    assert!(rt; moved == Ok(translate(number(1), number(2), number(0))));
+    assert_eq!(rt; turned, Ok(turn(Axis::Z, 90_000)));
+    let shift = Vec::from_array(rt.alloc(), [value(1), value(2)])?;
+    let moved = matrix_of(
+        Transform::Translate,
+        &args,
+        &[Value::vector(rt.alloc(), shift)?],
+    );
+    assert_eq!(rt; moved, Ok(translate(number(1), number(2), number(0))));
     let bad = matrix_of(Transform::Mirror, &args, &[value(1)]);
-    assert!(rt; bad == Err(ArgumentFault::BadArgument));
+    assert_eq!(rt; bad, Err(ArgumentFault::BadArgument));
+    Ok(())
 }
 
-fn fineness(sides: u8) -> Fineness {
-    Fineness {
-        fn_: value(sides),
+#[test]
+fn arguments_give_primitives_and_these_solids(rt: HostRuntime) -> Result<(), Fail> {
+    let alloc = rt.alloc();
+    let args = [arg(alloc, b"")?];
+    let fine = Fineness {
+        fn_: value(4),
         fa: value(12),
         fs: value(2),
-    }
-}
-
-/// The primitive of this size, and its solid, have so many triangles.
-fn has_triangles(alloc: Global, shape: Shape, args: &[Arg], count: u64) -> bool {
-    let Ok(p) = primitive_of(alloc, shape, &fineness(4), args, &[value(3)]) else {
-        return false;
     };
     let m = translate(number(0), number(0), number(0));
-    match solid_of(alloc, &p, &m) {
-        Ok(solid) => triangles_of(&p) == count && solid.count() as u64 == count,
-        Err(_) => false,
+    for (shape, count) in [
+        (Shape::Cube, 12),
+        (Shape::Sphere, 12),
+        (Shape::Cylinder, 12),
+    ] {
+        let p = primitive_of(alloc, shape, &fine, &args, &[value(3)])?;
+        assert_eq!(rt; triangles_of(&p), count);
+        let solid = solid_of(alloc, &p, &m)?;
+        assert_eq!(rt; solid.count(), count as usize);
     }
+    let none = primitive_of(alloc, Shape::Polyhedron, &fine, &args, &[value(3)]);
+    assert_eq!(rt; matches!(&none, Err(ArgumentFault::BadArgument)), true);
+    Ok(())
 }
 
 #[test]
-fn arguments_give_primitives_and_these_solids(rt: HostRuntime) {
-    let args = [arg(&rt, rt.alloc(), b"")];
-    assert!(rt; has_triangles(rt.alloc(), Shape::Cube, &args, 12));
-    assert!(rt; has_triangles(rt.alloc(), Shape::Sphere, &args, 12));
-    assert!(rt; has_triangles(rt.alloc(), Shape::Cylinder, &args, 12));
-    let none = primitive_of(
-        rt.alloc(),
-        Shape::Polyhedron,
-        &fineness(4),
-        &args,
-        &[value(3)],
-    );
-    assert!(rt; matches!(&none, Err(ArgumentFault::BadArgument)));
-}
-
-/// The one outline of this size has so many points.
-fn has_points(alloc: Global, flat: Flat, args: &[Arg], points: usize) -> bool {
-    let Ok(outlines) = outlines_of(alloc, flat, &fineness(5), args, &[value(3)]) else {
-        return false;
+fn arguments_give_outlines_and_their_points(rt: HostRuntime) -> Result<(), Fail> {
+    let alloc = rt.alloc();
+    let args = [arg(alloc, b"")?];
+    let fine = Fineness {
+        fn_: value(5),
+        fa: value(12),
+        fs: value(2),
     };
-    let mut are_told = outlines.len() == 1;
-    for outline in &outlines {
-        let found = match ring_of(alloc, outline) {
-            Ok(ring) => ring.len(),
-            Err(_) => 0,
-        };
-        are_told = are_told && found == points && points_in(outline) == points;
+    for (flat, points) in [(Flat::Square, 4), (Flat::Circle, 5)] {
+        let outlines = outlines_of(alloc, flat, &fine, &args, &[value(3)])?;
+        assert_eq!(rt; outlines.len(), 1);
+        for outline in &outlines {
+            assert_eq!(rt; points_in(outline), points);
+            assert_eq!(rt; ring_of(alloc, outline)?.len(), points);
+        }
     }
-    are_told
+    let none = outlines_of(alloc, Flat::Polygon, &fine, &args, &[value(3)]);
+    assert_eq!(rt; matches!(&none, Err(ArgumentFault::BadArgument)), true);
+    Ok(())
 }
 
 #[test]
-fn arguments_give_outlines_and_their_points(rt: HostRuntime) {
-    let args = [arg(&rt, rt.alloc(), b"")];
-    assert!(rt; has_points(rt.alloc(), Flat::Square, &args, 4));
-    assert!(rt; has_points(rt.alloc(), Flat::Circle, &args, 5));
-    let none = outlines_of(rt.alloc(), Flat::Polygon, &fineness(5), &args, &[value(3)]);
-    assert!(rt; matches!(&none, Err(ArgumentFault::BadArgument)));
-}
-
-fn resolution() -> Resolution {
-    Resolution {
+fn arguments_give_heights_and_turns(rt: HostRuntime) -> Result<(), Fail> {
+    let alloc = rt.alloc();
+    let args = [arg(alloc, b"height")?, arg(alloc, b"twist")?];
+    let plain = linear_by(&args, &[value(3), value(0)]);
+    assert_eq!(rt; plain, Ok((number(3), false)));
+    let twisted = linear_by(&args, &[value(3), value(1)]);
+    assert_eq!(rt; twisted, Err(ArgumentFault::LeftOut));
+    let fine = Fineness {
+        fn_: value(7),
+        fa: value(12),
+        fs: value(2),
+    };
+    let resolution = Resolution {
         fn_: number(7),
         fa: number(12),
         fs: number(2),
-    }
-}
-
-#[test]
-fn arguments_give_heights_and_turns(rt: HostRuntime) {
-    let alloc = rt.alloc();
-    let args = [arg(&rt, alloc, b"height"), arg(&rt, alloc, b"twist")];
-    let plain = linear_by(&args, &[value(3), value(0)]);
-    assert!(rt; plain == Ok((number(3), false)));
-    let twisted = linear_by(&args, &[value(3), value(1)]);
-    assert!(rt; twisted == Err(ArgumentFault::LeftOut));
-    let turned = turned_by(&fineness(7), &args, &[value(3), value(1)]);
-    assert!(rt; turned == Ok(resolution()));
-}
-
-#[test]
-fn matrices_give_profiles(rt: HostRuntime) {
-    let m = translate(number(1), number(0), number(9));
+    };
+    assert_eq!(rt;
+        turned_by(&fine, &args, &[value(3), value(1)]),
+        Ok(resolution)
+    );
     let ring = [
         (number(1), number(0)),
         (number(2), number(1)),
         (number(0), number(3)),
     ];
-    let profile = profile_of(rt.alloc(), &m, &ring).expect(&rt, "a profile");
-    let wanted = [
+    let profile = profile_of(alloc, &translate(number(1), number(0), number(9)), &ring)?;
+    let want = [
         (number(2), number(0)),
         (number(3), number(1)),
         (number(1), number(3)),
     ];
-    assert!(rt; profile.as_slice() == wanted.as_slice());
-    assert!(rt; !crosses_axis(&profile));
-    assert!(rt; turns_of(resolution(), &profile) == 7);
+    assert_eq!(rt; profile.as_slice(), want.as_slice());
+    assert_eq!(rt; crosses_axis(&profile), false);
+    assert_eq!(rt; turns_of(resolution, &profile), 7);
+    Ok(())
 }
