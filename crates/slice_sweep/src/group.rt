@@ -12,7 +12,8 @@ ghost use Rattle.slice_sweep.specs.Strands.{head, numbers_in, AreThere, strand_a
 use crate::step::Step;
 use crate::strand::Strand;
 use crate::wake::head;
-use scad_geom::line::ends_from;
+use scad_geom::line::{ends_from, low};
+use scad_geom::wide::times;
 use scad_geom::{LeafEdge, Level, cmp_x_at};
 use std::alloc::AllocError;
 use std::cmp::Ordering;
@@ -89,4 +90,29 @@ pub(crate) fn members(
         numbers.extend_from_slice(strands[i].bundle.as_slice())?;
     }
     Ok(numbers)
+}
+
+/// How many of the strands from one place to another were there below the height.
+pub(crate) fn older(step: &Step<'_>, strands: &[Strand], from: usize, to: usize) -> usize
+    requires strands { AreThere step.now.edges.now strands.now }
+    requires from { from ≤ to }
+    requires to { to ≤ length strands.now }
+    ensures { result ≡ older step.now.edges.now step.now.lower.now (drop from (take to strands.now)) }
+{
+    let mut count = 0;
+    'strands: for i in from..to {
+        if !has_started(step, &strands[i]) {
+            count += 1;
+        }
+    }
+    count
+}
+
+// Whether a strand's first edge starts at the lower height.
+fn has_started(step: &Step<'_>, s: &Strand) -> bool
+    requires { All (λ k. k < length step.now.edges.now) s.now.bundle }
+    ensures { result ≡ has_started step.now.edges.now step.now.lower.now s.now.bundle }
+{
+    let e = head(step.edges, &s.bundle);
+    times::<21, 44>(low(&e).y as i128, step.lower.d) == step.lower.n
 }

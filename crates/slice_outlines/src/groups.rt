@@ -1,0 +1,86 @@
+//! Groups of strands at one place, where nothing leads along the height.
+
+use crate::changing::{Height, Open, find_values};
+use crate::mark::{begin, value_at};
+use crate::passing::{Place, pass};
+use crate::run::{Run, after, is_left};
+use crate::side::Side;
+use crate::spot::rounded_on;
+use scad_geom::Pt;
+use slice_sweep::Change;
+use std::alloc::AllocError;
+
+/// How many changes of a height are passed, and the strands of the last.
+#[derive(Clone, Copy)]
+pub(crate) struct Passed {
+    pub(crate) count: usize,
+    pub(crate) last: Run,
+}
+
+/// Passes the groups that lie to the left of a part of the height.
+pub(crate) fn pass_groups(
+    height: &Height<'_>,
+    open: &mut Open,
+    changes: &[Change],
+    passed: &Passed,
+    limit: &Run,
+) -> Result<Passed, AllocError> {
+    let mut passed = *passed;
+    'changes: while passed.count < changes.len() {
+        let run = after(&passed.last, &changes[passed.count]);
+        if !is_left(&run, limit) {
+            break;
+        }
+        pass_group(height, open, &run)?;
+        passed = Passed {
+            count: passed.count + 1,
+            last: run,
+        };
+    }
+    Ok(passed)
+}
+
+/// Skips the groups that don't lie to the right of a part of the height.
+pub(crate) fn skip_groups(changes: &[Change], passed: &Passed, limit: &Run) -> Passed {
+    let mut passed = *passed;
+    'changes: while passed.count < changes.len() {
+        let run = after(&passed.last, &changes[passed.count]);
+        if run.below >= limit.below_to && run.above >= limit.above_to {
+            break;
+        }
+        passed = Passed {
+            count: passed.count + 1,
+            last: run,
+        };
+    }
+    passed
+}
+
+fn pass_group(height: &Height<'_>, open: &mut Open, run: &Run) -> Result<(), AllocError> {
+    find_values(height, open, run);
+    let right = value_at(height.below, run.below_to);
+    let place = Place {
+        below: Side {
+            marks: &height.below[run.below..run.below_to],
+            right,
+        },
+        above: Side {
+            marks: &open.marks[run.above..run.above_to],
+            right,
+        },
+        at: point_of(height, open, run),
+    };
+    let from = pass(&mut open.given, &place, None, None)?;
+    begin(&mut open.marks, run.above, run.above_to, from);
+    Ok(())
+}
+
+// Where the strands of a group meet the height, rounded.
+fn point_of(height: &Height<'_>, open: &Open, run: &Run) -> Pt {
+    let name = if run.below < run.below_to {
+        height.below[run.below].name
+    } else {
+        open.marks[run.above].name
+    };
+    rounded_on(&height.edges[name as usize].edge, height.at)
+}

@@ -1,0 +1,194 @@
+//! A stretch of flat edges, from place to place.
+
+use crate::changing::{Height, Open, find_values};
+use crate::course::Course;
+use crate::flats::Flat;
+use crate::mark::{Mark, begin, value_at};
+use crate::passing::{Place, pass};
+use crate::run::Run;
+use crate::side::Side;
+use crate::spot::{Stop, compare, rounded, spot_on, whole_spot};
+use crate::stops::stops;
+use scad_geom::{LeafEdge, Level};
+use std::alloc::{AllocError, Global};
+
+/// The strands below a height and above it that lie from one x to another.
+pub(crate) fn run_between(height: &Height<'_>, above: &[Mark], left: i32, right: i32) -> Run {
+    let (left, right) = (whole_spot(left, height.at), whole_spot(right, height.at));
+    Run {
+        below: first_from(height, height.below, &left),
+        below_to: first_behind(height, height.below, &right),
+        above: first_from(height, above, &left),
+        above_to: first_behind(height, above, &right),
+    }
+}
+
+// How many strands lie to the left of a place.
+fn first_from(height: &Height<'_>, marks: &[Mark], s: &Stop) -> usize {
+    marks.partition_point(|m| compare(&stop_of(height.edges, m, height.at), s).is_lt())
+}
+
+// How many don't lie to the right of it.
+fn first_behind(height: &Height<'_>, marks: &[Mark], s: &Stop) -> usize {
+    marks.partition_point(|m| compare(&stop_of(height.edges, m, height.at), s).is_le())
+}
+
+fn stop_of(edges: &[LeafEdge], mark: &Mark, at: &Level) -> Stop {
+    spot_on(&edges[mark.name as usize].edge, at)
+}
+
+/// Passes the places of a stretch, whose flat edges and whose strands are given.
+pub(crate) fn pass_stretch(
+    alloc: Global,
+    height: &Height<'_>,
+    open: &mut Open,
+    run: &Run,
+    flats: &[Flat],
+) -> Result<(), AllocError> {
+    find_values(height, open, run);
+    let stops = stops(
+        alloc,
+        height.edges,
+        height.at,
+        &height.below[run.below..run.below_to],
+        &open.marks[run.above..run.above_to],
+        flats,
+    )?;
+    let mut along = Along {
+        run: *run,
+        below: run.below,
+        above: run.above,
+        begun: 0,
+        live: Vec::new(alloc),
+        flat: None,
+    };
+    'stops: for s in &stops {
+        pass_stop(height, open, flats, &mut along, s)?;
+    }
+    Ok(())
+}
+
+/// How far a stretch is passed: up to which strands and flat edges, which flat edges go on to the right, and the piece
+/// along the height that comes in.
+#[derive(Drop)]
+struct Along {
+    run: Run,
+    below: usize,
+    above: usize,
+    begun: usize,
+    live: Vec<Flat>,
+    flat: Option<Course>,
+}
+
+fn pass_stop(
+    height: &Height<'_>,
+    open: &mut Open,
+    flats: &[Flat],
+    along: &mut Along,
+    s: &Stop,
+) -> Result<(), AllocError> {
+    let below_to = strands_to(height, height.below, along.below, along.run.below_to, s);
+    let above_to = strands_to(height, &open.marks, along.above, along.run.above_to, s);
+    along.begun = begin_flats(&mut along.live, flats, along.begun, s)?;
+    end_flats(&mut along.live, s);
+    let below = Side {
+        marks: &height.below[along.below..below_to],
+        right: value_at(height.below, below_to),
+    };
+    let above = Side {
+        marks: &open.marks[along.above..above_to],
+        right: value_above(height, open, &along.run, above_to),
+    };
+    let at = rounded(s);
+    let flat = course_along(&along.live, above.right, below.right, at);
+    let place = Place { below, above, at };
+    let from = pass(&mut open.given, &place, along.flat, flat)?;
+    begin(&mut open.marks, along.above, above_to, from);
+    along.flat = begun_at(flat, from);
+    along.below = below_to;
+    along.above = above_to;
+    Ok(())
+}
+
+// The place behind the strands of a stretch that don't lie to the right of a stop.
+fn strands_to(height: &Height<'_>, marks: &[Mark], from: usize, to: usize, s: &Stop) -> usize {
+    let mut i = from;
+    'strands: while i < to && compare(&stop_of(height.edges, &marks[i], height.at), s).is_le() {
+        i += 1;
+    }
+    i
+}
+
+// The value just above the height to the left of a strand, or to the right of the stretch, where it's that below.
+fn value_above(height: &Height<'_>, open: &Open, run: &Run, i: usize) -> bool {
+    if i < run.above_to {
+        open.marks[i].left
+    } else {
+        value_at(height.below, run.below_to)
+    }
+}
+
+// Adds the flat edges that begin at a stop.
+fn begin_flats(
+    live: &mut Vec<Flat>,
+    flats: &[Flat],
+    from: usize,
+    s: &Stop,
+) -> Result<usize, AllocError> {
+    let mut i = from;
+    'flats: while i < flats.len() && compare(&whole_spot(flats[i].left, &s.spot.at), s).is_le() {
+        live.push(flats[i])?;
+        i += 1;
+    }
+    Ok(i)
+}
+
+// Drops those that end there.
+fn end_flats(live: &mut Vec<Flat>, s: &Stop) {
+    let mut i = 0;
+    'flats: while i < live.len() {
+        if compare(&whole_spot(live[i].right, &s.spot.at), s).is_le() {
+            live.swap_remove(i);
+        } else {
+            i += 1;
+        }
+    }
+}
+
+// The piece along the height to the right of a place.
+fn course_along(live: &[Flat], above: bool, below: bool, at: scad_geom::Pt) -> Option<Course> {
+    if above == below {
+        return None;
+    }
+    match least(live) {
+        None => None,
+        Some(name) => Some(Course {
+            name,
+            forward: above,
+            from: at,
+        }),
+    }
+}
+
+// The least number of flat edges.
+fn least(live: &[Flat]) -> Option<u32> {
+    let mut least = None;
+    'flats: for e in live {
+        least = lesser(least, e.number);
+    }
+    least
+}
+
+fn lesser(least: Option<u32>, k: u32) -> Option<u32> {
+    match least {
+        None => Some(k),
+        Some(j) => Some(if k < j { k } else { j }),
+    }
+}
+
+fn begun_at(flat: Option<Course>, from: scad_geom::Pt) -> Option<Course> {
+    match flat {
+        None => None,
+        Some(course) => Some(Course { from, ..course }),
+    }
+}
