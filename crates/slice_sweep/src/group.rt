@@ -1,5 +1,5 @@
 //! Strands that meet a height at one place.
-ghost use Rattle.std.specs.Prelude.{◌≡◌, ◌<◌, ◌≤◌, ◌+◌, ◌++◌, ◌*ℤ◌, int_le, ℕ, true, drop, length, IfOk, All};
+ghost use Rattle.std.specs.Prelude.{◌≡◌, ◌<◌, ◌≤◌, ◌+◌, ◌++◌, ◌*ℤ◌, int_le, ℕ, true, take, drop, length, IfOk, All};
 ghost use Rattle.std.specs.Ordering.{int_eq};
 ghost use Rattle.scad_geom.specs.Limits.{coordinate_limit};
 ghost use Rattle.scad_geom.specs.Line.{high, rise, x_at};
@@ -8,6 +8,7 @@ ghost use Rattle.scad_geom.specs.Level.{IsLevelWithin};
 ghost use Rattle.slice_slab.specs.Bundles.{edge_at};
 ghost use Rattle.slice_slab.specs.KeptOrder.{IsSamePlaceAt};
 ghost use Rattle.slice_sweep.specs.Strands.{head, numbers_in, AreThere, strand_at, IsTogether};
+ghost use Rattle.slice_sweep.specs.Changes.{has_started, older};
 
 use crate::step::Step;
 use crate::strand::Strand;

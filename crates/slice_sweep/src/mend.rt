@@ -1,11 +1,12 @@
 //! The strands at a height, mended one place after another.
-ghost use Rattle.std.specs.Prelude.{◌≡◌, ◌<◌, ◌+◌, ◌-◌, ◌*ℤ◌, int_le, true, length, IfOk, OnOk, All};
+ghost use Rattle.std.specs.Prelude.{◌≡◌, ◌<◌, ◌+◌, ◌-◌, ◌*ℤ◌, ◌++◌, int_le, true, length, IfOk, OnOk, All};
 ghost use Rattle.scad_geom.specs.Line.{high};
 ghost use Rattle.scad_geom.specs.Heights.{AreNeighbours};
 ghost use Rattle.slice_slab.specs.Bundles.{edge_at};
 ghost use Rattle.slice_sweep.specs.Keys.{IsBelowKey};
 ghost use Rattle.slice_sweep.specs.Strands.{AreWaiting, AreThere, strand_at};
 ghost use Rattle.slice_sweep.specs.Mending.{AreOrdered, AreMendedTo, KeepTimes, IsGroup};
+ghost use Rattle.slice_sweep.specs.Changes.{started};
 
 use crate::change::Change;
 use crate::group::{goes_on, group_end, members, older};
