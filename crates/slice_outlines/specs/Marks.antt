@@ -1,5 +1,5 @@
 -- Marks beside strands: the name, the value to the left, and where the open piece began, rounded.
-use Rattle.std.specs.Prelude.{Bool, false, ◌≡◌, ⊤, List, [], ◌∷◌, map, ℕ, ◌<◌, length, slice_index_or, pos, All}
+use Rattle.std.specs.Prelude.{Bool, false, ◌≡◌, ⊤, List, [], ◌∷◌, ◌++◌, map, take, drop, ℕ, ◌-◌, ◌<◌, length, slice_index_or, pos, All}
 use Rattle.scad_geom.specs.declared.point.Pt.{Pt}
 use Rattle.scad_geom.specs.declared.level.Level.{Level}
 use Rattle.scad_geom.specs.declared.level.LeafEdge.{LeafEdge}
@@ -48,3 +48,10 @@ mark_at ms i = slice_index_or ms i no_mark
 -- where the edge of a mark's name meets a height
 abbrev pub spot_at : List LeafEdge → Level → Mark → Spot
 spot_at es l m = spot_on (edge_at es m.name) l
+
+-- strands that begin at a point; those from one place to another
+abbrev pub begun : Pt → List Mark → List Mark
+begun at ms = map (λ m. record m { from = at }) ms
+
+abbrev pub begun_in : ℕ → ℕ → Pt → List Mark → List Mark
+begun_in from to at ms = take from ms ++ (begun at (take (to - from) (drop from ms)) ++ drop to ms)

@@ -1,5 +1,5 @@
 -- What is known of a sweep between two of its levels.
-use Rattle.std.specs.Prelude.{false, ◌≡◌, ◌≤◌, ⊤, List, [], ◌∷◌, length}
+use Rattle.std.specs.Prelude.{false, ◌≡◌, ◌≤◌, ◌<◌, ⊤, ℕ, List, [], ◌∷◌, length}
 use Rattle.std.specs.List.Sorted.{IsPermutation}
 use Rattle.scad_geom.specs.declared.level.Level.{Level}
 use Rattle.scad_geom.specs.declared.level.LeafEdge.{LeafEdge}
@@ -11,7 +11,8 @@ use Rattle.sweep_laws.specs.Fronts.{Strand, bundles_of}
 use Rattle.sweep_laws.specs.Sweeps.{HasSweptTo}
 use Rattle.slice_outlines.specs.declared.sweep.Sweep.{Sweep}
 use Rattle.slice_outlines.specs.Marks.{AreKept}
-use Rattle.slice_outlines.specs.Cursor.{StandsOn}
+use Rattle.slice_outlines.specs.declared.changing.Open.{Open}
+use Rattle.slice_outlines.specs.Cursor.{StandsOn, IsApartAt}
 use Rattle.slice_outlines.specs.Flats.{AreFlats}
 
 -- the front can be lifted to the first of these
@@ -31,3 +32,8 @@ pub record HasSwept (es : List LeafEdge) (shape : Shape) (levels left : List Lev
   pub flats : AreFlats es s.flats.items
   pub passed : s.passed ≤ length s.flats.items
   pub ready : IsReadyForFirst es left s
+
+-- where flat edges lie on a height, the cursor stands at the right end; else not between strands that meet at it
+pub record IsClear (es : List LeafEdge) (l : Level) (o : Open) (flat_to passed : ℕ) : Type 0 where
+  pub right : passed < flat_to → o.cursor.at ≡ length o.marks.items
+  pub apart : IsApartAt es l o.marks.items o.cursor.at

@@ -1,4 +1,8 @@
 //! The marks of the strands above a height.
+ghost use Rattle.std.specs.Prelude.{◌≡◌, ◌≤◌, ◌+◌, ◌++◌, List, map, take, drop, length, IfOk, OnOk};
+ghost use Rattle.slice_sweep.specs.Front.{bundles_in};
+ghost use Rattle.slice_sweep.specs.Changes.{Group, Tell, all_above};
+ghost use Rattle.slice_outlines.specs.Above.{IsTold, AreTaken, new_mark, name_of};
 
 use crate::mark::Mark;
 use scad_geom::Pt;
@@ -12,7 +16,11 @@ pub(crate) fn marks_above(
     below: &[Mark],
     front: &Front,
     changes: &[Change],
-) -> Result<Vec<Mark>, AllocError> {
+) -> Result<Vec<Mark>, AllocError>
+    requires told { IsTold below.now (bundles_in front.now) changes.now }
+    ensures { (gs : List Group) → Tell 0 changes.now gs → all_above gs ≡ bundles_in front.now
+        → IfOk result (λ v. AreTaken gs below.now v.items) }
+{
     let mut above = Vec::with_capacity(alloc, front.count())?;
     let mut passed = 0;
     'changes: for change in changes {
@@ -25,7 +33,11 @@ pub(crate) fn marks_above(
     Ok(above)
 }
 
-fn push_new(above: &mut Vec<Mark>, front: &Front, change: &Change) -> Result<(), AllocError> {
+fn push_new(above: &mut Vec<Mark>, front: &Front, change: &Change) -> Result<(), AllocError>
+    requires { change.now.from + change.now.come ≤ length (bundles_in front.now) }
+    ensures { OnOk result (above.new.items ≡ above.old.items
+        ++ map new_mark (take change.now.come (drop change.now.from (bundles_in front.now)))) }
+{
     'strands: for i in change.from..change.from + change.come {
         above.push(Mark {
             name: name_of(front.bundle(i)),
@@ -36,7 +48,9 @@ fn push_new(above: &mut Vec<Mark>, front: &Front, change: &Change) -> Result<(),
     Ok(())
 }
 
-fn name_of(bundle: &[u32]) -> u32 {
+fn name_of(bundle: &[u32]) -> u32
+    ensures { result ≡ name_of bundle.now }
+{
     match bundle {
         [] => 0,
         [k, ..] => *k,

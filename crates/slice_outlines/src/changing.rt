@@ -1,4 +1,13 @@
 //! What a height changes.
+ghost use Rattle.std.specs.Prelude.{◌≡◌, ◌<◌, ◌^◌, length, All};
+ghost use Rattle.scad_geom.specs.declared.shape.Shape.{Shape};
+ghost use Rattle.scad_geom.specs.Limits.{coordinate_limit};
+ghost use Rattle.scad_geom.specs.Within.{IsEdgeWithin};
+ghost use Rattle.scad_geom.specs.Level.{IsLevelWithin};
+ghost use Rattle.slice_sweep.specs.Front.{bundles_in};
+ghost use Rattle.slice_bool.specs.Beside.{AreMembers};
+ghost use Rattle.slice_outlines.specs.Cursor.{StandsOn, StaysOn};
+ghost use Rattle.slice_outlines.specs.Heights.{IsRunOf, IsBalancedBefore, AreValuedIn, KeepsMarks};
 
 use crate::cursor::Cursor;
 use crate::mark::{Mark, value_at};
@@ -13,6 +22,9 @@ pub(crate) struct Height<'a> {
     pub(crate) at: &'a Level,
     pub(crate) front: &'a Front,
     pub(crate) below: &'a [Mark],
+    ghost within: { All (λ e. IsEdgeWithin coordinate_limit e.edge) edges.now },
+    ghost few: { length edges.now < 2 ^ 32 },
+    ghost at_within: { IsLevelWithin coordinate_limit at.now },
 }
 
 /// The marks of the strands above a height, a cursor on their front, and the edges that ended pieces gave.
@@ -24,7 +36,16 @@ pub(crate) struct Open {
 }
 
 /// Finds the values to the left of the strands above a run. To the left of the first it's that below the height.
-pub(crate) fn find_values(height: &Height<'_>, open: &mut Open, run: &Run) {
+pub(crate) fn find_values(height: &Height<'_>, open: &mut Open, run: &Run)
+    requires members { AreMembers height.now.edges.now (bundles_in height.now.front.now) }
+    requires there { IsRunOf height.now.below.now open.old.marks.items run.now }
+    ensures values { (shape : Shape) → IsBalancedBefore height.now shape run.now
+        → StandsOn height.now.edges.now shape (bundles_in height.now.front.now) open.old.cursor
+        → AreValuedIn height.now shape run.now open.new.marks.items }
+    ensures stands { StaysOn height.now.edges.now (bundles_in height.now.front.now) open.old.cursor open.new.cursor }
+    ensures rest { KeepsMarks run.now open.old.marks.items open.new.marks.items }
+    ensures given { open.new.given ≡ open.old.given }
+{
     if run.above + 1 == run.above_to {
         open.marks[run.above].left = value_at(height.below, run.below);
     } else {
@@ -32,7 +53,16 @@ pub(crate) fn find_values(height: &Height<'_>, open: &mut Open, run: &Run) {
     }
 }
 
-fn ask_cursor(height: &Height<'_>, open: &mut Open, run: &Run) {
+fn ask_cursor(height: &Height<'_>, open: &mut Open, run: &Run)
+    requires members { AreMembers height.now.edges.now (bundles_in height.now.front.now) }
+    requires there { IsRunOf height.now.below.now open.old.marks.items run.now }
+    ensures values { (shape : Shape)
+        → StandsOn height.now.edges.now shape (bundles_in height.now.front.now) open.old.cursor
+        → AreValuedIn height.now shape run.now open.new.marks.items }
+    ensures stands { StaysOn height.now.edges.now (bundles_in height.now.front.now) open.old.cursor open.new.cursor }
+    ensures rest { KeepsMarks run.now open.old.marks.items open.new.marks.items }
+    ensures given { open.new.given ≡ open.old.given }
+{
     'strands: for i in run.above..run.above_to {
         open.marks[i].left = open.cursor.value_at(height.edges, height.front, i);
     }

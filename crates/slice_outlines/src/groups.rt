@@ -1,4 +1,9 @@
 //! Groups of strands at one place, where nothing leads along the height.
+ghost use Rattle.std.specs.Prelude.{◌≡◌, IfOk, OnOk};
+ghost use Rattle.winding_laws.specs.Edges.{rounded};
+ghost use Rattle.slice_snap.specs.Spots.{point_of};
+ghost use Rattle.slice_snap.specs.declared.piece.Spot.{Spot};
+ghost use Rattle.slice_outlines.specs.Heights.{Onwards, IsOf, HasCome, HasComeTo, IsGroupAt, MeetAt, IsCountOf, IsNotLeft, IsNotIn};
 
 use crate::changing::{Height, Open, find_values};
 use crate::mark::{begin, value_at};
@@ -24,7 +29,12 @@ pub(crate) fn pass_groups(
     changes: &[Change],
     passed: &Passed,
     limit: &Run,
-) -> Result<Passed, AllocError> {
+) -> Result<Passed, AllocError>
+    requires behind { IsCountOf changes.now passed.now }
+    ensures passed { (on : Onwards) → IsOf height.now on → IfOk result (λ p. HasCome on changes.now passed.now open.old
+        → HasCome on changes.now p open.new) }
+    ensures next { IfOk result (λ p. IsNotLeft changes.now p limit.now) }
+{
     let mut passed = *passed;
     'changes: while passed.count < changes.len() {
         let run = after(&passed.last, &changes[passed.count]);
@@ -41,7 +51,11 @@ pub(crate) fn pass_groups(
 }
 
 /// Skips the groups that don't lie to the right of a part of the height.
-pub(crate) fn skip_groups(changes: &[Change], passed: &Passed, limit: &Run) -> Passed {
+pub(crate) fn skip_groups(changes: &[Change], passed: &Passed, limit: &Run) -> Passed
+    requires behind { IsCountOf changes.now passed.now }
+    ensures behind { IsCountOf changes.now result }
+    ensures next { IsNotIn changes.now result limit.now }
+{
     let mut passed = *passed;
     'changes: while passed.count < changes.len() {
         let run = after(&passed.last, &changes[passed.count]);
@@ -56,7 +70,12 @@ pub(crate) fn skip_groups(changes: &[Change], passed: &Passed, limit: &Run) -> P
     passed
 }
 
-fn pass_group(height: &Height<'_>, open: &mut Open, run: &Run) -> Result<(), AllocError> {
+fn pass_group(height: &Height<'_>, open: &mut Open, run: &Run) -> Result<(), AllocError>
+    requires group { IsGroupAt height.now open.old.marks.items run.now }
+    ensures passed { (on : Onwards) → IsOf height.now on
+        → OnOk result (HasComeTo on run.now.below run.now.above open.old
+        → HasComeTo on run.now.below_to run.now.above_to open.new) }
+{
     find_values(height, open, run);
     let right = value_at(height.below, run.below_to);
     let place = Place {
@@ -76,7 +95,10 @@ fn pass_group(height: &Height<'_>, open: &mut Open, run: &Run) -> Result<(), All
 }
 
 // Where the strands of a group meet the height, rounded.
-fn point_of(height: &Height<'_>, open: &Open, run: &Run) -> Pt {
+fn point_of(height: &Height<'_>, open: &Open, run: &Run) -> Pt
+    requires group { IsGroupAt height.now open.now.marks.items run.now }
+    ensures { (s : Spot) → MeetAt height.now open.now.marks.items run.now s → result ≡ rounded (point_of s) }
+{
     let name = if run.below < run.below_to {
         height.below[run.below].name
     } else {

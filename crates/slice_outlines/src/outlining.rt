@@ -1,10 +1,12 @@
 //! The outlines of a shape.
-ghost use Rattle.std.specs.Prelude.{◌≤◌, length, IfOk, IfErr, All};
+ghost use Rattle.std.specs.Prelude.{◌≤◌, ◌<◌, ◌^◌, length, IfOk, IfErr, All};
 ghost use Rattle.scad_geom.specs.Limits.{coordinate_limit};
 ghost use Rattle.scad_geom.specs.Within.{IsEdgeWithin};
 ghost use Rattle.scad_geom.specs.Leaves.{AreLeavesBalanced};
 ghost use Rattle.slice_events.specs.Limits.{crossing_limit};
-ghost use Rattle.slice_events.specs.Levels.{crossings};
+ghost use Rattle.scad_geom.specs.Level.{IsLevelWithin};
+ghost use Rattle.slice_events.specs.Levels.{crossings, AreLevels};
+ghost use Rattle.sweep_laws.specs.Sweeps.{AreMergedEdges};
 ghost use Rattle.slice_bool.specs.Outlines.{AreOutlinesOf};
 ghost use Rattle.slice_bool.specs.Membership.{HoldCentres};
 ghost use Rattle.slice_bool.specs.NearBorder.{AreNearBorder};
@@ -60,7 +62,14 @@ fn joined(
     edges: &[LeafEdge],
     shape: &Shape,
     levels: &[Level],
-) -> Result<Vec<Loop>, AllocError> {
+) -> Result<Vec<Loop>, AllocError>
+    requires within { All (λ e. IsEdgeWithin coordinate_limit e.edge) edges.now }
+    requires few { length edges.now < 2 ^ 32 }
+    requires balanced { AreLeavesBalanced edges.now }
+    requires levels_within { All (IsLevelWithin coordinate_limit) levels.now }
+    requires levels { AreLevels edges.now levels.now }
+    ensures { IfOk result (λ v. AreOutlinesOf edges.now shape.now v.items) }
+{
     let given = merged_edges(alloc, edges, shape, levels)?;
     let left = cancel(alloc, &given)?;
     join(alloc, &left)
@@ -72,7 +81,14 @@ fn merged_edges(
     edges: &[LeafEdge],
     shape: &Shape,
     levels: &[Level],
-) -> Result<Vec<Edge>, AllocError> {
+) -> Result<Vec<Edge>, AllocError>
+    requires within { All (λ e. IsEdgeWithin coordinate_limit e.edge) edges.now }
+    requires few { length edges.now < 2 ^ 32 }
+    requires balanced { AreLeavesBalanced edges.now }
+    requires levels_within { All (IsLevelWithin coordinate_limit) levels.now }
+    requires levels { AreLevels edges.now levels.now }
+    ensures { IfOk result (λ v. AreMergedEdges edges.now shape.now v.items) }
+{
     if levels.is_empty() {
         return Ok(Vec::new(alloc));
     }

@@ -1,4 +1,7 @@
 //! What passes at one place of a height.
+ghost use Rattle.std.specs.Prelude.{◌≡◌, ◌++◌, IfOk, OnOk};
+ghost use Rattle.slice_outlines.specs.Passing.{courses, edges_to, start_of, ended_at};
+ghost use Rattle.slice_outlines.specs.Places.{ins_at, outs_at};
 
 use crate::course::{Course, close, going_on, with};
 use crate::side::{Side, course_of, courses};
@@ -20,7 +23,11 @@ pub(crate) fn pass(
     place: &Place<'_>,
     flat_in: Option<Course>,
     flat_out: Option<Course>,
-) -> Result<Pt, AllocError> {
+) -> Result<Pt, AllocError>
+    ensures from { IfOk result (λ p. p ≡ start_of place.now.at (ins_at place.now flat_in) (outs_at place.now flat_out)) }
+    ensures given { OnOk result (given.new.items ≡ given.old.items
+        ++ ended_at place.now.at (ins_at place.now flat_in) (outs_at place.now flat_out)) }
+{
     let ins = with(courses(&place.below), flat_in);
     let outs = with(courses(&place.above), flat_out);
     match going_on(&ins, &outs) {
@@ -33,13 +40,20 @@ fn end_all(
     given: &mut Vec<Edge>,
     place: &Place<'_>,
     flat_in: Option<Course>,
-) -> Result<Pt, AllocError> {
+) -> Result<Pt, AllocError>
+    ensures at { IfOk result (λ p. p ≡ place.now.at) }
+    ensures given { OnOk result
+        (given.new.items ≡ given.old.items ++ edges_to place.now.at (ins_at place.now flat_in)) }
+{
     end_strands(given, &place.below, place.at)?;
     close(given, flat_in, place.at)?;
     Ok(place.at)
 }
 
-fn end_strands(given: &mut Vec<Edge>, side: &Side<'_>, at: Pt) -> Result<(), AllocError> {
+fn end_strands(given: &mut Vec<Edge>, side: &Side<'_>, at: Pt) -> Result<(), AllocError>
+    ensures { OnOk result
+        (given.new.items ≡ given.old.items ++ edges_to at (courses side.now.right side.now.marks.now)) }
+{
     'strands: for i in 0..side.marks.len() {
         close(given, course_of(side, i), at)?;
     }

@@ -1,4 +1,6 @@
 //! Strands below a height and those above it that lie in the same part of it.
+ghost use Rattle.std.specs.Prelude.{◌≡◌, ◌≤◌, ◌<◌, ◌+◌, ◌^◌, ◌&&◌, nat_le};
+ghost use Rattle.slice_outlines.specs.Runs.{first, after};
 
 use slice_sweep::Change;
 
@@ -12,7 +14,9 @@ pub(crate) struct Run {
 }
 
 /// The left end of a height.
-pub(crate) fn first() -> Run {
+pub(crate) fn first() -> Run
+    ensures { result ≡ first }
+{
     Run {
         below: 0,
         below_to: 0,
@@ -22,7 +26,11 @@ pub(crate) fn first() -> Run {
 }
 
 /// The strands of a change, behind a run up to which all are counted.
-pub(crate) fn after(done: &Run, change: &Change) -> Run {
+pub(crate) fn after(done: &Run, change: &Change) -> Run
+    requires later { done.now.above_to ≤ change.now.from }
+    requires fits { done.now.below_to + change.now.from + change.now.gone + change.now.come < 2 ^ 64 }
+    ensures { result ≡ after done.now change.now }
+{
     let below = done.below_to + (change.from - done.above_to);
     Run {
         below,
@@ -33,6 +41,8 @@ pub(crate) fn after(done: &Run, change: &Change) -> Run {
 }
 
 /// Whether one part lies to the left of another.
-pub(crate) fn is_left(run: &Run, other: &Run) -> bool {
+pub(crate) fn is_left(run: &Run, other: &Run) -> bool
+    ensures { result ≡ (nat_le run.now.below_to other.now.below && nat_le run.now.above_to other.now.above) }
+{
     run.below_to <= other.below && run.above_to <= other.above
 }

@@ -1,4 +1,14 @@
 //! A stretch of flat edges, from place to place.
+ghost use Rattle.std.specs.Prelude.{◌≡◌, ◌<◌, ◌≤◌, ◌+◌, ◌-◌, ◌++◌, pos, ◌<ℤ◌, false, if◌then◌else◌, nat_lt, filter, take, drop, length, unsigned_abs, IfOk, OnOk, All};
+ghost use Rattle.std.specs.List.Sorted.{IsPermutation, IsPartitionPoint};
+ghost use Rattle.scad_geom.specs.Limits.{coordinate_limit};
+ghost use Rattle.scad_geom.specs.Line.{rise};
+ghost use Rattle.scad_geom.specs.Within.{IsEdgeWithin};
+ghost use Rattle.scad_geom.specs.Level.{IsLevelWithin};
+ghost use Rattle.slice_slab.specs.Bundles.{edge_at};
+ghost use Rattle.slice_outlines.specs.Marks.{left_of_first, mark_at, spot_at};
+ghost use Rattle.slice_outlines.specs.Heights.{Onwards, IsOf, IsRunOf, AreInOrder, HasComeTo};
+ghost use Rattle.slice_outlines.specs.Along.{LieBetween, LiesLeftOf, LiesRightOf, AreFlatsOf, IsNextStop, HasComeAlong, BeginsBy, StartsAfter, goes_on, course_along, least, lesser, begun_at};
 
 use crate::changing::{Height, Open, find_values};
 use crate::course::Course;
@@ -9,11 +19,19 @@ use crate::run::Run;
 use crate::side::Side;
 use crate::spot::{Stop, compare, rounded, spot_on, whole_spot};
 use crate::stops::stops;
-use scad_geom::{LeafEdge, Level};
+use scad_geom::{LeafEdge, Level, Pt};
 use std::alloc::{AllocError, Global};
 
 /// The strands below a height and above it that lie from one x to another.
-pub(crate) fn run_between(height: &Height<'_>, above: &[Mark], left: i32, right: i32) -> Run {
+pub(crate) fn run_between(height: &Height<'_>, above: &[Mark], left: i32, right: i32) -> Run
+    requires left { unsigned_abs left ≤ coordinate_limit }
+    requires right { unsigned_abs right ≤ coordinate_limit }
+    requires below { AreInOrder height.now height.now.below.now }
+    requires above { AreInOrder height.now above.now }
+    ensures run { IsRunOf height.now.below.now above.now result }
+    ensures below { LieBetween height.now left right height.now.below.now result.below result.below_to }
+    ensures above { LieBetween height.now left right above.now result.above result.above_to }
+{
     let (left, right) = (whole_spot(left, height.at), whole_spot(right, height.at));
     Run {
         below: first_from(height, height.below, &left),
@@ -24,16 +42,30 @@ pub(crate) fn run_between(height: &Height<'_>, above: &[Mark], left: i32, right:
 }
 
 // How many strands lie to the left of a place.
-fn first_from(height: &Height<'_>, marks: &[Mark], s: &Stop) -> usize {
+fn first_from(height: &Height<'_>, marks: &[Mark], s: &Stop) -> usize
+    requires { AreInOrder height.now marks.now }
+    ensures { IsPartitionPoint (λ m. LiesLeftOf height.now s.now m) (λ m. LiesLeftOf height.now s.now m → ⊥)
+        marks.now result }
+{
     marks.partition_point(|m| compare(&stop_of(height.edges, m, height.at), s).is_lt())
 }
 
 // How many don't lie to the right of it.
-fn first_behind(height: &Height<'_>, marks: &[Mark], s: &Stop) -> usize {
+fn first_behind(height: &Height<'_>, marks: &[Mark], s: &Stop) -> usize
+    requires { AreInOrder height.now marks.now }
+    ensures { IsPartitionPoint (λ m. LiesRightOf height.now s.now m → ⊥) (λ m. LiesRightOf height.now s.now m)
+        marks.now result }
+{
     marks.partition_point(|m| compare(&stop_of(height.edges, m, height.at), s).is_le())
 }
 
-fn stop_of(edges: &[LeafEdge], mark: &Mark, at: &Level) -> Stop {
+fn stop_of(edges: &[LeafEdge], mark: &Mark, at: &Level) -> Stop
+    requires within { All (λ e. IsEdgeWithin coordinate_limit e.edge) edges.now }
+    requires at { IsLevelWithin coordinate_limit at.now }
+    requires rises { pos 0 <ℤ rise (edge_at edges.now mark.now.name) }
+    requires there { mark.now.name < length edges.now }
+    ensures { result.spot ≡ spot_at edges.now at.now mark.now }
+{
     spot_on(&edges[mark.name as usize].edge, at)
 }
 
@@ -44,7 +76,11 @@ pub(crate) fn pass_stretch(
     open: &mut Open,
     run: &Run,
     flats: &[Flat],
-) -> Result<(), AllocError> {
+) -> Result<(), AllocError>
+    requires flats { AreFlatsOf height.now run.now flats.now }
+    ensures passed { (on : Onwards) → IsOf height.now on → OnOk result (HasComeTo on run.now.below run.now.above open.old
+        → HasComeTo on run.now.below_to run.now.above_to open.new) }
+{
     find_values(height, open, run);
     let stops = stops(
         alloc,
@@ -86,7 +122,11 @@ fn pass_stop(
     flats: &[Flat],
     along: &mut Along,
     s: &Stop,
-) -> Result<(), AllocError> {
+) -> Result<(), AllocError>
+    requires next { IsNextStop height.now open.old.marks.items flats.now along.old s.now }
+    ensures passed { (on : Onwards) → IsOf height.now on → OnOk result (HasComeAlong on along.old open.old
+        → HasComeAlong on along.new open.new) }
+{
     let below_to = strands_to(height, height.below, along.below, along.run.below_to, s);
     let above_to = strands_to(height, &open.marks, along.above, along.run.above_to, s);
     along.begun = begin_flats(&mut along.live, flats, along.begun, s)?;
@@ -111,7 +151,14 @@ fn pass_stop(
 }
 
 // The place behind the strands of a stretch that don't lie to the right of a stop.
-fn strands_to(height: &Height<'_>, marks: &[Mark], from: usize, to: usize, s: &Stop) -> usize {
+fn strands_to(height: &Height<'_>, marks: &[Mark], from: usize, to: usize, s: &Stop) -> usize
+    requires from { from ≤ to }
+    requires to { to ≤ length marks.now }
+    ensures from { from ≤ result }
+    ensures to { result ≤ to }
+    ensures passed { All (λ m. LiesRightOf height.now s.now m → ⊥) (take (result - from) (drop from marks.now)) }
+    ensures next { result < to → LiesRightOf height.now s.now (mark_at marks.now result) }
+{
     let mut i = from;
     'strands: while i < to && compare(&stop_of(height.edges, &marks[i], height.at), s).is_le() {
         i += 1;
@@ -120,7 +167,11 @@ fn strands_to(height: &Height<'_>, marks: &[Mark], from: usize, to: usize, s: &S
 }
 
 // The value just above the height to the left of a strand, or to the right of the stretch, where it's that below.
-fn value_above(height: &Height<'_>, open: &Open, run: &Run, i: usize) -> bool {
+fn value_above(height: &Height<'_>, open: &Open, run: &Run, i: usize) -> bool
+    requires { run.now.above_to ≤ length open.now.marks.items }
+    ensures { result ≡ (if nat_lt i run.now.above_to then (mark_at open.now.marks.items i).left
+        else left_of_first (drop run.now.below_to height.now.below.now) false) }
+{
     if i < run.above_to {
         open.marks[i].left
     } else {
@@ -134,7 +185,13 @@ fn begin_flats(
     flats: &[Flat],
     from: usize,
     s: &Stop,
-) -> Result<usize, AllocError> {
+) -> Result<usize, AllocError>
+    requires { from ≤ length flats.now }
+    ensures live { IfOk result
+        (λ n. live.new.items ≡ live.old.items ++ take (n - from) (drop from flats.now)) }
+    ensures begun { IfOk result (λ n. All (BeginsBy s.now) (take (n - from) (drop from flats.now))) }
+    ensures later { IfOk result (λ n. StartsAfter s.now (drop n flats.now)) }
+{
     let mut i = from;
     'flats: while i < flats.len() && compare(&whole_spot(flats[i].left, &s.spot.at), s).is_le() {
         live.push(flats[i])?;
@@ -144,7 +201,9 @@ fn begin_flats(
 }
 
 // Drops those that end there.
-fn end_flats(live: &mut Vec<Flat>, s: &Stop) {
+fn end_flats(live: &mut Vec<Flat>, s: &Stop)
+    ensures { IsPermutation (filter (goes_on s.now) live.old.items) live.new.items }
+{
     let mut i = 0;
     'flats: while i < live.len() {
         if compare(&whole_spot(live[i].right, &s.spot.at), s).is_le() {
@@ -156,7 +215,9 @@ fn end_flats(live: &mut Vec<Flat>, s: &Stop) {
 }
 
 // The piece along the height to the right of a place.
-fn course_along(live: &[Flat], above: bool, below: bool, at: scad_geom::Pt) -> Option<Course> {
+fn course_along(live: &[Flat], above: bool, below: bool, at: Pt) -> Option<Course>
+    ensures { result ≡ course_along (least live.now) above below at }
+{
     if above == below {
         return None;
     }
@@ -171,7 +232,9 @@ fn course_along(live: &[Flat], above: bool, below: bool, at: scad_geom::Pt) -> O
 }
 
 // The least number of flat edges.
-fn least(live: &[Flat]) -> Option<u32> {
+fn least(live: &[Flat]) -> Option<u32>
+    ensures { result ≡ least live.now }
+{
     let mut least = None;
     'flats: for e in live {
         least = lesser(least, e.number);
@@ -179,14 +242,18 @@ fn least(live: &[Flat]) -> Option<u32> {
     least
 }
 
-fn lesser(least: Option<u32>, k: u32) -> Option<u32> {
+fn lesser(least: Option<u32>, k: u32) -> Option<u32>
+    ensures { result ≡ lesser least k }
+{
     match least {
         None => Some(k),
         Some(j) => Some(if k < j { k } else { j }),
     }
 }
 
-fn begun_at(flat: Option<Course>, from: scad_geom::Pt) -> Option<Course> {
+fn begun_at(flat: Option<Course>, from: Pt) -> Option<Course>
+    ensures { result ≡ begun_at from flat }
+{
     match flat {
         None => None,
         Some(course) => Some(Course { from, ..course }),

@@ -1,4 +1,16 @@
 //! A sweep over the levels of an edge list.
+ghost use Rattle.std.specs.Prelude.{◌≡◌, ◌<◌, ◌^◌, List, [], ◌∷◌, length, IfOk, OnOk, All};
+ghost use Rattle.scad_geom.specs.declared.level.Level.{Level};
+ghost use Rattle.scad_geom.specs.declared.shape.Shape.{Shape};
+ghost use Rattle.scad_geom.specs.Limits.{coordinate_limit};
+ghost use Rattle.scad_geom.specs.Within.{IsEdgeWithin};
+ghost use Rattle.scad_geom.specs.Level.{IsLevelWithin};
+ghost use Rattle.scad_geom.specs.Leaves.{AreLeavesBalanced};
+ghost use Rattle.scad_geom.specs.Heights.{AreNeighbours};
+ghost use Rattle.slice_events.specs.Levels.{AreLevels};
+ghost use Rattle.sweep_laws.specs.Sweeps.{AreMergedEdges};
+ghost use Rattle.slice_outlines.specs.Sweep.{HasSwept, IsClear};
+ghost use Rattle.slice_outlines.specs.Heights.{Onwards, IsOf, HasComeTo};
 
 use crate::above::marks_above;
 use crate::changing::{Height, Open};
@@ -25,11 +37,11 @@ pub(crate) struct Sweep {
 
 impl Sweep {
     /// Below all levels.
-    pub(crate) fn new(
-        alloc: Global,
-        edges: &[LeafEdge],
-        shape: &Shape,
-    ) -> Result<Sweep, AllocError> {
+    pub(crate) fn new(alloc: Global, edges: &[LeafEdge], shape: &Shape) -> Result<Sweep, AllocError>
+        requires within { All (λ e. IsEdgeWithin coordinate_limit e.edge) edges.now }
+        requires few { length edges.now < 2 ^ 32 }
+        ensures { IfOk result (λ s. (levels : List Level) → HasSwept edges.now shape.now levels levels s) }
+    {
         Ok(Sweep {
             alloc,
             front: Front::new(alloc, edges)?,
@@ -49,7 +61,17 @@ impl Sweep {
         edges: &[LeafEdge],
         at: &Level,
         upper: &Level,
-    ) -> Result<(), AllocError> {
+    ) -> Result<(), AllocError>
+        requires within { All (λ e. IsEdgeWithin coordinate_limit e.edge) edges.now }
+        requires few { length edges.now < 2 ^ 32 }
+        requires balanced { AreLeavesBalanced edges.now }
+        requires at { IsLevelWithin coordinate_limit at.now }
+        requires upper { IsLevelWithin coordinate_limit upper.now }
+        requires neighbours { AreNeighbours edges.now at.now upper.now }
+        ensures { (shape : Shape) (levels ls : List Level) → AreLevels edges.now levels
+            → HasSwept edges.now shape levels (at.now ∷ (upper.now ∷ ls)) self.old
+            → OnOk result (HasSwept edges.now shape levels (upper.now ∷ ls) self.new) }
+    {
         let flat_to = flats_to(&self.flats, self.passed, at);
         self.clear_cursor(edges, at, flat_to);
         let changes = self.front.advance(edges, at, upper)?;
@@ -69,7 +91,13 @@ impl Sweep {
     }
 
     // Moves the cursor to where the level leaves it.
-    fn clear_cursor(&mut self, edges: &[LeafEdge], at: &Level, flat_to: usize) {
+    fn clear_cursor(&mut self, edges: &[LeafEdge], at: &Level, flat_to: usize)
+        requires within { All (λ e. IsEdgeWithin coordinate_limit e.edge) edges.now }
+        requires at { IsLevelWithin coordinate_limit at.now }
+        ensures { (shape : Shape) (levels ls : List Level) → HasSwept edges.now shape levels (at.now ∷ ls) self.old
+            → HasSwept edges.now shape levels (at.now ∷ ls) self.new }
+        ensures clear { IsClear edges.now at.now self.new.open flat_to self.new.passed }
+    {
         if self.passed < flat_to {
             self.open.cursor.rest(edges, &self.front);
         } else {
@@ -80,7 +108,15 @@ impl Sweep {
     }
 
     /// Ends it with the last level, and gives the edges of all pieces.
-    pub(crate) fn end(self, edges: &[LeafEdge], top: &Level) -> Result<Vec<Edge>, AllocError> {
+    pub(crate) fn end(self, edges: &[LeafEdge], top: &Level) -> Result<Vec<Edge>, AllocError>
+        requires within { All (λ e. IsEdgeWithin coordinate_limit e.edge) edges.now }
+        requires few { length edges.now < 2 ^ 32 }
+        requires balanced { AreLeavesBalanced edges.now }
+        requires top { IsLevelWithin coordinate_limit top.now }
+        ensures { (shape : Shape) (levels : List Level) → AreLevels edges.now levels
+            → HasSwept edges.now shape levels (top.now ∷ []) self
+            → IfOk result (λ v. AreMergedEdges edges.now shape v.items) }
+    {
         let mut open = self.open;
         let below = mem::replace(&mut open.marks, Vec::new(self.alloc));
         let height = Height {
@@ -108,7 +144,10 @@ fn pass_level(
     open: &mut Open,
     changes: &[Change],
     flats: &[Flat],
-) -> Result<(), AllocError> {
+) -> Result<(), AllocError>
+    ensures { (on : Onwards) → IsOf height.now on → OnOk result (HasComeTo on 0 0 open.old
+        → HasComeTo on (length height.now.below.now) (length open.old.marks.items) open.new) }
+{
     let mut passed = Passed {
         count: 0,
         last: first(),
@@ -128,7 +167,12 @@ fn pass_level(
 }
 
 // The right end of a height.
-fn end_of(height: &Height<'_>, above: &[Mark]) -> Run {
+fn end_of(height: &Height<'_>, above: &[Mark]) -> Run
+    ensures below { result.below ≡ length height.now.below.now }
+    ensures below_to { result.below_to ≡ length height.now.below.now }
+    ensures above { result.above ≡ length above.now }
+    ensures above_to { result.above_to ≡ length above.now }
+{
     Run {
         below: height.below.len(),
         below_to: height.below.len(),
