@@ -87,7 +87,7 @@ IsFlatCourse (w ∷ (v ∷ ws)) c = ⊥
 
 -- ---- how far it has come
 -- the places that are passed, and the way along the height that leads on from the last
-pub record HasComeAlong (on : Onwards) (a : Along) (open : Open) : Type 0 where
+pub record HasComeAlong (on : Onwards) (a : Along) (o : Open) : Type 0 where
   pub places : List Place
   pub flat : List Way
   pub course : IsFlatCourse flat a.flat
@@ -96,8 +96,8 @@ pub record HasComeAlong (on : Onwards) (a : Along) (open : Open) : Type 0 where
   pub passed : (later : List Place) → all_below later ≡ drop a.below on.below
       → ArePassed on.height.edges.now on.height.at.now on.upper flat later
       → ArePassed on.height.edges.now on.height.at.now on.upper [] (places ++ later)
-  pub given : IsPermutation (on.given ++ rounded_edges (pieces_of (all_closed places))) open.given.items
-  pub cursor : StandsOn on.height.edges.now on.shape (bundles_in on.height.front.now) open.cursor
+  pub given : IsPermutation (on.given ++ rounded_edges (pieces_of (all_closed places))) o.given.items
+  pub cursor : StandsOn on.height.edges.now on.shape (bundles_in on.height.front.now) o.cursor
 
 -- a stop to the right of all that is passed, and to the left of all that isn't, or there
 pub record IsNextStop (h : Height) (above : List Mark) (fs : List Flat) (a : Along) (s : Stop) : Type 0 where

@@ -63,7 +63,7 @@ IsOf h on = (on.height ≡ h) × AreKept false h.below.now on.below
 
 -- the places that are passed have so many strands below the height and above it; however it goes on from there, with
 -- one value on both sides to the right of them, all places are passed
-pub record HasComeTo (on : Onwards) (n m : ℕ) (open : Open) : Type 0 where
+pub record HasComeTo (on : Onwards) (n m : ℕ) (o : Open) : Type 0 where
   pub places : List Place
   pub lower : all_below places ≡ take n on.below
   pub upper : bundles_of (all_above places) ≡ take m (bundles_in on.height.front.now)
@@ -72,9 +72,9 @@ pub record HasComeTo (on : Onwards) (n m : ℕ) (open : Open) : Type 0 where
       → value_before (all_below later) false ≡ value_before (all_above later) false
       → all_below later ≡ drop n on.below → ArePassed on.height.edges.now on.height.at.now on.upper [] later
       → ArePassed on.height.edges.now on.height.at.now on.upper [] (places ++ later)
-  pub kept : AreKept (value_before (drop n on.below) false) (take m open.marks.items) (all_above places)
-  pub given : IsPermutation (on.given ++ rounded_edges (pieces_of (all_closed places))) open.given.items
-  pub cursor : StandsOn on.height.edges.now on.shape (bundles_in on.height.front.now) open.cursor
+  pub kept : AreKept (value_before (drop n on.below) false) (take m o.marks.items) (all_above places)
+  pub given : IsPermutation (on.given ++ rounded_edges (pieces_of (all_closed places))) o.given.items
+  pub cursor : StandsOn on.height.edges.now on.shape (bundles_in on.height.front.now) o.cursor
 
 -- so it is with the first so many changes
 pub record IsCountOf (cs : List Change) (p : Passed) : Type 0 where
@@ -82,7 +82,7 @@ pub record IsCountOf (cs : List Change) (p : Passed) : Type 0 where
   pub last : p.last ≡ run_of first p.count cs
 
 abbrev pub HasCome : Onwards → List Change → Passed → Open → Type 0
-HasCome on cs p open = IsCountOf cs p × HasComeTo on p.last.below_to p.last.above_to open
+HasCome on cs p o = IsCountOf cs p × HasComeTo on p.last.below_to p.last.above_to o
 
 -- the next change doesn't lie to the left of a part; it lies to its right
 abbrev pub IsNotLeft : List Change → Passed → Run → Type 0

@@ -25,10 +25,10 @@ pub record HasSwept (es : List LeafEdge) (shape : Shape) (levels left : List Lev
   pub front : List Strand
   pub closed : List Way
   pub swept : HasSweptTo es shape levels left front closed
-  pub given : IsPermutation (rounded_edges (pieces_of closed)) s.open.given.items
+  pub given : IsPermutation (rounded_edges (pieces_of closed)) s.kept.given.items
   pub bundles : bundles_of front ≡ bundles_in s.front
-  pub kept : AreKept false s.open.marks.items front
-  pub cursor : StandsOn es shape (bundles_in s.front) s.open.cursor
+  pub kept : AreKept false s.kept.marks.items front
+  pub cursor : StandsOn es shape (bundles_in s.front) s.kept.cursor
   pub flats : AreFlats es s.flats.items
   pub passed : s.passed ≤ length s.flats.items
   pub ready : IsReadyForFirst es left s

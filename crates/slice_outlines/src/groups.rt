@@ -25,14 +25,14 @@ pub(crate) struct Passed {
 /// Passes the groups that lie to the left of a part of the height.
 pub(crate) fn pass_groups(
     height: &Height<'_>,
-    open: &mut Open,
+    kept: &mut Open,
     changes: &[Change],
     passed: &Passed,
     limit: &Run,
 ) -> Result<Passed, AllocError>
     requires behind { IsCountOf changes.now passed.now }
-    ensures passed { (on : Onwards) → IsOf height.now on → IfOk result (λ p. HasCome on changes.now passed.now open.old
-        → HasCome on changes.now p open.new) }
+    ensures passed { (on : Onwards) → IsOf height.now on → IfOk result (λ p. HasCome on changes.now passed.now kept.old
+        → HasCome on changes.now p kept.new) }
     ensures next { IfOk result (λ p. IsNotLeft changes.now p limit.now) }
 {
     let mut passed = *passed;
@@ -41,7 +41,7 @@ pub(crate) fn pass_groups(
         if !is_left(&run, limit) {
             break;
         }
-        pass_group(height, open, &run)?;
+        pass_group(height, kept, &run)?;
         passed = Passed {
             count: passed.count + 1,
             last: run,
@@ -70,13 +70,13 @@ pub(crate) fn skip_groups(changes: &[Change], passed: &Passed, limit: &Run) -> P
     passed
 }
 
-fn pass_group(height: &Height<'_>, open: &mut Open, run: &Run) -> Result<(), AllocError>
-    requires group { IsGroupAt height.now open.old.marks.items run.now }
+fn pass_group(height: &Height<'_>, kept: &mut Open, run: &Run) -> Result<(), AllocError>
+    requires group { IsGroupAt height.now kept.old.marks.items run.now }
     ensures passed { (on : Onwards) → IsOf height.now on
-        → OnOk result (HasComeTo on run.now.below run.now.above open.old
-        → HasComeTo on run.now.below_to run.now.above_to open.new) }
+        → OnOk result (HasComeTo on run.now.below run.now.above kept.old
+        → HasComeTo on run.now.below_to run.now.above_to kept.new) }
 {
-    find_values(height, open, run);
+    find_values(height, kept, run);
     let right = value_at(height.below, run.below_to);
     let place = Place {
         below: Side {
@@ -84,25 +84,25 @@ fn pass_group(height: &Height<'_>, open: &mut Open, run: &Run) -> Result<(), All
             right,
         },
         above: Side {
-            marks: &open.marks[run.above..run.above_to],
+            marks: &kept.marks[run.above..run.above_to],
             right,
         },
-        at: point_of(height, open, run),
+        at: point_of(height, kept, run),
     };
-    let from = pass(&mut open.given, &place, None, None)?;
-    begin(&mut open.marks, run.above, run.above_to, from);
+    let from = pass(&mut kept.given, &place, None, None)?;
+    begin(&mut kept.marks, run.above, run.above_to, from);
     Ok(())
 }
 
 // Where the strands of a group meet the height, rounded.
-fn point_of(height: &Height<'_>, open: &Open, run: &Run) -> Pt
-    requires group { IsGroupAt height.now open.now.marks.items run.now }
-    ensures { (s : Spot) → MeetAt height.now open.now.marks.items run.now s → result ≡ rounded (point_of s) }
+fn point_of(height: &Height<'_>, kept: &Open, run: &Run) -> Pt
+    requires group { IsGroupAt height.now kept.now.marks.items run.now }
+    ensures { (s : Spot) → MeetAt height.now kept.now.marks.items run.now s → result ≡ rounded (point_of s) }
 {
     let name = if run.below < run.below_to {
         height.below[run.below].name
     } else {
-        open.marks[run.above].name
+        kept.marks[run.above].name
     };
     rounded_on(&height.edges[name as usize].edge, height.at)
 }

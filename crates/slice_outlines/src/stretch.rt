@@ -73,21 +73,21 @@ fn stop_of(edges: &[LeafEdge], mark: &Mark, at: &Level) -> Stop
 pub(crate) fn pass_stretch(
     alloc: Global,
     height: &Height<'_>,
-    open: &mut Open,
+    kept: &mut Open,
     run: &Run,
     flats: &[Flat],
 ) -> Result<(), AllocError>
     requires flats { AreFlatsOf height.now run.now flats.now }
-    ensures passed { (on : Onwards) → IsOf height.now on → OnOk result (HasComeTo on run.now.below run.now.above open.old
-        → HasComeTo on run.now.below_to run.now.above_to open.new) }
+    ensures passed { (on : Onwards) → IsOf height.now on → OnOk result (HasComeTo on run.now.below run.now.above kept.old
+        → HasComeTo on run.now.below_to run.now.above_to kept.new) }
 {
-    find_values(height, open, run);
+    find_values(height, kept, run);
     let stops = stops(
         alloc,
         height.edges,
         height.at,
         &height.below[run.below..run.below_to],
-        &open.marks[run.above..run.above_to],
+        &kept.marks[run.above..run.above_to],
         flats,
     )?;
     let mut along = Along {
@@ -99,7 +99,7 @@ pub(crate) fn pass_stretch(
         flat: None,
     };
     'stops: for s in &stops {
-        pass_stop(height, open, flats, &mut along, s)?;
+        pass_stop(height, kept, flats, &mut along, s)?;
     }
     Ok(())
 }
@@ -118,17 +118,17 @@ struct Along {
 
 fn pass_stop(
     height: &Height<'_>,
-    open: &mut Open,
+    kept: &mut Open,
     flats: &[Flat],
     along: &mut Along,
     s: &Stop,
 ) -> Result<(), AllocError>
-    requires next { IsNextStop height.now open.old.marks.items flats.now along.old s.now }
-    ensures passed { (on : Onwards) → IsOf height.now on → OnOk result (HasComeAlong on along.old open.old
-        → HasComeAlong on along.new open.new) }
+    requires next { IsNextStop height.now kept.old.marks.items flats.now along.old s.now }
+    ensures passed { (on : Onwards) → IsOf height.now on → OnOk result (HasComeAlong on along.old kept.old
+        → HasComeAlong on along.new kept.new) }
 {
     let below_to = strands_to(height, height.below, along.below, along.run.below_to, s);
-    let above_to = strands_to(height, &open.marks, along.above, along.run.above_to, s);
+    let above_to = strands_to(height, &kept.marks, along.above, along.run.above_to, s);
     along.begun = begin_flats(&mut along.live, flats, along.begun, s)?;
     end_flats(&mut along.live, s);
     let below = Side {
@@ -136,14 +136,14 @@ fn pass_stop(
         right: value_at(height.below, below_to),
     };
     let above = Side {
-        marks: &open.marks[along.above..above_to],
-        right: value_above(height, open, &along.run, above_to),
+        marks: &kept.marks[along.above..above_to],
+        right: value_above(height, kept, &along.run, above_to),
     };
     let at = rounded(s);
     let flat = course_along(&along.live, above.right, below.right, at);
     let place = Place { below, above, at };
-    let from = pass(&mut open.given, &place, along.flat, flat)?;
-    begin(&mut open.marks, along.above, above_to, from);
+    let from = pass(&mut kept.given, &place, along.flat, flat)?;
+    begin(&mut kept.marks, along.above, above_to, from);
     along.flat = begun_at(flat, from);
     along.below = below_to;
     along.above = above_to;
@@ -167,13 +167,13 @@ fn strands_to(height: &Height<'_>, marks: &[Mark], from: usize, to: usize, s: &S
 }
 
 // The value just above the height to the left of a strand, or to the right of the stretch, where it's that below.
-fn value_above(height: &Height<'_>, open: &Open, run: &Run, i: usize) -> bool
-    requires { run.now.above_to ≤ length open.now.marks.items }
-    ensures { result ≡ (if nat_lt i run.now.above_to then (mark_at open.now.marks.items i).left
+fn value_above(height: &Height<'_>, kept: &Open, run: &Run, i: usize) -> bool
+    requires { run.now.above_to ≤ length kept.now.marks.items }
+    ensures { result ≡ (if nat_lt i run.now.above_to then (mark_at kept.now.marks.items i).left
         else left_of_first (drop run.now.below_to height.now.below.now) false) }
 {
     if i < run.above_to {
-        open.marks[i].left
+        kept.marks[i].left
     } else {
         value_at(height.below, run.below_to)
     }

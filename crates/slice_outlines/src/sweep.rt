@@ -30,7 +30,7 @@ use std::mem;
 pub(crate) struct Sweep {
     alloc: Global,
     front: Front,
-    open: Open,
+    kept: Open,
     flats: Vec<Flat>,
     passed: usize,
 }
@@ -45,7 +45,7 @@ impl Sweep {
         Ok(Sweep {
             alloc,
             front: Front::new(alloc, edges)?,
-            open: Open {
+            kept: Open {
                 marks: Vec::new(alloc),
                 cursor: Cursor::new(alloc, edges, shape)?,
                 given: Vec::new(alloc),
@@ -75,9 +75,9 @@ impl Sweep {
         let flat_to = flats_to(&self.flats, self.passed, at);
         self.clear_cursor(edges, at, flat_to);
         let changes = self.front.advance(edges, at, upper)?;
-        self.open.cursor.shift(&changes);
-        let above = marks_above(self.alloc, &self.open.marks, &self.front, &changes)?;
-        let below = mem::replace(&mut self.open.marks, above);
+        self.kept.cursor.shift(&changes);
+        let above = marks_above(self.alloc, &self.kept.marks, &self.front, &changes)?;
+        let below = mem::replace(&mut self.kept.marks, above);
         let height = Height {
             edges,
             at,
@@ -85,7 +85,7 @@ impl Sweep {
             below: &below,
         };
         let flats = &self.flats[self.passed..flat_to];
-        pass_level(self.alloc, &height, &mut self.open, &changes, flats)?;
+        pass_level(self.alloc, &height, &mut self.kept, &changes, flats)?;
         self.passed = flat_to;
         Ok(())
     }
@@ -96,14 +96,14 @@ impl Sweep {
         requires at { IsLevelWithin coordinate_limit at.now }
         ensures { (shape : Shape) (levels ls : List Level) → HasSwept edges.now shape levels (at.now ∷ ls) self.old
             → HasSwept edges.now shape levels (at.now ∷ ls) self.new }
-        ensures clear { IsClear edges.now at.now self.new.open flat_to self.new.passed }
+        ensures clear { IsClear edges.now at.now self.new.kept flat_to self.new.passed }
     {
         if self.passed < flat_to {
-            self.open.cursor.rest(edges, &self.front);
+            self.kept.cursor.rest(edges, &self.front);
         } else {
-            self.open
+            self.kept
                 .cursor
-                .leave(edges, &self.front, &self.open.marks, at);
+                .leave(edges, &self.front, &self.kept.marks, at);
         }
     }
 
@@ -117,8 +117,8 @@ impl Sweep {
             → HasSwept edges.now shape levels (top.now ∷ []) self
             → IfOk result (λ v. AreMergedEdges edges.now shape v.items) }
     {
-        let mut open = self.open;
-        let below = mem::replace(&mut open.marks, Vec::new(self.alloc));
+        let mut kept = self.kept;
+        let below = mem::replace(&mut kept.marks, Vec::new(self.alloc));
         let height = Height {
             edges,
             at: top,
@@ -132,8 +132,8 @@ impl Sweep {
             above_to: 0,
         };
         let flats = &self.flats[self.passed..];
-        pass_stretch(self.alloc, &height, &mut open, &run, flats)?;
-        Ok(open.given)
+        pass_stretch(self.alloc, &height, &mut kept, &run, flats)?;
+        Ok(kept.given)
     }
 }
 
@@ -141,12 +141,12 @@ impl Sweep {
 fn pass_level(
     alloc: Global,
     height: &Height<'_>,
-    open: &mut Open,
+    kept: &mut Open,
     changes: &[Change],
     flats: &[Flat],
 ) -> Result<(), AllocError>
-    ensures { (on : Onwards) → IsOf height.now on → OnOk result (HasComeTo on 0 0 open.old
-        → HasComeTo on (length height.now.below.now) (length open.old.marks.items) open.new) }
+    ensures { (on : Onwards) → IsOf height.now on → OnOk result (HasComeTo on 0 0 kept.old
+        → HasComeTo on (length height.now.below.now) (length kept.old.marks.items) kept.new) }
 {
     let mut passed = Passed {
         count: 0,
@@ -155,14 +155,14 @@ fn pass_level(
     let mut from = 0;
     'stretches: while from < flats.len() {
         let joined = joined_from(flats, from);
-        let run = run_between(height, &open.marks, flats[from].left, joined.right);
-        passed = pass_groups(height, open, changes, &passed, &run)?;
-        pass_stretch(alloc, height, open, &run, &flats[from..joined.to])?;
+        let run = run_between(height, &kept.marks, flats[from].left, joined.right);
+        passed = pass_groups(height, kept, changes, &passed, &run)?;
+        pass_stretch(alloc, height, kept, &run, &flats[from..joined.to])?;
         passed = skip_groups(changes, &passed, &run);
         from = joined.to;
     }
-    let end = end_of(height, &open.marks);
-    pass_groups(height, open, changes, &passed, &end)?;
+    let end = end_of(height, &kept.marks);
+    pass_groups(height, kept, changes, &passed, &end)?;
     Ok(())
 }
 
