@@ -13,8 +13,7 @@ ghost use Rattle.slice_layer.specs.Refusal.{IsRefusal};
 
 use scad_geom::Loop;
 use scad_tree::Tree;
-use slice_bool::BoolFault;
-use slice_outlines::outlines;
+use slice_bool::{BoolFault, outlines};
 use std::alloc::Global;
 
 /// The closed outlines of a tree at a layer of height `h` micrometres, with the inside on their left.
