@@ -7,9 +7,8 @@ ghost use Rattle.slice_outlines.specs.Heights.{Onwards, IsOf, HasCome, HasComeTo
 
 use crate::changing::{Height, Open, find_values};
 use crate::mark::{begin, value_at};
-use crate::passing::{Place, pass};
+use crate::passing::{Beside, pass_strands};
 use crate::run::{Run, after, is_left};
-use crate::side::Side;
 use crate::spot::rounded_on;
 use scad_geom::Pt;
 use slice_sweep::Change;
@@ -78,18 +77,14 @@ fn pass_group(height: &Height<'_>, kept: &mut Open, run: &Run) -> Result<(), All
 {
     find_values(height, kept, run);
     let right = value_at(height.below, run.below_to);
-    let place = Place {
-        below: Side {
-            marks: &height.below[run.below..run.below_to],
-            right,
-        },
-        above: Side {
-            marks: &kept.marks[run.above..run.above_to],
-            right,
-        },
+    let beside = Beside {
+        below: right,
+        above: right,
+        flat_in: None,
+        flat_out: None,
         at: point_of(height, kept, run),
     };
-    let from = pass(&mut kept.given, &place, None, None)?;
+    let from = pass_strands(&mut kept.given, height.below, &kept.marks, run, &beside)?;
     begin(&mut kept.marks, run.above, run.above_to, from);
     Ok(())
 }

@@ -2,8 +2,11 @@
 ghost use Rattle.std.specs.Prelude.{◌≡◌, ◌++◌, IfOk, OnOk};
 ghost use Rattle.slice_outlines.specs.Passing.{courses, edges_to, start_of, ended_at};
 ghost use Rattle.slice_outlines.specs.Places.{ins_at, outs_at};
+ghost use Rattle.slice_outlines.specs.Heights.{IsRunOf};
 
 use crate::course::{Course, close, going_on, with};
+use crate::mark::Mark;
+use crate::run::Run;
 use crate::side::{Side, course_of, courses};
 use scad_geom::{Edge, Pt};
 use std::alloc::AllocError;
@@ -58,4 +61,38 @@ fn end_strands(given: &mut Vec<Edge>, side: &Side<'_>, at: Pt) -> Result<(), All
         close(given, course_of(side, i), at)?;
     }
     Ok(())
+}
+
+/// What lies to the right of a place, below the height and above it, the pieces along the height, and the place, rounded.
+#[derive(Clone, Copy, Debug)]
+pub(crate) struct Beside {
+    pub(crate) below: bool,
+    pub(crate) above: bool,
+    pub(crate) flat_in: Option<Course>,
+    pub(crate) flat_out: Option<Course>,
+    pub(crate) at: Pt,
+}
+
+/// `pass`, of the strands of a part of a height.
+pub(crate) fn pass_strands(
+    given: &mut Vec<Edge>,
+    below: &[Mark],
+    above: &[Mark],
+    run: &Run,
+    beside: &Beside,
+) -> Result<Pt, AllocError>
+    requires { IsRunOf below.now above.now run.now }
+{
+    let place = Place {
+        below: Side {
+            marks: &below[run.below..run.below_to],
+            right: beside.below,
+        },
+        above: Side {
+            marks: &above[run.above..run.above_to],
+            right: beside.above,
+        },
+        at: beside.at,
+    };
+    pass(given, &place, beside.flat_in, beside.flat_out)
 }

@@ -14,9 +14,8 @@ use crate::changing::{Height, Open, find_values};
 use crate::course::Course;
 use crate::flats::Flat;
 use crate::mark::{Mark, begin, value_at};
-use crate::passing::{Place, pass};
+use crate::passing::{Beside, pass_strands};
 use crate::run::Run;
-use crate::side::Side;
 use crate::spot::{Stop, compare, rounded, spot_on, whole_spot};
 use crate::stops::stops;
 use scad_geom::{LeafEdge, Level, Pt};
@@ -131,18 +130,26 @@ fn pass_stop(
     let above_to = strands_to(height, &kept.marks, along.above, along.run.above_to, s);
     along.begun = begin_flats(&mut along.live, flats, along.begun, s)?;
     end_flats(&mut along.live, s);
-    let below = Side {
-        marks: &height.below[along.below..below_to],
-        right: value_at(height.below, below_to),
+    let run = Run {
+        below: along.below,
+        below_to,
+        above: along.above,
+        above_to,
     };
-    let above = Side {
-        marks: &kept.marks[along.above..above_to],
-        right: value_above(height, kept, &along.run, above_to),
-    };
+    let (below, above) = (
+        value_at(height.below, below_to),
+        value_above(height, kept, &along.run, above_to),
+    );
     let at = rounded(s);
-    let flat = course_along(&along.live, above.right, below.right, at);
-    let place = Place { below, above, at };
-    let from = pass(&mut kept.given, &place, along.flat, flat)?;
+    let flat = course_along(&along.live, above, below, at);
+    let beside = Beside {
+        below,
+        above,
+        flat_in: along.flat,
+        flat_out: flat,
+        at,
+    };
+    let from = pass_strands(&mut kept.given, height.below, &kept.marks, &run, &beside)?;
     begin(&mut kept.marks, along.above, above_to, from);
     along.flat = begun_at(flat, from);
     along.below = below_to;

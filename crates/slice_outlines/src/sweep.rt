@@ -94,7 +94,7 @@ impl Sweep {
     fn clear_cursor(&mut self, edges: &[LeafEdge], at: &Level, flat_to: usize)
         requires within { All (λ e. IsEdgeWithin coordinate_limit e.edge) edges.now }
         requires at { IsLevelWithin coordinate_limit at.now }
-        ensures { (shape : Shape) (levels ls : List Level) → HasSwept edges.now shape levels (at.now ∷ ls) self.old
+        ensures swept { (shape : Shape) (levels ls : List Level) → HasSwept edges.now shape levels (at.now ∷ ls) self.old
             → HasSwept edges.now shape levels (at.now ∷ ls) self.new }
         ensures clear { IsClear edges.now at.now self.new.kept flat_to self.new.passed }
     {
