@@ -1,5 +1,5 @@
 -- What the code finds of the strands at a place.
-use Rattle.std.proofs.Common.{◌≡◌, ℕ, zero, suc, ◌+◌, ◌-◌, ◌<◌, ◌≤◌, ◌⊎◌, inl, inr, Bool, true, false, cond, List, [], ◌∷◌, ◌++◌, length, get_or, take, drop, filter, refl, sym, ap, ap₂, ◌∙◌, arith, subst, append_assoc, IsPermutation, All}
+use Rattle.std.proofs.Common.{◌≡◌, ℕ, zero, suc, ◌+◌, ◌-◌, ◌<◌, ◌≤◌, ◌⊎◌, inl, inr, Bool, true, false, cond, List, [], ◌∷◌, ◌++◌, map, length, get_or, take, drop, filter, refl, sym, ap, ap₂, ◌∙◌, arith, subst, append_assoc, IsPermutation, All}
 use lib.IntN.{pos, ◌*ℤ◌}
 use Rattle.std.specs.Prelude.{int_lt, int_le, nat_lt, ◌&&◌}
 use Rattle.std.specs.Ordering.{int_eq}
@@ -22,12 +22,14 @@ use Rattle.slice_slab.specs.KeptOrder.{IsSamePlaceAt, AllStand}
 use Rattle.slice_sweep.specs.declared.strand.Strand.{Strand}
 use Rattle.slice_sweep.specs.Keys.{IsBelowKey}
 use Rattle.slice_sweep.specs.Chains.{Chain, Joins}
-use Rattle.slice_sweep.specs.Strands.{head, numbers_in, LiesLeft, IsTogether, IsReaching, IsHeld, AreHeld, AreApart, AreWaiting, EndAbove, AreThere, weakened, fresh, no_strand, strand_at}
+use Rattle.slice_sweep.specs.Strands.{bundles_of, head, numbers_in, LiesLeft, IsTogether, IsReaching, IsHeld, AreHeld, AreApart, AreWaiting, EndAbove, AreThere, weakened, fresh, no_strand, strand_at}
+use Rattle.slice_sweep.specs.Places.{LiesBefore, place_of, ArePlacedTo}
 use Rattle.slice_sweep.specs.Mending.{AreMended, AreOrdered, AreMendedTo, KeepTimes, IsGroup}
 use Rattle.slice_sweep.proofs.Lists.{chain_from, joins_from, chain_at, weaker}
 use Rattle.slice_sweep.proofs.Starting.{put_between}
-use Rattle.slice_sweep.proofs.Weakening.{length_weakened, length_fresh}
-use Rattle.slice_sweep.proofs.Mending.{as_it_is, strict_heads, members_there, stand_together, regrouped, regrouped_times}
+use Rattle.slice_sweep.proofs.Placing.{bundles_append, placed_more}
+use Rattle.slice_sweep.proofs.Weakening.{bundles_weakened, bundles_fresh, length_weakened, length_fresh}
+use Rattle.slice_sweep.proofs.Mending.{as_it_is, strict_heads, members_there, stand_together, group_is_place, group_before, regrouped, regrouped_times}
 
 -- ---- edges that go on
 reaches_up : (e : Edge) (l u : Level) → reaches e l l ≡ true → int_le u.n ((high e).y *ℤ u.d) ≡ true
@@ -275,7 +277,66 @@ module _ (es : List LeafEdge) (l u : Level) (w : IsLevelWithin coordinate_limit 
     pub put_group : AreMendedTo es l u (from + length bs) put × KeepTimes es l u L put
     put_group = by_group (take count R) refl
 
+    placed_group : (old : List Strand) (X : List Strand) → take count R ≡ X → ArePlacedTo es l from old L
+        → ArePlacedTo es l (from + length bs) old put
+    placed_group old [] e a = absurd (omega (arith, ap length e, size, some))
+    placed_group old (g ∷ G) e a =
+        let L_as : L ≡ m.done ++ ((g ∷ G) ++ O) = L_is ∙ ap (λ (xs : List Strand). m.done ++ (xs ++ O)) e in
+        let rest : m.rest ≡ (g ∷ G) ++ O = rest_as ∙ ap (λ (xs : List Strand). xs ++ O) e in
+        let R_as : R ≡ g ∷ (G ++ O) = sym R_is ∙ ap (λ (xs : List Strand). xs ++ O) e in
+        let held = subst (AllByRecursion (IsHeld es l)) L_as m.held in
+        let ordered = subst (Chain (AreHeld es l)) L_as m.ordered in
+        let beside = subst (Joins (LiesLeft es l) m.done) rest m.beside in
+        let apart = subst (Chain (AreApart es l)) rest m.apart in
+        let tied = subst (Chain (IsTogether es l)) e together in
+        let cut = subst (λ (xs : List Strand). Joins (λ s t. IsTogether es l s t → ⊥) xs O) e parted in
+        let perm = subst (λ (ks : List ℕ). IsPermutation (filter (λ k. reaches (edge_at es k) l u) ks) (concat bs))
+        (numbers_are ∙ ap numbers_in e) same in
+        let front_is : take (from + length bs) put ≡ weakened (take from L) ++ fresh bs = front_put in
+        let back_is : drop (from + length bs) put ≡ O = back_put in
+        placed_more es l from (from + length bs) old L put (record { waiting = bundles_of (g ∷ G); leaving = bs }) g (G ++ O)
+        a (group_is_place es l u w n.lower_divisor n.upper_divisor n.in_order m.done O g G held ordered m.mended beside
+        apart tied cut bs ranks perm) R_as refl
+        (ap bundles_of R_as ∙ bundles_append (g ∷ G) O
+        ∙ ap (λ (xs : List Strand). bundles_of (g ∷ G) ++ bundles_of xs) (sym back_is))
+        (ap bundles_of front_is ∙ bundles_append (weakened (take from L)) (fresh bs)
+        ∙ ap₂ (λ (xs ys : List (List ℕ)). xs ++ ys) (bundles_weakened (take from L)) (bundles_fresh bs))
+        (subst (λ (xs : List Strand). Joins (LiesBefore es l) (record { waiting = bundles_of (g ∷ G); leaving = bs } ∷ [])
+        (map place_of xs)) (sym back_is)
+        (group_before es l u w n.lower_divisor n.upper_divisor n.in_order m.done O g G held ordered m.mended beside apart
+        tied cut bs ranks perm))
+      where
+        here : from ≤ length L
+        here = omega (arith, some, within)
+
+        size_put : length (weakened (take from L) ++ fresh bs) ≡ from + length bs
+        size_put = length-append (weakened (take from L)) (fresh bs)
+            ∙ ap₂ (λ (a b : ℕ). a + b) (length_weakened (take from L) ∙ length-take-le from L here) (length_fresh bs)
+
+        put_is : put ≡ (weakened (take from L) ++ fresh bs) ++ O
+        put_is = sym (append_assoc (weakened (take from L)) (fresh bs) O)
+
+        front_put : take (from + length bs) put ≡ weakened (take from L) ++ fresh bs
+        front_put = ap (take (from + length bs)) put_is
+            ∙ take_at (weakened (take from L) ++ fresh bs) O (from + length bs) size_put
+
+        back_put : drop (from + length bs) put ≡ O
+        back_put = ap (drop (from + length bs)) put_is
+            ∙ drop_at (weakened (take from L) ++ fresh bs) O (from + length bs) size_put
+
     -- as the code puts it
+    pub placed_by : (W N new : List Strand) (end : ℕ) → W ≡ weakened (take from L) ++ drop from L → N ≡ fresh bs
+        → new ≡ take from W ++ (N ++ drop to W) → end ≡ from + length N → (old : List Strand)
+        → ArePlacedTo es l from old L → ArePlacedTo es l end old new
+    placed_by W N new end we ne e m old a =
+        let here : from ≤ length L = omega (arith, some, within) in
+        let new-is : put ≡ new = sym (e ∙ put_between L from to W N (omega (arith, some)) here we
+        ∙ ap (λ (xs : List Strand). weakened (take from L) ++ (xs ++ O)) ne) in
+        let size : length N ≡ length bs = ap length ne ∙ length_fresh bs in
+        let end-is : from + length bs ≡ end = omega (arith, m, size) in
+        subst (λ (i : ℕ). ArePlacedTo es l i old new) end-is
+        (subst (ArePlacedTo es l (from + length bs) old) new-is (placed_group old (take count R) refl a))
+
     pub regrouped_by : (W N new : List Strand) (end : ℕ) → W ≡ weakened (take from L) ++ drop from L → N ≡ fresh bs
         → new ≡ take from W ++ (N ++ drop to W) → end ≡ from + length N
         → AreMendedTo es l u end new × KeepTimes es l u L new × (length new - end < length L - from)

@@ -3,6 +3,7 @@ mod Keys
 mod Weakening
 mod Starting
 mod Mending
+mod Placing
 mod Groups
 mod Waking
 mod Lifted

@@ -1,5 +1,5 @@
 -- One place after another is mended.
-use Rattle.std.proofs.Common.{◌≡◌, ℕ, ◌+◌, ◌<◌, inl, inr, Bool, true, List, [], ◌∷◌, ◌++◌, length, filter, refl, sym, ap, ap₂, ◌∙◌, arith, subst, append_assoc, IsPermutation}
+use Rattle.std.proofs.Common.{◌≡◌, ℕ, ◌+◌, ◌<◌, inl, inr, Bool, true, List, [], ◌∷◌, ◌++◌, map, length, filter, refl, sym, ap, ap₂, ◌∙◌, arith, subst, append_assoc, IsPermutation}
 use lib.IntN.{pos, ◌*ℤ◌}
 use lib.Signed.{◌<ℤ◌}
 use Rattle.std.specs.Prelude.{int_lt, int_le, ◌&&◌}
@@ -29,11 +29,12 @@ use Rattle.slice_slab.proofs.Times.{times_permuted, times_kept}
 use Rattle.slice_sweep.specs.declared.strand.Strand.{Strand}
 use Rattle.slice_sweep.specs.Keys.{stale}
 use Rattle.slice_sweep.specs.Chains.{Chain, Joins}
-use Rattle.slice_sweep.specs.Strands.{numbers_in, head, LiesLeft, LiesNotRight, IsTogether, IsReaching, IsHeld, AreHeld, AreApart, weakened, fresh, no_strand, strand_at}
+use Rattle.slice_sweep.specs.Strands.{bundles_of, numbers_in, head, LiesLeft, LiesNotRight, IsTogether, IsReaching, IsHeld, AreHeld, AreApart, weakened, fresh, no_strand, strand_at}
 use Rattle.slice_sweep.specs.Mending.{ComesBefore, AreMended, AreMendedTo, KeepTimes}
+use Rattle.slice_sweep.specs.Places.{Place, MeetsWith, IsPlace, LiesBefore, place_of}
 use Rattle.slice_sweep.proofs.Keys.{never_below}
 use Rattle.slice_sweep.proofs.Lists.{chain_append, chain_front, chain_back, chain_joins, chain_tail, joins_nil, joins_more, joins_first, joins_swap, joins_all, joins_map, chain_map, weaker}
-use Rattle.slice_sweep.proofs.Weakening.{length_weakened, length_fresh, chain_weakened, all_weakened, joins_weakened, held_put, ordered_put, times_strands, times_put}
+use Rattle.slice_sweep.proofs.Weakening.{bundles_fresh, length_weakened, length_fresh, chain_weakened, all_weakened, joins_weakened, held_put, ordered_put, times_strands, times_put}
 
 -- where an edge passes a height, as a number over its rise
 place : Level → Edge → Level
@@ -77,7 +78,7 @@ before_weak at e f (inr h) = let h0 = h.0 in omega (arith, ints)
 pub edge_rises : (es : List LeafEdge) (l u : Level) (k : ℕ) → IsReaching es l u k → pos 0 <ℤ rise (edge_at es k)
 edge_rises es l u k r = (reaches_is (edge_at es k) l u r.reaches).rises
 
-head_rises : (es : List LeafEdge) (at l u : Level) (b : List ℕ) → IsBundle es at b
+pub head_rises : (es : List LeafEdge) (at l u : Level) (b : List ℕ) → IsBundle es at b
     → AllByRecursion (IsReaching es l u) b → pos 0 <ℤ rise (head es b)
 head_rises es at l u [] b r = absurd b
 head_rises es at l u (k ∷ ks) b r = edge_rises es l u k r.0
@@ -444,3 +445,24 @@ module _ (es : List LeafEdge) (l u : Level) (w : IsLevelWithin coordinate_limit 
       where
         sums : (a b c d e f h : ℕ) → a ≡ b + (c + d) → e ≡ b + f → f ≡ h + d → c ≡ h → a ≡ e
         sums a b c d e f h p q s t = omega arith
+
+    -- ---- as a place
+    heads_meet : (ss : List Strand) → AllByRecursion (IsHeadAt es l x) ss
+        → AllByRecursion (MeetsWith es l x) (bundles_of ss)
+    heads_meet [] h = tt
+    heads_meet (s ∷ ss) h = (h.0.same, heads_meet ss h.1)
+
+    pub group_is_place : IsPlace es l (record { waiting = bundles_of (g ∷ G); leaving = bs })
+    group_is_place = record {
+      rises = dx;
+      waiting = heads_meet (g ∷ G) all_G;
+      leaving = subst (AllByRecursion (MeetsWith es l x)) (bundles_fresh bs) (heads_meet N heads_N);
+    }
+
+    pub group_before : Joins (LiesBefore es l) (record { waiting = bundles_of (g ∷ G); leaving = bs } ∷ []) (map place_of O)
+    group_before = by_rest O refl
+      where
+        by_rest : (O' : List Strand) → O ≡ O'
+            → Joins (LiesBefore es l) (record { waiting = bundles_of (g ∷ G); leaving = bs } ∷ []) (map place_of O')
+        by_rest [] e = tt
+        by_rest (o ∷ os) e = (O_behind o os e).1

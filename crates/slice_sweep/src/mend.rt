@@ -1,10 +1,12 @@
 //! The strands at a height, mended one place after another.
-ghost use Rattle.std.specs.Prelude.{◌≡◌, ◌<◌, ◌+◌, ◌-◌, ◌*ℤ◌, int_le, true, length, IfOk, OnOk, All};
+ghost use Rattle.std.specs.Prelude.{◌≡◌, ◌<◌, ◌+◌, ◌-◌, ◌*ℤ◌, int_le, true, List, length, IfOk, OnOk, All};
 ghost use Rattle.scad_geom.specs.Line.{high};
 ghost use Rattle.scad_geom.specs.Heights.{AreNeighbours};
 ghost use Rattle.slice_slab.specs.Bundles.{edge_at};
 ghost use Rattle.slice_sweep.specs.Keys.{IsBelowKey};
-ghost use Rattle.slice_sweep.specs.Strands.{AreWaiting, AreThere, strand_at};
+ghost use Rattle.slice_sweep.specs.declared.strand.Strand.{Strand};
+ghost use Rattle.slice_sweep.specs.Places.{Place, ArePlaces, ArePlacedTo};
+ghost use Rattle.slice_sweep.specs.Strands.{AreWaiting, AreThere, strand_at, bundles_of};
 ghost use Rattle.slice_sweep.specs.Mending.{AreOrdered, AreMendedTo, KeepTimes, IsGroup};
 
 use crate::group::{goes_on, group_end, members};
@@ -22,6 +24,8 @@ pub(crate) fn mend(step: &Step<'_>, strands: &mut Vec<Strand>) -> Result<(), All
         (AreOrdered step.now.edges.now step.now.lower.now step.now.upper.now strands.new.items) }
     ensures numbers { OnOk result (KeepTimes step.now.edges.now step.now.lower.now step.now.upper.now
         strands.old.items strands.new.items) }
+    ensures places { OnOk result ((places : List Place) × ArePlaces step.now.edges.now step.now.lower.now
+        (bundles_of strands.old.items) (bundles_of strands.new.items) places) }
 {
     let mut place = 0;
     'places: while place < strands.len() {
@@ -40,6 +44,9 @@ fn mend_at(step: &Step<'_>, strands: &mut Vec<Strand>, place: usize) -> Result<u
     ensures numbers { OnOk result (KeepTimes step.now.edges.now step.now.lower.now step.now.upper.now
         strands.old.items strands.new.items) }
     ensures fewer { IfOk result (λ n. length strands.new.items - n < length strands.old.items - place) }
+    ensures places { IfOk result (λ n. (all : List Strand)
+        → ArePlacedTo step.now.edges.now step.now.lower.now place all strands.old.items
+        → ArePlacedTo step.now.edges.now step.now.lower.now n all strands.new.items) }
 {
     if is_asleep(step, strands, place) {
         return Ok(place + 1);
@@ -56,6 +63,9 @@ fn mend_awake(step: &Step<'_>, strands: &mut Vec<Strand>, place: usize) -> Resul
     ensures numbers { OnOk result (KeepTimes step.now.edges.now step.now.lower.now step.now.upper.now
         strands.old.items strands.new.items) }
     ensures fewer { IfOk result (λ n. length strands.new.items - n < length strands.old.items - place) }
+    ensures places { IfOk result (λ n. (all : List Strand)
+        → ArePlacedTo step.now.edges.now step.now.lower.now place all strands.old.items
+        → ArePlacedTo step.now.edges.now step.now.lower.now n all strands.new.items) }
 {
     let end = group_end(step, strands, place);
     if is_alone(step, strands, place, end) {
@@ -105,6 +115,9 @@ fn regroup(
     ensures numbers { OnOk result (KeepTimes step.now.edges.now step.now.lower.now step.now.upper.now
         strands.old.items strands.new.items) }
     ensures fewer { IfOk result (λ n. length strands.new.items - n < length strands.old.items - from) }
+    ensures places { IfOk result (λ n. (all : List Strand)
+        → ArePlacedTo step.now.edges.now step.now.lower.now from all strands.old.items
+        → ArePlacedTo step.now.edges.now step.now.lower.now n all strands.new.items) }
 {
     let numbers = members(step, strands, from, to)?;
     let bundles = leaving(step, &numbers)?;

@@ -1,10 +1,12 @@
 use Rattle.std.proofs.Common.{◌-◌, length}
 use Rattle.slice_sweep.specs.Mending.{AreMendedTo, KeepTimes}
+use Rattle.slice_sweep.specs.Places.{ArePlacedTo}
 use Rattle.slice_sweep.proofs.mend.mend.Given as goal
 
 abbrev pub invariant-places : goal.invariant-places
 invariant-places l = record {
   mended : AreMendedTo l.step.edges.now l.step.lower.now l.step.upper.now l.place l.strands.items;
+  places : ArePlacedTo l.step.edges.now l.step.lower.now l.place l.fn.strands.items l.strands.items;
   numbers : KeepTimes l.step.edges.now l.step.lower.now l.step.upper.now l.fn.strands.items l.strands.items;
 }
 

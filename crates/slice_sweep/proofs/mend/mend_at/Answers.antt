@@ -3,6 +3,7 @@ use Rattle.std.proofs.Common.{subst, List}
 use Rattle.slice_sweep.specs.declared.strand.Strand.{Strand}
 use Rattle.slice_sweep.specs.Keys.{IsBelowKey}
 use Rattle.slice_sweep.specs.Strands.{strand_at}
+use Rattle.slice_sweep.proofs.Placing.{placed_stays}
 use Rattle.slice_sweep.proofs.Groups.{asleep}
 use Rattle.slice_sweep.proofs.mend.mend_at.Goals as goal
 
@@ -13,3 +14,12 @@ returns-then-is_asleep-clause-mended c =
     asleep s.edges.now s.lower.now s.upper.now c.requires.neighbours c.args.place L c.requires.mended c.requires.there
     (subst (λ (xs : List Strand). IsBelowKey s.lower.now (strand_at xs c.args.place).wake) c.deref.ensures.value
     (c.is_asleep.ensures c.if-is_asleep.true))
+
+pub returns-then-is_asleep-clause-places : goal.returns-then-is_asleep-clause-places
+returns-then-is_asleep-clause-places c all a =
+    let s = c.args.step.now in
+    let L : List Strand = c.args.strands.now.items in
+    let next = asleep s.edges.now s.lower.now s.upper.now c.requires.neighbours c.args.place L c.requires.mended
+    c.requires.there (subst (λ (xs : List Strand). IsBelowKey s.lower.now (strand_at xs c.args.place).wake)
+    c.deref.ensures.value (c.is_asleep.ensures c.if-is_asleep.true)) in
+    placed_stays s.edges.now s.lower.now s.upper.now c.args.place all L c.requires.mended c.requires.there next a
