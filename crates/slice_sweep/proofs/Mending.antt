@@ -31,7 +31,7 @@ use Rattle.slice_sweep.specs.Keys.{stale}
 use Rattle.slice_sweep.specs.Chains.{Chain, Joins}
 use Rattle.slice_sweep.specs.Strands.{bundles_of, numbers_in, head, LiesLeft, LiesNotRight, IsTogether, IsReaching, IsHeld, AreHeld, AreApart, weakened, fresh, no_strand, strand_at}
 use Rattle.slice_sweep.specs.Mending.{ComesBefore, AreMended, AreMendedTo, KeepTimes}
-use Rattle.slice_sweep.specs.Places.{Place, MeetsWith, IsPlace, LiesBefore, place_of}
+use Rattle.slice_sweep.specs.Places.{MeetsWith, IsPlace, LiesBefore, place_of}
 use Rattle.slice_sweep.proofs.Keys.{never_below}
 use Rattle.slice_sweep.proofs.Lists.{chain_append, chain_front, chain_back, chain_joins, chain_tail, joins_nil, joins_more, joins_first, joins_swap, joins_all, joins_map, chain_map, weaker}
 use Rattle.slice_sweep.proofs.Weakening.{bundles_fresh, length_weakened, length_fresh, chain_weakened, all_weakened, joins_weakened, held_put, ordered_put, times_strands, times_put}

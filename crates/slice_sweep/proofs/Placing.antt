@@ -1,15 +1,12 @@
 -- The places of a height, one after another.
-use Rattle.std.proofs.Common.{◌≡◌, ℕ, ◌+◌, ◌<◌, ◌≤◌, List, [], ◌∷◌, ◌++◌, map, length, take, drop, refl, sym, ap, ap₂, ◌∙◌, arith, subst, append_assoc}
-use lib.IntN.{pos}
-use lib.Signed.{◌<ℤ◌}
-use Rattle.std.specs.List.{AllByRecursion}
+use Rattle.std.proofs.Common.{◌≡◌, ℕ, ◌+◌, ◌<◌, ◌≤◌, List, [], ◌∷◌, ◌++◌, map, length, take, drop, refl, sym, ap, ◌∙◌, subst, append_assoc}
 use Rattle.std.proofs.lemmas.List.{append-nil, drop_more, take_more, drop_all, take_all, take_at, drop_at}
 use Rattle.std.proofs.lemmas.List.Elements.{All-from_recursion}
 use Rattle.scad_base.proofs.Lists.{AllByRecursion-append}
 use Rattle.scad_geom.specs.declared.level.Level.{Level}
 use Rattle.scad_geom.specs.declared.level.LeafEdge.{LeafEdge}
 use Rattle.slice_sweep.specs.declared.strand.Strand.{Strand}
-use Rattle.slice_sweep.specs.Chains.{Chain, Joins}
+use Rattle.slice_sweep.specs.Chains.{Joins}
 use Rattle.slice_sweep.specs.Strands.{bundles_of, LiesLeft, IsHeld, no_strand, strand_at}
 use Rattle.slice_sweep.specs.Mending.{AreMendedTo}
 use Rattle.slice_sweep.specs.Places.{Place, all_waiting, all_leaving, edge_of, IsPlace, LiesBefore, ArePlaces, place_of, ArePlacedTo}

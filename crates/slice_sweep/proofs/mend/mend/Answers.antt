@@ -1,7 +1,7 @@
 -- One place after another is mended, and all in the end.
 use Rattle.std.proofs.Common.{refl}
 use Rattle.slice_sweep.proofs.Groups.{none_mended}
-use Rattle.slice_sweep.proofs.Placing.{none_placed, all_placed}
+use Rattle.slice_sweep.proofs.Placing.{none_placed}
 use Rattle.slice_sweep.proofs.mend.mend.Goals as goal
 
 pub places-init : goal.places-init
