@@ -7,6 +7,7 @@ mod Groups
 mod Waking
 mod Lifted
 mod Starts
+mod Values
 mod RayOrder
 mod RayBundles
 mod RaySteps

@@ -8,6 +8,7 @@ mod coinciding;
 mod front;
 mod group;
 mod key;
+pub mod laws;
 mod leave;
 mod lifting;
 mod lower_end;
