@@ -8,8 +8,7 @@ use Rattle.scad_ast.specs.declared.statement.Param.{Param}
 use Rattle.scad_ast.specs.declared.statement.Item.{Item, Module, Row_of-Item, end_of-Item, more_of-Item, items-the_row-Item}
 use Rattle.scad_ast.specs.declared.statement.Item.TheViews.{the_lemmas}
 use Rattle.scad_ast.specs.declared.statement.StmtBody.{Call, If}
-use Rattle.scad_ast.specs.Tree.{Items, no_items, entry, module_of, call_of, choice}
-use Rattle.scad_ast.specs.Tree.{Item as TreeItem}
+use Rattle.scad_ast.specs.Tree.{entry, module_of, call_of, choice}
 use Rattle.scad_ast.specs.Text.{has_items}
 use Rattle.scad_ast.specs.View.{expression_of, arguments}
 use Rattle.scad_ast.specs.Scope.{item_of, items_of, body_of, items, parameter}

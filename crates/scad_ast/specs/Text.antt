@@ -1,11 +1,10 @@
 -- The text of a program: source that reads as the program again (OpenSCAD User Manual, "The OpenSCAD Language"). A blank
 -- stands behind each token, a line feed behind `;`, `{` and `}`. An operand stands in parentheses unless it is a literal, a
 -- name, a call, a vector, a range, an index or a member.
-use Rattle.std.specs.Prelude.{ℕ, ℤ, Bool, true, false, if◌then◌else◌, ◌==◌, List, [], ◌∷◌, ◌++◌, Option, Some, None, codes, encode_utf8}
+use Rattle.std.specs.Prelude.{ℕ, Bool, true, false, if◌then◌else◌, ◌==◌, List, [], ◌∷◌, ◌++◌, Option, Some, None, codes, encode_utf8}
 use Rattle.std.specs.List.{flat_map}
 pub use Rattle.scad_base.specs.Characters.{quote, backslash}
 use Rattle.scad_num.specs.Text.{number_text}
-use Rattle.scad_fault.specs.declared.place.Place.{Place}
 use Rattle.scad_ast.specs.declared.operator.UnOp.{UnOp}
 use Rattle.scad_ast.specs.declared.operator.UnOp.TheVariants.{Not, Plus, Minus}
 use Rattle.scad_ast.specs.declared.operator.BinOp.{BinOp}

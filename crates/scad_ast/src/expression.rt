@@ -12,7 +12,7 @@ pub type Elems = Vec<Elem>;
 
 /// An expression. Its place is that of its operator, its `?`, its `[` or its `.`, else of its first token.
 #[cycle(expression)]
-#[derive(Debug, Drop)]
+#[derive(Drop)]
 pub struct Expr {
     pub at: Place,
     pub node: Node,
@@ -20,7 +20,7 @@ pub struct Expr {
 
 /// What an expression is (OpenSCAD manual, expressions).
 #[cycle(expression)]
-#[derive(Debug, Drop)]
+#[derive(Drop)]
 pub enum Node {
     Undef,
     Bool(bool),
@@ -44,7 +44,7 @@ pub enum Node {
 
 /// An argument, with its name where one is written.
 #[cycle(expression)]
-#[derive(Debug, Drop)]
+#[derive(Drop)]
 pub struct Arg {
     pub name: Option<Text>,
     pub value: Expr,
@@ -52,7 +52,7 @@ pub struct Arg {
 
 /// An element of a vector. The place of a list comprehension is that of its keyword.
 #[cycle(expression)]
-#[derive(Debug, Drop)]
+#[derive(Drop)]
 pub enum Elem {
     Item(Expr),
     Each(Box<Elem>, Place),

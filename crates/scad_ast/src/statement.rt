@@ -10,13 +10,13 @@ pub type Scope = Vec<Item>;
 pub type Params = Vec<Param>;
 
 /// A program: its items in order.
-#[derive(Debug, Drop)]
+#[derive(Drop)]
 pub struct Program {
     pub scope: Scope,
 }
 
 /// A parameter, with its default where one is written.
-#[derive(Debug, Drop)]
+#[derive(Drop)]
 pub struct Param {
     pub name: Text,
     pub default: Option<Expr>,
@@ -24,7 +24,7 @@ pub struct Param {
 
 /// What stands in a scope. The place is that of the first token.
 #[cycle(statement)]
-#[derive(Debug, Drop)]
+#[derive(Drop)]
 pub enum Item {
     Assign(Text, Expr, Place),
     Module(Text, Params, Scope, Place),
@@ -34,7 +34,7 @@ pub enum Item {
 
 /// A statement that makes solids, or runs others. Its place is that of its name or keyword.
 #[cycle(statement)]
-#[derive(Debug, Drop)]
+#[derive(Drop)]
 pub struct Stmt {
     pub at: Place,
     /// It is marked `%`.
@@ -46,7 +46,7 @@ pub struct Stmt {
 
 /// What a statement does.
 #[cycle(statement)]
-#[derive(Debug, Drop)]
+#[derive(Drop)]
 pub enum StmtBody {
     /// The name, the arguments and the children.
     Call(Text, Args, Scope),

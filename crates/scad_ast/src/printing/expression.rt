@@ -26,20 +26,14 @@ pub fn write_expression(out: &mut Vec<u8>, e: &Expr) -> Result<(), AllocError>
         Node::Name(word) => write_token(out, word.as_slice()),
         Node::List(elems) => write_vector(out, elems),
         Node::Range(start, None, end) => {
-            write_token(out, b"[")?;
-            write_expression(out, start)?;
-            write_token(out, b":")?;
+            write_within(out, b"[", start, b":")?;
             write_expression(out, end)?;
             write_token(out, b"]")
         }
         Node::Range(start, Some(step), end) => {
-            write_token(out, b"[")?;
-            write_expression(out, start)?;
-            write_token(out, b":")?;
+            write_within(out, b"[", start, b":")?;
             write_expression(out, step)?;
-            write_token(out, b":")?;
-            write_expression(out, end)?;
-            write_token(out, b"]")
+            write_within(out, b":", end, b"]")
         }
         Node::Unary(op, operand) => {
             write_prefix(out, *op)?;
@@ -52,42 +46,60 @@ pub fn write_expression(out: &mut Vec<u8>, e: &Expr) -> Result<(), AllocError>
         }
         Node::Choose(test, chosen, other) => {
             write_operand(out, test)?;
-            write_token(out, b"?")?;
-            write_expression(out, chosen)?;
-            write_token(out, b":")?;
+            write_within(out, b"?", chosen, b":")?;
             write_expression(out, other)
         }
         Node::Index(base, index) => {
             write_operand(out, base)?;
-            write_token(out, b"[")?;
-            write_expression(out, index)?;
-            write_token(out, b"]")
+            write_within(out, b"[", index, b"]")
         }
         Node::Member(base, word) => {
             write_operand(out, base)?;
-            write_token(out, b".")?;
-            write_token(out, word.as_slice())
+            write_member(out, word.as_slice())
         }
-        Node::Call(word, args) => {
-            write_token(out, word.as_slice())?;
-            write_enclosed_arguments(out, args)
-        }
+        Node::Call(word, args) => write_call(out, word.as_slice(), args),
         Node::Let(args, body) => {
-            write_token(out, b"let")?;
-            write_enclosed_arguments(out, args)?;
+            write_call(out, b"let", args)?;
             write_expression(out, body)
         }
         Node::Assert(args, body) => {
-            write_token(out, b"assert")?;
-            write_enclosed_arguments(out, args)?;
+            write_call(out, b"assert", args)?;
             write_expression(out, body)
         }
         Node::Echo(args, body) => {
-            write_token(out, b"echo")?;
-            write_enclosed_arguments(out, args)?;
+            write_call(out, b"echo", args)?;
             write_expression(out, body)
         }
     }
+}
+
+// An expression between two tokens.
+#[cycle(expressions)]
+fn write_within(out: &mut Vec<u8>, before: &[u8], e: &Expr, behind: &[u8]) -> Result<(), AllocError>
+    ensures { OnOk result (out.new.items ≡ out.old.items
+        ++ (spaced before.now ++ expression_text (expression_of e.now) ++ spaced behind.now)) }
+{
+    write_token(out, before)?;
+    write_expression(out, e)?;
+    write_token(out, behind)
+}
+
+// `.word`
+fn write_member(out: &mut Vec<u8>, word: &[u8]) -> Result<(), AllocError>
+    ensures { OnOk result (out.new.items ≡ out.old.items ++ (codes ". " ++ spaced word.now)) }
+{
+    write_token(out, b".")?;
+    write_token(out, word)
+}
+
+// `word(arguments)`
+#[cycle(expressions)]
+fn write_call(out: &mut Vec<u8>, word: &[u8], args: &[Arg]) -> Result<(), AllocError>
+    ensures { OnOk result (out.new.items ≡ out.old.items
+        ++ (spaced word.now ++ in_parentheses (arguments_text true (arguments args.now)))) }
+{
+    write_token(out, word)?;
+    write_enclosed_arguments(out, args)
 }
 
 // An operand, in parentheses unless it may stand alone.
@@ -99,9 +111,7 @@ fn write_operand(out: &mut Vec<u8>, e: &Expr) -> Result<(), AllocError>
     if may_stand_alone(&e.node) {
         write_expression(out, e)
     } else {
-        write_token(out, b"(")?;
-        write_expression(out, e)?;
-        write_token(out, b")")
+        write_within(out, b"(", e, b")")
     }
 }
 
@@ -199,8 +209,7 @@ fn write_element(out: &mut Vec<u8>, elem: &Elem) -> Result<(), AllocError>
             write_element(out, elem)
         }
         Elem::For(args, elem, _) => {
-            write_token(out, b"for")?;
-            write_enclosed_arguments(out, args)?;
+            write_call(out, b"for", args)?;
             write_element(out, elem)
         }
         Elem::Loop(starts, test, steps, elem, _) => {
@@ -210,8 +219,7 @@ fn write_element(out: &mut Vec<u8>, elem: &Elem) -> Result<(), AllocError>
             write_element(out, elem)
         }
         Elem::Let(args, elem, _) => {
-            write_token(out, b"let")?;
-            write_enclosed_arguments(out, args)?;
+            write_call(out, b"let", args)?;
             write_element(out, elem)
         }
         Elem::If(test, held, other, _) => {
@@ -267,7 +275,5 @@ pub fn write_test(out: &mut Vec<u8>, test: &Expr) -> Result<(), AllocError>
         ++ (codes "if " ++ in_parentheses (expression_text (expression_of test.now)))) }
 {
     write_token(out, b"if")?;
-    write_token(out, b"(")?;
-    write_expression(out, test)?;
-    write_token(out, b")")
+    write_within(out, b"(", test, b")")
 }

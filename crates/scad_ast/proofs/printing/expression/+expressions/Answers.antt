@@ -1,9 +1,8 @@
 -- An expression's text from those of its parts, which code sees as slices.
-use Rattle.std.proofs.Common.{rules, ◌≡◌, ◌++◌, OnOk, codes, true, ap, sym, ◌∙◌, arith, Some, None, ℕ, List}
+use Rattle.std.proofs.Common.{◌≡◌, ◌++◌, codes, true, ap, sym, ◌∙◌, arith, ℕ, List}
 use Rattle.std.proofs.lemmas.Grind.{common_steps}
 use Rattle.std.proofs.lemmas.Result.{on_ok_weaker}
-use Rattle.scad_ast.specs.declared.expression.Elem.{If}
-use Rattle.scad_ast.specs.Text.{spaced, expression_text, enclosed, in_parentheses, arguments_text, elements_text, element_text}
+use Rattle.scad_ast.specs.Text.{spaced, expression_text, in_parentheses, arguments_text, elements_text, element_text}
 use Rattle.scad_ast.specs.View.{expression_of, expression_at, arguments, elements, element_of}
 use Rattle.scad_ast.proofs.Pieces.{four}
 use Rattle.scad_ast.proofs.Rows.{vector_view, call_view, let_view, assert_view, echo_view, for_view, loop_view, let_element_view}
@@ -17,8 +16,8 @@ write_expression-returns-in-List t c =
     (vector_view c.args.e.now.at c.in-List.elems) in
     rw text (rw (← c.deref.ensures.value) c.write_vector.ensures)
 
-pub write_expression-returns-in_ok-write_token-in-Call : goal.write_expression-returns-in_ok-write_token-in-Call
-write_expression-returns-in_ok-write_token-in-Call t c =
+pub write_expression-returns-in-Call : goal.write_expression-returns-in-Call
+write_expression-returns-in-Call t c =
     let text : expression_text (expression_of c.args.e.now) ≡ spaced c.as_slice-in-Call.result.now ++ in_parentheses
     (arguments_text true (arguments c.deref-in-Call.result.now)) =
     ap (λ n. expression_text (expression_at c.args.e.now.at n)) c.in-Call.is ∙ ap expression_text
@@ -29,9 +28,9 @@ write_expression-returns-in_ok-write_token-in-Call t c =
     (sym c.deref-in-Call.ensures.value) in
     rw text (grind (arith, common_steps))
 
-pub write_expression-returns-in_ok-write_enclosed_arguments-in-Let :
-    goal.write_expression-returns-in_ok-write_enclosed_arguments-in-Let
-write_expression-returns-in_ok-write_enclosed_arguments-in-Let t c =
+pub write_expression-returns-in_ok-write_call-in-Let :
+    goal.write_expression-returns-in_ok-write_call-in-Let
+write_expression-returns-in_ok-write_call-in-Let t c =
     let text : expression_text (expression_of c.args.e.now)
     ≡ codes "let " ++ in_parentheses (arguments_text true (arguments c.deref-in-Let.result.now)) ++ expression_text (expression_of c.deref-in-Let-2.result.now) =
     ap (λ n. expression_text (expression_at c.args.e.now.at n)) c.in-Let.is ∙ ap expression_text
@@ -40,9 +39,9 @@ write_expression-returns-in_ok-write_enclosed_arguments-in-Let t c =
     ∙ ap (λ e. codes "let " ++ in_parentheses (arguments_text true (arguments c.deref-in-Let.result.now)) ++ expression_text (expression_of e)) (sym c.deref-in-Let-2.ensures) in
     rw text (grind (arith, common_steps))
 
-pub write_expression-returns-in_ok-write_enclosed_arguments-in-Assert :
-    goal.write_expression-returns-in_ok-write_enclosed_arguments-in-Assert
-write_expression-returns-in_ok-write_enclosed_arguments-in-Assert t c =
+pub write_expression-returns-in_ok-write_call-in-Assert :
+    goal.write_expression-returns-in_ok-write_call-in-Assert
+write_expression-returns-in_ok-write_call-in-Assert t c =
     let text : expression_text (expression_of c.args.e.now)
     ≡ codes "assert " ++ in_parentheses (arguments_text true (arguments c.deref-in-Assert.result.now)) ++
     expression_text (expression_of c.deref-in-Assert-2.result.now) =
@@ -54,9 +53,9 @@ write_expression-returns-in_ok-write_enclosed_arguments-in-Assert t c =
     expression_text (expression_of e)) (sym c.deref-in-Assert-2.ensures) in
     rw text (grind (arith, common_steps))
 
-pub write_expression-returns-in_ok-write_enclosed_arguments-in-Echo :
-    goal.write_expression-returns-in_ok-write_enclosed_arguments-in-Echo
-write_expression-returns-in_ok-write_enclosed_arguments-in-Echo t c =
+pub write_expression-returns-in_ok-write_call-in-Echo :
+    goal.write_expression-returns-in_ok-write_call-in-Echo
+write_expression-returns-in_ok-write_call-in-Echo t c =
     let text : expression_text (expression_of c.args.e.now)
     ≡ codes "echo " ++ in_parentheses (arguments_text true (arguments c.deref-in-Echo.result.now)) ++ expression_text
     (expression_of c.deref-in-Echo-2.result.now) =
@@ -68,9 +67,9 @@ write_expression-returns-in_ok-write_enclosed_arguments-in-Echo t c =
     expression_text (expression_of e)) (sym c.deref-in-Echo-2.ensures) in
     rw text (grind (arith, common_steps))
 
-pub write_element-returns-in_ok-write_enclosed_arguments-in-Let :
-    goal.write_element-returns-in_ok-write_enclosed_arguments-in-Let
-write_element-returns-in_ok-write_enclosed_arguments-in-Let t c =
+pub write_element-returns-in_ok-write_call-in-Let :
+    goal.write_element-returns-in_ok-write_call-in-Let
+write_element-returns-in_ok-write_call-in-Let t c =
     let text : element_text (element_of c.args.elem.now)
     ≡ codes "let " ++ in_parentheses (arguments_text true (arguments c.deref-in-Let.result.now)) ++ element_text (element_of c.deref-in-Let-2.result.now) =
     ap (λ e. element_text (element_of e)) c.in-Let.is ∙ ap element_text (let_element_view c.in-Let.args c.in-Let.elem
@@ -79,9 +78,9 @@ write_element-returns-in_ok-write_enclosed_arguments-in-Let t c =
     ∙ ap (λ e. codes "let " ++ in_parentheses (arguments_text true (arguments c.deref-in-Let.result.now)) ++ element_text (element_of e)) (sym c.deref-in-Let-2.ensures) in
     rw text (grind (arith, common_steps))
 
-pub write_element-returns-in_ok-write_enclosed_arguments-in-For :
-    goal.write_element-returns-in_ok-write_enclosed_arguments-in-For
-write_element-returns-in_ok-write_enclosed_arguments-in-For t c =
+pub write_element-returns-in_ok-write_call-in-For :
+    goal.write_element-returns-in_ok-write_call-in-For
+write_element-returns-in_ok-write_call-in-For t c =
     let text : element_text (element_of c.args.elem.now)
     ≡ codes "for " ++ in_parentheses (arguments_text true (arguments c.deref-in-For.result.now)) ++ element_text
     (element_of c.deref-in-For-2.result.now) =

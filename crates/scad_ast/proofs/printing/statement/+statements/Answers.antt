@@ -1,5 +1,5 @@
 -- The text of an item from those of its parts, which code sees as slices.
-use Rattle.std.proofs.Common.{◌≡◌, ◌++◌, OnOk, codes, true, ap, sym, ◌∙◌, arith, ℕ, List, [], map}
+use Rattle.std.proofs.Common.{◌≡◌, ◌++◌, codes, true, ap, ◌∙◌, arith, map}
 use Rattle.std.proofs.lemmas.Grind.{common_steps}
 use Rattle.scad_ast.specs.Text.{spaced, in_parentheses, expression_text, arguments_text, parameters_text, marks_text, body, otherwise, items_text, item_text}
 use Rattle.scad_ast.specs.View.{expression_of, arguments}
