@@ -16,6 +16,7 @@ use Rattle.scad_script.specs.declared.loading.Input.{Input}
 use Rattle.scad_script.specs.declared.loading.Input.TheVariants.{Whole}
 use Rattle.scad_script.specs.Script.{input_of}
 use Rattle.scad_sample.specs.Sample.{sample_text}
+pub use Rattle.verdict_laws.specs.Printed.{file_limit}
 use Rattle.scad_run.specs.Words.{Case, model_of, case_of}
 
 -- the most bytes that a source may have
@@ -25,10 +26,6 @@ source_limit = 4194304
 -- a source that is too long
 abbrev pub source_long : Budget
 source_long = record { kind = SourceLong; at = no_place; layer = 0; count = 0 }
-
--- the most bytes that a file may have that is judged
-abbrev pub file_limit : ℕ
-file_limit = 268435456
 
 -- a file that is too long to be judged
 abbrev pub file_long : Budget

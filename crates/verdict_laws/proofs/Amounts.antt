@@ -19,7 +19,7 @@ use Rattle.gcode_text.specs.Amount.{square, length_of, move_volume, moves_volume
 use Rattle.gcode_text.specs.Gcode.{target, print_line, travel_line, number_line, height_line, moves_text, path_text, paths_text, layers_text, head, end, gcode}
 use Rattle.gcode_text.specs.Moves.{surface}
 use Rattle.print_laws.proofs.Points.{all_front, all_back}
-use Rattle.verdict_laws.specs.Printed.{program_limit}
+use Rattle.verdict_laws.specs.Printed.{file_limit}
 
 -- ---- a move
 -- its volume in cubic micrometres is at most this: 3 m long, 2 mm wide and 1 mm high
@@ -112,7 +112,7 @@ module _ (rates : Rates) (width : rates.line_width ≤ 2000) (height : rates.lay
   -- ---- a program
   pub amount_in_range : (hot_end bed : ℕ) (layers : List (List (List Pt))) → 100000 ≤ rates.filament_area
       → AllByRecursion (λ paths. AllByRecursion (IsEdgeWithin point_limit) (all_moves paths)) layers
-      → length (gcode rates hot_end bed layers) ≤ program_limit
+      → length (gcode rates hot_end bed layers) ≤ file_limit
       → filament rates (layers_volume rates layers) ≤ 2000000000000000000
   unfolding filament
   amount_in_range hot_end bed layers area within short =

@@ -22,7 +22,7 @@ use Rattle.print_laws.specs.Laws.{PlansArePrintable}
 use Rattle.print_laws.proofs.Prints.{are_planned}
 use Rattle.verdict_laws.specs.Opinion.{Opinion, IsOpinion, Answers}
 use Rattle.verdict_laws.specs.Laws.{VerdictsAreOpinions}
-use Rattle.verdict_laws.specs.Printed.{program_limit, plan_moves, PrintsStayInside, PrintsAreAnsweredInside}
+use Rattle.verdict_laws.specs.Printed.{file_limit, plan_moves, PrintsStayInside, PrintsAreAnsweredInside}
 use Rattle.verdict_laws.proofs.Heights.{layers_in_range}
 use Rattle.verdict_laws.proofs.Programs.{HasRange}
 use Rattle.verdict_laws.proofs.Told.{program_told}
@@ -53,7 +53,7 @@ prints_stay_inside clear printable one s tree cli gcode print layers solids rang
 
     known : HasRange (rates_of s) s.hot_end s.bed (all_paths laid)
     known = has_range clear s range laid printable (are_planned s tree laid solids print.planned) high
-        (subst (λ (bytes : List ℕ). length bytes ≤ program_limit) text short)
+        (subst (λ (bytes : List ℕ). length bytes ≤ file_limit) text short)
 
     told_moves : (ts : List Told) × (program_moves gcode ≡ Ok ts) × (moves_in ts ≡ print.program.moves)
     told_moves =

@@ -18,7 +18,7 @@ use Rattle.print_laws.specs.Laws.{PlansArePrintable}
 use Rattle.print_laws.proofs.Numbered.{AreFrom, from_first}
 use Rattle.print_laws.proofs.Points.{plan_within}
 use Rattle.print_laws.proofs.Printable.{ends_within}
-use Rattle.verdict_laws.specs.Printed.{program_limit}
+use Rattle.verdict_laws.specs.Printed.{file_limit}
 use Rattle.verdict_laws.proofs.Amounts.{amount_in_range}
 use Rattle.verdict_laws.proofs.Programs.{HasRange}
 
@@ -51,7 +51,7 @@ module _ (clear : PlansKeepClear) (s : Settings) (range : AreInRange s) where
   sides_near i (l ∷ ls) h = (ends_within clear s range i l h.0, sides_near (i + 1) ls h.1)
 
   pub has_range : (layers : List Layout) → PlansArePrintable → ArePlanned s layers
-      → length layers * s.layer_height ≤ 1100000 → length (program_of s layers) ≤ program_limit
+      → length layers * s.layer_height ≤ 1100000 → length (program_of s layers) ≤ file_limit
       → HasRange (rates_of s) s.hot_end s.bed (all_paths layers)
   has_range layers printable are high short =
       let writable = printable s layers range are in

@@ -16,9 +16,9 @@ use Rattle.plan_verify.specs.Verdict.{IsVerdict}
 use Rattle.print_laws.specs.Print.{all_paths, IsPrintOf}
 use Rattle.verdict_laws.specs.Opinion.{IsOpinion}
 
--- the most bytes that a program may have that is judged
-abbrev pub program_limit : ℕ
-program_limit = 268435456
+-- the most bytes that a file may have that is judged
+abbrev pub file_limit : ℕ
+file_limit = 268435456
 
 -- how many moves the plans of layers have
 abbrev pub plan_moves : List Layout → ℕ
@@ -30,7 +30,7 @@ plan_moves layers = length (flat_map all_moves (all_paths layers))
 abbrev pub PrintsStayInside : Type 0
 PrintsStayInside =
     (s : Settings) (tree : Solid) (cli gcode : List ℕ) (print : IsPrintOf s tree cli gcode) (layers : List Layer)
-    → AreSolids tree → AreInRange s → length gcode ≤ program_limit → Reads cli layers
+    → AreSolids tree → AreInRange s → length gcode ≤ file_limit → Reads cli layers
     → IsOpinion layers s.line_width gcode (Ok (Inside (plan_moves print.layers)))
 
 -- So the judgement of its program answers this, unless memory is wanting.
@@ -38,6 +38,6 @@ abbrev pub PrintsAreAnsweredInside : Type 0
 PrintsAreAnsweredInside =
     (s : Settings) (tree : Solid) (cli gcode : List ℕ) (print : IsPrintOf s tree cli gcode) (layers : List Layer)
     (verdict : Result Verdict VerifyFault)
-    → AreSolids tree → AreInRange s → length gcode ≤ program_limit → Reads cli layers
+    → AreSolids tree → AreInRange s → length gcode ≤ file_limit → Reads cli layers
     → IsVerdict layers s.line_width gcode verdict
     → (verdict ≡ Err Memory) ⊎ (verdict ≡ Ok (Inside (plan_moves print.layers)))
