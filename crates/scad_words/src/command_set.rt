@@ -65,7 +65,9 @@ fn two_word_command<'a>(
     word: &'a str,
     next: &'a str,
 ) -> Result<Command<'a>, AllocError>
-    ensures { IsMade (with_rule (with_rule (new_app name.entry.now) (positional word.entry.now)) (positional next.entry.now)) result }
+    ensures { IsMade
+        (with_rule (with_rule (new_app name.entry.now) (positional word.entry.now)) (positional next.entry.now))
+        result }
 {
     with_arg(one_word_command(alloc, name, word), positional(alloc, next))
 }
@@ -78,7 +80,10 @@ fn three_word_command<'a>(
     next: &'a str,
     last: &'a str,
 ) -> Result<Command<'a>, AllocError>
-    ensures { IsMade (with_rule (with_rule (with_rule (new_app name.entry.now) (positional word.entry.now)) (positional next.entry.now)) (positional last.entry.now)) result }
+    ensures { IsMade
+        (with_rule (with_rule (with_rule (new_app name.entry.now) (positional word.entry.now))
+        (positional next.entry.now)) (positional last.entry.now))
+        result }
 {
     with_arg(
         two_word_command(alloc, name, word, next),
