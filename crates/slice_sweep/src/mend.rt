@@ -1,37 +1,53 @@
 //! The strands at a height, mended one place after another.
-ghost use Rattle.std.specs.Prelude.{◌≡◌, ◌<◌, ◌+◌, ◌-◌, ◌*ℤ◌, int_le, true, length, IfOk, OnOk, All};
+ghost use Rattle.std.specs.Prelude.{◌≡◌, ◌<◌, ◌≤◌, ◌+◌, ◌-◌, ◌*ℤ◌, ◌++◌, ◌∷◌, [], int_le, true, ℕ, List, take, drop, length, IfOk, OnOk, All};
+ghost use Rattle.std.specs.List.{AllByRecursion};
 ghost use Rattle.scad_geom.specs.Line.{high};
 ghost use Rattle.scad_geom.specs.Heights.{AreNeighbours};
 ghost use Rattle.slice_slab.specs.Bundles.{edge_at};
 ghost use Rattle.slice_sweep.specs.Keys.{IsBelowKey};
-ghost use Rattle.slice_sweep.specs.Strands.{AreWaiting, AreThere, strand_at};
+ghost use Rattle.slice_sweep.specs.declared.change.Change.{Change};
+ghost use Rattle.slice_sweep.specs.declared.strand.Strand.{Strand};
+ghost use Rattle.slice_sweep.specs.Strands.{AreWaiting, AreThere, bundles_of, strand_at};
 ghost use Rattle.slice_sweep.specs.Mending.{AreOrdered, AreMendedTo, KeepTimes, IsGroup};
+ghost use Rattle.slice_sweep.specs.Changes.{AreChanges, older, started};
+ghost use Rattle.slice_sweep.specs.Places.{came_from_below, StartsKeyless, ArePlacedTo};
 
-use crate::group::{goes_on, group_end, members};
+use crate::change::Change;
+use crate::group::{goes_on, group_end, members, older};
 use crate::leave::leaving;
 use crate::replace::{replace, weaken, without_keys};
 use crate::step::Step;
 use crate::strand::Strand;
 use std::alloc::AllocError;
 
-/// Puts the strands at the lower height into the order that they have above it.
-pub(crate) fn mend(step: &Step<'_>, strands: &mut Vec<Strand>) -> Result<(), AllocError>
+/// Puts the strands at the lower height into the order that they have above it, and tells what changes.
+pub(crate) fn mend(step: &Step<'_>, strands: &mut Vec<Strand>) -> Result<Vec<Change>, AllocError>
     requires neighbours { AreNeighbours step.now.edges.now step.now.lower.now step.now.upper.now }
     requires waiting { AreWaiting step.now.edges.now step.now.lower.now strands.old.items }
     ensures ordered { OnOk result
         (AreOrdered step.now.edges.now step.now.lower.now step.now.upper.now strands.new.items) }
     ensures numbers { OnOk result (KeepTimes step.now.edges.now step.now.lower.now step.now.upper.now
         strands.old.items strands.new.items) }
+    ensures changes { IfOk result (λ v. AllByRecursion (StartsKeyless step.now.edges.now step.now.lower.now)
+        strands.old.items → AreChanges step.now.edges.now step.now.lower.now
+        (came_from_below step.now.edges.now step.now.lower.now (bundles_of strands.old.items))
+        (bundles_of strands.new.items) v.items) }
 {
+    let mut changes = Vec::new(step.alloc);
     let mut place = 0;
     'places: while place < strands.len() {
-        place = mend_at(step, strands, place)?;
+        place = mend_at(step, strands, &mut changes, place)?;
     }
-    Ok(())
+    Ok(changes)
 }
 
 // Mends the strands that lie at one place with the first that isn't mended, and gives the place behind them.
-fn mend_at(step: &Step<'_>, strands: &mut Vec<Strand>, place: usize) -> Result<usize, AllocError>
+fn mend_at(
+    step: &Step<'_>,
+    strands: &mut Vec<Strand>,
+    changes: &mut Vec<Change>,
+    place: usize,
+) -> Result<usize, AllocError>
     requires neighbours { AreNeighbours step.now.edges.now step.now.lower.now step.now.upper.now }
     requires mended { AreMendedTo step.now.edges.now step.now.lower.now step.now.upper.now place strands.old.items }
     requires there { place < length strands.old.items }
@@ -40,14 +56,22 @@ fn mend_at(step: &Step<'_>, strands: &mut Vec<Strand>, place: usize) -> Result<u
     ensures numbers { OnOk result (KeepTimes step.now.edges.now step.now.lower.now step.now.upper.now
         strands.old.items strands.new.items) }
     ensures fewer { IfOk result (λ n. length strands.new.items - n < length strands.old.items - place) }
+    ensures told { IfOk result (λ n. (all : List Strand)
+        → ArePlacedTo step.now.edges.now step.now.lower.now place all strands.old.items changes.old.items
+        → ArePlacedTo step.now.edges.now step.now.lower.now n all strands.new.items changes.new.items) }
 {
     if is_asleep(step, strands, place) {
         return Ok(place + 1);
     }
-    mend_awake(step, strands, place)
+    mend_awake(step, strands, changes, place)
 }
 
-fn mend_awake(step: &Step<'_>, strands: &mut Vec<Strand>, place: usize) -> Result<usize, AllocError>
+fn mend_awake(
+    step: &Step<'_>,
+    strands: &mut Vec<Strand>,
+    changes: &mut Vec<Change>,
+    place: usize,
+) -> Result<usize, AllocError>
     requires neighbours { AreNeighbours step.now.edges.now step.now.lower.now step.now.upper.now }
     requires mended { AreMendedTo step.now.edges.now step.now.lower.now step.now.upper.now place strands.old.items }
     requires there { place < length strands.old.items }
@@ -56,12 +80,50 @@ fn mend_awake(step: &Step<'_>, strands: &mut Vec<Strand>, place: usize) -> Resul
     ensures numbers { OnOk result (KeepTimes step.now.edges.now step.now.lower.now step.now.upper.now
         strands.old.items strands.new.items) }
     ensures fewer { IfOk result (λ n. length strands.new.items - n < length strands.old.items - place) }
+    ensures told { IfOk result (λ n. (all : List Strand)
+        → ArePlacedTo step.now.edges.now step.now.lower.now place all strands.old.items changes.old.items
+        → ArePlacedTo step.now.edges.now step.now.lower.now n all strands.new.items changes.new.items) }
 {
     let end = group_end(step, strands, place);
+    let gone = older(step, strands, place, end);
     if is_alone(step, strands, place, end) {
+        tell_start(changes, place, gone)?;
         return Ok(place + 1);
     }
-    regroup(step, strands, place, end)
+    let behind = regroup(step, strands, place, end)?;
+    tell(
+        changes,
+        Change {
+            from: place,
+            gone,
+            come: behind - place,
+        },
+    )?;
+    Ok(behind)
+}
+
+// Tells of a strand that is alone at its place, if it has come.
+fn tell_start(changes: &mut Vec<Change>, place: usize, gone: usize) -> Result<(), AllocError>
+    ensures { OnOk result (changes.new.items ≡ changes.old.items ++ started place gone) }
+{
+    if gone == 0 {
+        tell(
+            changes,
+            Change {
+                from: place,
+                gone: 0,
+                come: 1,
+            },
+        )?;
+    }
+    Ok(())
+}
+
+fn tell(changes: &mut Vec<Change>, change: Change) -> Result<(), AllocError>
+    ensures { OnOk result (changes.new.items ≡ changes.old.items ++ change ∷ []) }
+{
+    changes.push(change)?;
+    Ok(())
 }
 
 // Whether a group is one strand in which nothing ends.
@@ -105,6 +167,12 @@ fn regroup(
     ensures numbers { OnOk result (KeepTimes step.now.edges.now step.now.lower.now step.now.upper.now
         strands.old.items strands.new.items) }
     ensures fewer { IfOk result (λ n. length strands.new.items - n < length strands.old.items - from) }
+    ensures behind { IfOk result (λ n. from ≤ n) }
+    ensures told { IfOk result (λ n. (all : List Strand) (cs : List Change) (gone : ℕ)
+        → gone ≡ older step.now.edges.now step.now.lower.now (drop from (take to strands.old.items))
+        → ArePlacedTo step.now.edges.now step.now.lower.now from all strands.old.items cs
+        → ArePlacedTo step.now.edges.now step.now.lower.now n all strands.new.items
+        (cs ++ record { from = from; gone = gone; come = n - from } ∷ [])) }
 {
     let numbers = members(step, strands, from, to)?;
     let bundles = leaving(step, &numbers)?;
