@@ -11,7 +11,7 @@ use scad_fault::Place;
 use std::alloc::{AllocError, Global};
 
 /// The head of a `for` among elements: its arguments, or its three parts.
-#[derive(Debug, Drop)]
+#[derive(Drop)]
 pub(crate) enum Head {
     All(Args),
     Steps(Args, Box<Expr>, Args),

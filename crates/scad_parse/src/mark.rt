@@ -12,7 +12,7 @@ use scad_lex::{Key, Sign, Token, TokenKind};
 use std::alloc::{AllocError, Global};
 
 /// The marks before a statement: `*`, `%`, `#`.
-#[derive(Clone, Copy, Debug, PartialEq, Eq)]
+#[derive(Clone, Copy)]
 pub(crate) struct Marked {
     pub(crate) star: bool,
     pub(crate) percent: bool,

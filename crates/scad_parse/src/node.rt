@@ -16,7 +16,7 @@ use scad_num::Num;
 use std::alloc::{AllocError, Global};
 
 /// A keyword that stands with arguments before an expression.
-#[derive(Clone, Copy, Debug, PartialEq, Eq)]
+#[derive(Clone, Copy)]
 pub(crate) enum Binder {
     Let,
     Assert,
