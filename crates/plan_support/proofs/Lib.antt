@@ -18,6 +18,8 @@ pub mod Reached
 pub mod Wholly
 pub mod Holes
 pub mod Lined
+pub mod InTurn
+pub mod Pooled
 pub mod Supported
 pub mod Ascending
 pub mod Gathered

@@ -8,6 +8,7 @@ pub mod On
 pub mod Covers
 pub mod Supports
 pub mod Lines
+pub mod Shares
 pub mod Free
 pub mod Near
 pub mod Unite

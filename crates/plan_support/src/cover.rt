@@ -18,12 +18,12 @@ use std::thread::Threads;
 const STRETCH_LIMIT: u64 = 10_000_000;
 
 /// For each layer and each height the maximal stretches of whole points that lie on a run of that height in some higher
-/// layer. Their number is judged before memory is taken for them. The result is one for every number of workers: the
-/// lines aren't shared among workers yet.
+/// layer. Their number is judged before memory is taken for them. The workers draw lines from a board, in threads where
+/// the runtime gives them, and the result is one for every number of workers.
 ///
 /// The time is that of one look-up for each line and layer, and of sorting the runs of each row with what lies above.
 pub fn covers<R: Threads + Sync>(
-    _rt: &R,
+    rt: &R,
     alloc: Global,
     layers: &[Rows],
     workers: u32,
@@ -38,20 +38,28 @@ pub fn covers<R: Threads + Sync>(
 {
     let heights = heights_of(alloc, layers)?;
     let heights = heights.as_slice();
-    let counted = counted(alloc, layers, heights)?;
+    let counted = counted(rt, alloc, layers, heights, workers)?;
     if counted > STRETCH_LIMIT {
         return Err(CoverFault::Runs(counted));
     }
-    let lines = work_lines(alloc, layers, heights, Want::Stretches)?;
+    let lines = work_lines(rt, alloc, layers, heights, Want::Stretches, workers)?;
     Ok(gathered(alloc, heights, lines.as_slice(), layers.len())?)
 }
 
 // How many stretches there are on the lines at heights.
-fn counted(alloc: Global, layers: &[Rows], heights: &[i32]) -> Result<u64, AllocError>
-    requires { All AreRows layers.now }
+fn counted<R: Threads + Sync>(
+    rt: &R,
+    alloc: Global,
+    layers: &[Rows],
+    heights: &[i32],
+    workers: u32,
+) -> Result<u64, AllocError>
+    requires some { 1 ≤ workers }
+    requires few { workers ≤ 64 }
+    requires rows { All AreRows layers.now }
     ensures { IfOk result (IsCount layers.now heights.now) }
 {
-    Ok(count_of(&work_lines(alloc, layers, heights, Want::Count)?))
+    Ok(count_of(&work_lines(rt, alloc, layers, heights, Want::Count, workers)?))
 }
 
 // How many stretches lines have together.
@@ -91,6 +99,7 @@ fn rows_of(alloc: Global, heights: &[i32], lines: &[Line], layer: usize) -> Resu
     'lines: for i in 0..lines.len() {
         push_kept(&mut rows, heights[i], &lines[i].covers, layer)?;
     }
+    rows.shrink_to_fit();
     Ok(rows)
 }
 

@@ -20,6 +20,8 @@ mod rows;
 mod support;
 mod support_lines;
 mod union;
+mod worker;
+mod workers;
 
 pub use cover::covers;
 pub use cover_fault::CoverFault;

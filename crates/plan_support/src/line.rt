@@ -11,6 +11,8 @@ pub(crate) enum Want {
 /// What lies below higher layers on a line.
 #[derive(Debug, Drop)]
 pub(crate) struct Line {
+    /// Which line it is: the place of its height.
+    pub(crate) number: u32,
     /// How many stretches it has in all layers.
     pub(crate) count: u64,
     /// Where they are wanted those of each layer that has some, from the highest such layer down to the lowest of all.

@@ -11,15 +11,17 @@ use crate::union::united;
 use plan_infill::Run;
 use std::alloc::{AllocError, Global};
 
-/// Works the line at a height.
+/// Works the line of a number at a height.
 pub(crate) fn work_line(
     alloc: Global,
     layers: &[Rows],
+    number: u32,
     y: i32,
     want: Want,
 ) -> Result<Line, AllocError>
     requires { All AreRows layers.now }
-    ensures { IfOk result (HasLine layers.now y want) }
+    ensures line { IfOk result (HasLine layers.now y want) }
+    ensures number { IfOk result (λ l. l.number ≡ number) }
 {
     let mut above = Vec::new(alloc);
     let mut count: u64 = 0;
@@ -32,7 +34,12 @@ pub(crate) fn work_line(
         push_wanted(&mut covers, below, want)?;
         above = with_runs(alloc, above, runs_of(layers, n, y))?;
     }
-    Ok(Line { count, covers })
+    covers.shrink_to_fit();
+    Ok(Line {
+        number,
+        count,
+        covers,
+    })
 }
 
 // The runs of a layer at a height.

@@ -61,6 +61,14 @@ impl Lists {
         }
         pushed
     }
+
+    /// Gives back the room that vectors keep in reserve.
+    pub(crate) fn shrink_to_fit(&mut self)
+        ensures { self.new ≡ self.old }
+    {
+        self.ends.shrink_to_fit();
+        self.runs.shrink_to_fit();
+    }
 }
 
 // Where a list starts, and the place behind its end.

@@ -88,4 +88,12 @@ impl Rows {
         }
         pushed
     }
+
+    /// Gives back the room that vectors keep in reserve.
+    pub(crate) fn shrink_to_fit(&mut self)
+        ensures { self.new ≡ self.old }
+    {
+        self.heights.shrink_to_fit();
+        self.lists.shrink_to_fit();
+    }
 }

@@ -6,7 +6,7 @@ use Rattle.plan_support.proofs.Counted.{is_count}
 use Rattle.plan_support.proofs.cover.counted.Goals as goal
 
 pub returns : goal.returns
-returns c =
+returns g c =
     let h = c.in_ok-work_lines.ensures in
     is_count c.args.layers.now c.args.heights.now c.in_ok-work_lines.field-0.items h.alls c.count_of.result h.are
     (c.count_of.ensures
