@@ -136,7 +136,7 @@ pub(crate) fn profile_argued(
 }
 
 /// The place of a transformation's children.
-#[tactic(auto, unfolding(crate::specs::Made::placed_by, scad_expr::specs::State::fault))]
+#[tactic(auto, unfolding(crate::specs::Made::placed_by, scad_machine::specs::State::fault))]
 pub(crate) fn moved_by(alloc: Global, at: Place, w: &Where, by: &Matrix) -> Result<Where, EvalFault>
     ensures { (s : State) → Does (λ w. w) (placed_by at (moved w.now by.now) s) result s }
 {

@@ -92,7 +92,7 @@ fn fineness(alloc: Global, m: &Machine) -> Result<Fineness, EvalFault>
 }
 
 /// A solid, or an extrusion, stands outside of every extrusion alone.
-#[tactic(auto, unfolding(crate::specs::Made::judge_solid, scad_expr::specs::State::fault))]
+#[tactic(auto, unfolding(crate::specs::Made::judge_solid, scad_machine::specs::State::fault))]
 fn judge_solid(alloc: Global, at: Place, space: Space) -> Result<(), EvalFault>
     ensures { (s : State) → Does nothing (judge_solid at space s) result s }
 {
@@ -104,7 +104,7 @@ fn judge_solid(alloc: Global, at: Place, space: Space) -> Result<(), EvalFault>
 }
 
 /// A flat shape stands inside of an extrusion alone.
-#[tactic(auto, unfolding(crate::specs::Made::judge_flat, scad_expr::specs::State::fault))]
+#[tactic(auto, unfolding(crate::specs::Made::judge_flat, scad_machine::specs::State::fault))]
 fn judge_flat(alloc: Global, at: Place, space: Space) -> Result<(), EvalFault>
     ensures { (s : State) → Does nothing (judge_flat at space s) result s }
 {

@@ -119,7 +119,7 @@ fn called_by<'p>(
 }
 
 /// A name that is refused after the arguments were evaluated.
-#[tactic(auto, using(crate::proofs::Levels::expressions), unfolding(crate::specs::Portions::refused_with, scad_expr::specs::State::fault_of))]
+#[tactic(auto, using(crate::proofs::Levels::expressions), unfolding(crate::specs::Portions::refused_with, scad_machine::specs::State::fault_of))]
 fn refused<'p>(
     kind: FaultKind,
     call: Call<'p>,

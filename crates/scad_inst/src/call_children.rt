@@ -29,7 +29,7 @@ fn reached<'p>(frames: &Frames<'p>, kept: Kept<'p>, at: u32) -> Kept<'p>
 }
 
 /// The children of the module call whose body holds the place where names are sought.
-#[tactic(auto, using(crate::proofs::KeptRound::rounds), unfolding(scad_expr::specs::Machine::held, scad_expr::specs::Machine::env_in))]
+#[tactic(auto, using(crate::proofs::KeptRound::rounds), unfolding(scad_machine::specs::Machine::held, scad_machine::specs::Machine::env_in))]
 pub(crate) fn kept_children<'p>(m: &Machine<'p>) -> Option<Kept<'p>>
     ensures { children_in (envs (held m.now).frames) (option_map children_stored result)
         ≡ kept_children (env_in (held m.now)) }

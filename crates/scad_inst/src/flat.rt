@@ -32,7 +32,7 @@ use scad_tree::Tree;
 use std::alloc::Global;
 
 /// Counts the triangles of a prism over an outline of so many points.
-#[tactic(auto, unfolding(crate::specs::Made::count_triangles, scad_expr::specs::State::over, scad_expr::specs::Machine::state_of, scad_expr::specs::Machine::held))]
+#[tactic(auto, unfolding(crate::specs::Made::count_triangles, scad_machine::specs::State::over, scad_machine::specs::Machine::state_of, scad_machine::specs::Machine::held))]
 fn count_prism<'p>(points: usize, at: Place, m: &mut Machine<'p>) -> Result<(), EvalFault>
     requires { 3 ≤ points }
     ensures does { Does nothing (count_triangles (triangles_in (Prism points)) at (state_of m.old)) result
@@ -78,7 +78,7 @@ fn linear_leaf<'p>(
 }
 
 /// The points of an outline are at most as many as all leaves have triangles.
-#[tactic(auto, unfolding(crate::specs::FlatLeaves::judge_points, scad_expr::specs::State::over))]
+#[tactic(auto, unfolding(crate::specs::FlatLeaves::judge_points, scad_machine::specs::State::over))]
 pub(crate) fn judge_points(at: Place, points: usize) -> Result<(), EvalFault>
     ensures does { (s : State) → Does nothing (judge_points at points s) result s }
     ensures few { IfOk result (λ _. points ≤ triangle_limit) }
@@ -90,7 +90,7 @@ pub(crate) fn judge_points(at: Place, points: usize) -> Result<(), EvalFault>
 }
 
 /// A profile doesn't stand on both sides of the axis.
-#[tactic(auto, unfolding(crate::specs::FlatLeaves::judge_sides, scad_expr::specs::State::fault_of))]
+#[tactic(auto, unfolding(crate::specs::FlatLeaves::judge_sides, scad_machine::specs::State::fault_of))]
 pub(crate) fn judge_sides(alloc: Global, word: Place, ring: &[(Num, Num)]) -> Result<(), EvalFault>
     ensures { (s : State) → Does nothing (judge_sides word ring.now s) result s }
 {
@@ -199,7 +199,7 @@ fn turned_leaf<'p>(
 }
 
 /// The leaf of an outline.
-#[tactic(auto, unfolding(crate::specs::FlatLeaves::leaf_in, scad_expr::specs::State::fault))]
+#[tactic(auto, unfolding(crate::specs::FlatLeaves::leaf_in, scad_machine::specs::State::fault))]
 fn leaf_in<'p>(
     alloc: Global,
     at: Place,

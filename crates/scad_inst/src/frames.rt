@@ -24,7 +24,7 @@ use scad_value::{Value, copy};
 use std::alloc::Global;
 
 /// How many levels of depth are left.
-#[tactic(auto, unfolding(scad_expr::specs::Machine::held))]
+#[tactic(auto, unfolding(scad_machine::specs::Machine::held))]
 pub(crate) fn depth(m: &Machine) -> u32
     ensures { result ≡ (held m.now).depth }
 {
@@ -32,7 +32,7 @@ pub(crate) fn depth(m: &Machine) -> u32
 }
 
 /// One level deeper, where one is left.
-#[tactic(auto, unfolding(scad_expr::specs::Machine::held, scad_expr::specs::Machine::state_of))]
+#[tactic(auto, unfolding(scad_machine::specs::Machine::held, scad_machine::specs::Machine::state_of))]
 pub(crate) fn go_deeper(m: &mut Machine)
     requires { (held m.old).depth ≢ 0 }
     ensures same { state_of m.new ≡ state_of m.old }
@@ -42,7 +42,7 @@ pub(crate) fn go_deeper(m: &mut Machine)
 }
 
 /// At a level of depth again.
-#[tactic(auto, unfolding(scad_expr::specs::Machine::held, scad_expr::specs::Machine::state_of))]
+#[tactic(auto, unfolding(scad_machine::specs::Machine::held, scad_machine::specs::Machine::state_of))]
 pub(crate) fn go_back(depth: u32, m: &mut Machine)
     ensures same { state_of m.new ≡ state_of m.old }
     ensures held { held m.new ≡ with_depth depth (held m.old) }
@@ -51,7 +51,7 @@ pub(crate) fn go_back(depth: u32, m: &mut Machine)
 }
 
 /// The number of the frame from which names are sought.
-#[tactic(auto, unfolding(scad_expr::specs::Machine::held, scad_expr::specs::Machine::env_in))]
+#[tactic(auto, unfolding(scad_machine::specs::Machine::held, scad_machine::specs::Machine::env_in))]
 pub(crate) fn here(m: &Machine) -> u32
     ensures number { result ≡ (held m.now).here }
     ensures env { env_at (envs (held m.now).frames) result ≡ env_in (held m.now) }
@@ -60,7 +60,7 @@ pub(crate) fn here(m: &Machine) -> u32
 }
 
 /// The number of the last frame of the `$` names, where there is one.
-#[tactic(auto, using(scad_expr::proofs::OpenFrames::lasts), unfolding(scad_expr::specs::Machine::held))]
+#[tactic(auto, using(scad_machine::proofs::OpenFrames::lasts), unfolding(scad_machine::specs::Machine::held))]
 fn last_along(m: &Machine) -> Option<u32>
     ensures { result ≡ last_of (held m.now).along }
 {
@@ -70,7 +70,7 @@ fn last_along(m: &Machine) -> Option<u32>
 
 /// Opens the frames of a scope inside the frame of a number. Gives the number of the one from which names
 /// were sought before.
-#[tactic(auto, unfolding(scad_expr::specs::Machine::held, scad_expr::specs::Machine::state_of, crate::specs::Frames::scope_held))]
+#[tactic(auto, unfolding(scad_machine::specs::Machine::held, scad_machine::specs::Machine::state_of, crate::specs::Frames::scope_held))]
 pub(crate) fn enter_scope<'p>(
     home: u32,
     scope: &'p Scope,
@@ -145,7 +145,7 @@ fn is_dollar(name: &[u8]) -> bool
 }
 
 /// Sets the name of an argument in the last frames, where it begins with `$`.
-#[tactic(auto, using(scad_expr::proofs::OpenFrames::inner), unfolding(crate::specs::Opened::dollars_of))]
+#[tactic(auto, using(scad_machine::proofs::OpenFrames::inner), unfolding(crate::specs::Opened::dollars_of))]
 fn set_dollar<'p>(
     alloc: Global,
     arg: &Arg,
@@ -200,7 +200,7 @@ fn set_dollars<'p>(
 
 /// Opens the frames of a call of a module of the language, with the `$` names among its arguments. Gives the
 /// number of the frame from which names were sought before.
-#[tactic(auto, using(scad_expr::proofs::OpenFrames::inner))]
+#[tactic(auto, using(scad_machine::proofs::OpenFrames::inner))]
 pub(crate) fn open_known<'p>(
     alloc: Global,
     args: &'p Args,

@@ -28,7 +28,7 @@ use scad_tree::Tree;
 use std::alloc::Global;
 
 /// The tree of a hull's children has neither an intersection nor a difference.
-#[tactic(auto, unfolding(crate::specs::Hulls::judge_united, scad_expr::specs::State::fault_of))]
+#[tactic(auto, unfolding(crate::specs::Hulls::judge_united, scad_machine::specs::State::fault_of))]
 fn judge_united(alloc: Global, at: Place, name: &[u8], tree: &Tree) -> Result<(), EvalFault>
     ensures { (s : State) → Does nothing (judge_united at name.now (solid_of tree.now) s) result s }
 {
@@ -165,7 +165,7 @@ struct Stand {
 }
 
 /// A hull of the points of profiles.
-#[tactic(auto, unfolding(crate::specs::Hulls::turned_hull, scad_expr::specs::Machine::state_of))]
+#[tactic(auto, unfolding(crate::specs::Hulls::turned_hull, scad_machine::specs::Machine::state_of))]
 fn turned_hull<'p>(
     stand: Stand,
     t: &Turning,

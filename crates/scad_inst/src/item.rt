@@ -48,7 +48,7 @@ pub(crate) fn is_marked(item: &Item) -> bool
 }
 
 /// How many statements a scope has.
-#[tactic(auto, using(scad_expr::proofs::Homes::left))]
+#[tactic(auto, using(scad_machine::proofs::Homes::left))]
 pub(crate) fn statements(scope: &Scope) -> usize
     ensures { result ≡ statements (items scope.now.items) }
 {
@@ -62,7 +62,7 @@ pub(crate) fn statements(scope: &Scope) -> usize
 }
 
 /// The statement of a number, from 0.
-#[tactic(auto, using(scad_expr::proofs::Homes::left))]
+#[tactic(auto, using(scad_machine::proofs::Homes::left))]
 pub(crate) fn child_at<'p>(scope: &'p Scope, n: usize) -> Option<&'p Item>
     ensures { option_map (λ i. item_of i.now) result ≡ child_at (items scope.now.items) n }
 {

@@ -30,7 +30,7 @@ const LEAF_LIMIT: u32 = 4096;
 pub(crate) const TRIANGLE_LIMIT: u64 = 200_000;
 
 /// Counts a leaf.
-#[tactic(auto, unfolding(crate::specs::Made::count_leaf, scad_expr::specs::State::over, scad_expr::specs::Machine::state_of, scad_expr::specs::Machine::held))]
+#[tactic(auto, unfolding(crate::specs::Made::count_leaf, scad_machine::specs::State::over, scad_machine::specs::Machine::state_of, scad_machine::specs::Machine::held))]
 pub(crate) fn count_leaf<'p>(at: Place, m: &mut Machine<'p>) -> Result<(), EvalFault>
     ensures does { Does nothing (count_leaf at (state_of m.old)) result (state_of m.new) }
     ensures kept { held m.new ≡ held m.old }
@@ -43,7 +43,7 @@ pub(crate) fn count_leaf<'p>(at: Place, m: &mut Machine<'p>) -> Result<(), EvalF
 }
 
 /// Counts so many triangles of a leaf, also where they are 2^64 - 1 because they are more.
-#[tactic(auto, unfolding(crate::specs::Made::count_triangles, scad_expr::specs::State::over, scad_expr::specs::Machine::state_of, scad_expr::specs::Machine::held))]
+#[tactic(auto, unfolding(crate::specs::Made::count_triangles, scad_machine::specs::State::over, scad_machine::specs::Machine::state_of, scad_machine::specs::Machine::held))]
 pub(crate) fn count_triangles<'p>(
     count: u64,
     at: Place,
@@ -61,7 +61,7 @@ pub(crate) fn count_triangles<'p>(
 }
 
 /// Counts the triangles of a primitive.
-#[tactic(auto, unfolding(crate::specs::Made::count_triangles, scad_expr::specs::State::over))]
+#[tactic(auto, unfolding(crate::specs::Made::count_triangles, scad_machine::specs::State::over))]
 fn count_primitive<'p>(p: &Primitive, at: Place, m: &mut Machine<'p>) -> Result<(), EvalFault>
     requires { is_primitive (primitive p.now) ≡ true }
     ensures does { Does nothing (count_triangles (triangles_in (primitive p.now)) at (state_of m.old)) result
@@ -73,7 +73,7 @@ fn count_primitive<'p>(p: &Primitive, at: Place, m: &mut Machine<'p>) -> Result<
 }
 
 /// A placed solid as a tree, or why there is none.
-#[tactic(auto, unfolding(crate::specs::Made::placed, scad_expr::specs::State::fault))]
+#[tactic(auto, unfolding(crate::specs::Made::placed, scad_machine::specs::State::fault))]
 pub(crate) fn placed(
     alloc: Global,
     at: Place,

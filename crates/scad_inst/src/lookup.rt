@@ -77,7 +77,7 @@ fn module_from<'p>(
 }
 
 /// The module of a name in the innermost scope that has one.
-#[tactic(auto, unfolding(scad_expr::specs::Machine::held, scad_expr::specs::Machine::env_in, scad_expr::specs::Machine::state_of))]
+#[tactic(auto, unfolding(scad_machine::specs::Machine::held, scad_machine::specs::Machine::env_in, scad_machine::specs::Machine::state_of))]
 pub(crate) fn module_named<'p>(
     m: &mut Machine<'p>,
     name: &[u8],

@@ -13,7 +13,7 @@ use scad_tree::Tree;
 use std::alloc::AllocError;
 
 /// How many points there are.
-#[tactic(auto, unfolding(scad_expr::specs::Machine::state_of))]
+#[tactic(auto, unfolding(scad_machine::specs::Machine::state_of))]
 pub(crate) fn profile_count(m: &Machine) -> usize
     ensures { result ≡ length (state_of m.now).profiles }
 {
@@ -42,7 +42,7 @@ fn push_all(out: &mut Vec<(Num, Num)>, ring: &[(Num, Num)]) -> Result<(), AllocE
 }
 
 /// Keeps the points of a profile.
-#[tactic(auto, unfolding(scad_expr::specs::Machine::state_of, scad_expr::specs::Machine::held))]
+#[tactic(auto, unfolding(scad_machine::specs::Machine::state_of, scad_machine::specs::Machine::held))]
 pub(crate) fn keep_profile<'p>(ring: &[(Num, Num)], m: &mut Machine<'p>) -> Result<(), EvalFault>
     ensures does { Does nothing (keep_profile ring.now (state_of m.old)) result (state_of m.new) }
     ensures kept { held m.new ≡ held m.old }
@@ -52,7 +52,7 @@ pub(crate) fn keep_profile<'p>(ring: &[(Num, Num)], m: &mut Machine<'p>) -> Resu
 }
 
 /// Keeps those of a profile in place of those from a number on.
-#[tactic(auto, unfolding(scad_expr::specs::Machine::state_of, scad_expr::specs::Machine::held))]
+#[tactic(auto, unfolding(scad_machine::specs::Machine::state_of, scad_machine::specs::Machine::held))]
 pub(crate) fn replace_profiles<'p>(
     from: usize,
     ring: &[(Num, Num)],
@@ -67,7 +67,7 @@ pub(crate) fn replace_profiles<'p>(
 }
 
 /// Where the tree of a statement is empty, the points of its profiles aren't kept: there are as many as before it.
-#[tactic(auto, unfolding(crate::specs::Profiles::with_its_profiles, scad_expr::specs::Machine::state_of, scad_expr::specs::Machine::held))]
+#[tactic(auto, unfolding(crate::specs::Profiles::with_its_profiles, scad_machine::specs::Machine::state_of, scad_machine::specs::Machine::held))]
 pub(crate) fn with_its_profiles<'p>(from: usize, tree: &Tree, m: &mut Machine<'p>)
     ensures does { with_its_profiles from (solid_of tree.now) (state_of m.old) ≡ gives (solid_of tree.now) (state_of
         m.new) }

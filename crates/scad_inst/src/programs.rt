@@ -82,7 +82,7 @@ fn first_dollars<'p>(alloc: Global) -> Result<Frames<'p>, EvalFault>
 }
 
 /// The machine before a program: the names outside of it, and all limits whole.
-#[tactic(auto, using(crate::proofs::FirstFrames::first), unfolding(scad_expr::specs::Machine::held, scad_expr::specs::Machine::env_in, scad_expr::specs::Machine::along_in, scad_expr::specs::Machine::state_of))]
+#[tactic(auto, using(crate::proofs::FirstFrames::first), unfolding(scad_machine::specs::Machine::held, scad_machine::specs::Machine::env_in, scad_machine::specs::Machine::along_in, scad_machine::specs::Machine::state_of))]
 pub(crate) fn first_machine<'p>(alloc: Global) -> Result<Machine<'p>, EvalFault>
     ensures env { IfOk result (λ m. env_in (held m) ≡ first_env) }
     ensures along { IfOk result (λ m. along_in (held m) ≡ first_along) }
@@ -120,7 +120,7 @@ fn tree_of<'p>(alloc: Global, scope: &'p Scope, m: &mut Machine<'p>) -> Result<T
 }
 
 /// What a machine gives that made a tree or not.
-#[tactic(auto, unfolding(scad_expr::specs::Machine::state_of))]
+#[tactic(auto, unfolding(scad_machine::specs::Machine::state_of))]
 fn answer(tree: Result<Tree, EvalFault>, echoes: Vec<Text>) -> Result<Model, ModelEnd>
     ensures { (s : State) (outcome : Outcome Solid) → s.echoes ≡ echoes.items
         → Does solid_of outcome tree s → Makes outcome result }
@@ -146,7 +146,7 @@ fn made_in<'p>(alloc: Global, program: &'p Program, m: Machine<'p>) -> Result<Mo
 }
 
 /// The lines of `echo`.
-#[tactic(auto, unfolding(scad_expr::specs::Machine::state_of))]
+#[tactic(auto, unfolding(scad_machine::specs::Machine::state_of))]
 fn echoes_of(m: Machine) -> Vec<Text>
     ensures { result.items ≡ (state_of m.entry).echoes }
 {

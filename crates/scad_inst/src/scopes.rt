@@ -23,7 +23,7 @@ use scad_value::Value;
 use std::alloc::Global;
 
 /// The value of an assignment: it takes a step, and its expression stands one deeper.
-#[tactic(auto, using(crate::proofs::Levels::levels, crate::proofs::Levels::back), unfolding(scad_expr::specs::State::over))]
+#[tactic(auto, using(crate::proofs::Levels::levels, crate::proofs::Levels::back), unfolding(scad_machine::specs::State::over))]
 fn assignment<'p>(
     alloc: Global,
     at: Place,

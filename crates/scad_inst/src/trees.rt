@@ -29,7 +29,7 @@ fn operated(alloc: Global, operation: Operation, members: Vec<Tree>) -> Result<T
 }
 
 /// Depth where the parts of the tree lie too deep in one another.
-#[tactic(auto, unfolding(crate::specs::Made::judged, scad_expr::specs::State::over))]
+#[tactic(auto, unfolding(crate::specs::Made::judged, scad_machine::specs::State::over))]
 fn judged(at: Place, tree: Tree) -> Result<Tree, EvalFault>
     ensures { (s : State) → Does solid_of (judged at (solid_of tree) s) result s }
 {

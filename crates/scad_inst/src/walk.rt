@@ -31,7 +31,7 @@ use scad_value::truth;
 
 /// A statement takes a step as it begins, with the levels of depth that the machine has left for it, and what it
 /// holds or calls stands one deeper.
-#[tactic(auto, using(crate::proofs::Levels::levels), unfolding(scad_expr::specs::State::over))]
+#[tactic(auto, using(crate::proofs::Levels::levels), unfolding(scad_machine::specs::State::over))]
 pub(crate) fn statement<'p>(
     item: &'p Item,
     w: &Where,
