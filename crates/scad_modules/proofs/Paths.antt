@@ -47,5 +47,3 @@ pub paths-stops : (points : List Pair) (made : List Outline) (all : List Value) 
 paths-stops points made all i v e below is r =
     ap (paths_onto points (outlines made)) (elements-drop all i v below is) ∙ ap
     (λ r. and_then r (λ q. paths_onto points (outlines made ++ q ∷ []) (elements (drop (i + 1) all)))) r
-
-pub ruleset paths = (paths-goes, paths-stops)

@@ -30,8 +30,6 @@ pub profile-ends : (m : Matrix) (so_far ring : List Pair) (i : ℕ) → length r
     → profile_onto m so_far (drop i ring) ≡ Ok so_far
 profile-ends m so_far ring i past = ap (profile_onto m so_far) (drop_all i ring past)
 
-pub ruleset points = (profile-goes, profile-stops, profile-ends)
-
 -- how far the points left are from the axis
 pub farthest-drop : (ring : List Pair) (i : ℕ) (p : Pair) → i < length ring → p ≡ get_or ring i p
     → farthest (drop i ring) ≡ max (unsigned_abs p.0) (farthest (drop (i + 1) ring))

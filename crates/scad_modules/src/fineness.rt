@@ -4,7 +4,7 @@ use scad_num::Num;
 use scad_value::Value;
 
 /// The values of `$fn`, `$fa` and `$fs` where a circle is made.
-#[derive(Debug, Drop)]
+#[derive(Drop)]
 pub struct Fineness {
     pub fn_: Value,
     pub fa: Value,

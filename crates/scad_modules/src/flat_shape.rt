@@ -13,7 +13,7 @@ use crate::argument::taken;
 use crate::fault::ArgumentFault;
 use crate::fineness::Fineness;
 use crate::module::Flat;
-use crate::outline::Outline;
+use crate::outline::{Outline, alone};
 use crate::polygons::polygon_by;
 use crate::reading::{Pair, if_size, is_true, pair};
 use crate::shape::{common_radius, fragments};
@@ -76,9 +76,7 @@ fn square_by(
     ensures outlines { IfOk result (λ v. list_all is_outline (outlines v.items) ≡ true) }
 {
     let (x, y) = flat_sizes(size)?;
-    let mut outlines = Vec::new(alloc);
-    outlines.push(Outline::Rectangle(x, y, is_true(center)))?;
-    Ok(outlines)
+    alone(alloc, Outline::Rectangle(x, y, is_true(center)))
 }
 
 /// `circle(r, d)`.
@@ -94,9 +92,7 @@ fn circle_by(
 {
     let radius = common_radius(d, r)?;
     let n = fragments(fine, radius)?;
-    let mut outlines = Vec::new(alloc);
-    outlines.push(Outline::Circle(radius, n))?;
-    Ok(outlines)
+    alone(alloc, Outline::Circle(radius, n))
 }
 
 /// The outlines that the arguments of a flat shape say: it is the first without the others. A value that is

@@ -1,15 +1,17 @@
 //! Flat shapes with their sizes.
 
-ghost use Rattle.std.specs.Prelude.{◌≡◌, ◌≤◌, IfOk, true, length};
+ghost use Rattle.std.specs.Prelude.{◌≡◌, ◌≤◌, ◌∷◌, [], IfOk, Ok, true, length};
+ghost use Rattle.std.specs.List.{list_all};
 ghost use Rattle.scad_modules.specs.Outline.{ring_of, is_outline, points_in};
-ghost use Rattle.scad_modules.specs.View.{outline};
+ghost use Rattle.scad_modules.specs.View.{outline, outlines, Reads};
 
+use crate::fault::ArgumentFault;
 use scad_extrude::{circle_ring, square_ring};
 use scad_num::Num;
 use std::alloc::{AllocError, Global};
 
 /// The outline of a flat shape, before it is placed.
-#[derive(Debug, Drop)]
+#[derive(Drop)]
 pub enum Outline {
     /// The sizes along x and y, centred or not.
     Rectangle(Num, Num, bool),
@@ -17,6 +19,17 @@ pub enum Outline {
     Circle(Num, u32),
     /// The points in order.
     Path(Vec<(Num, Num)>),
+}
+
+/// An outline without others.
+pub(crate) fn alone(alloc: Global, shape: Outline) -> Result<Vec<Outline>, ArgumentFault>
+    requires { is_outline (outline shape) ≡ true }
+    ensures reads { Reads (λ v. outlines v.items) (Ok (outline shape ∷ [])) result }
+    ensures outlines { IfOk result (λ v. list_all is_outline (outlines v.items) ≡ true) }
+{
+    let mut outlines = Vec::new(alloc);
+    outlines.push(shape)?;
+    Ok(outlines)
 }
 
 /// How many points the outline has.

@@ -12,7 +12,7 @@ ghost use Rattle.scad_modules.specs.Primitive.{is_face};
 ghost use Rattle.scad_modules.specs.View.{datum_in, outline, outlines, Reads};
 
 use crate::fault::ArgumentFault;
-use crate::outline::Outline;
+use crate::outline::{Outline, alone};
 use crate::polyhedra::{face, three_indices};
 use crate::reading::{Pair, needed, pair, vector};
 use scad_solid::Face;
@@ -20,7 +20,6 @@ use scad_value::{Value, number_of};
 use std::alloc::{AllocError, Global};
 
 /// The points that values are.
-#[tactic(auto, using(scad_value::proofs::Rows::left, crate::proofs::Onto::pairs))]
 fn pairs(alloc: Global, all: &[Value]) -> Result<Vec<Pair>, ArgumentFault>
     ensures { Reads (λ v. v.items) (pairs_onto [] (elements all.now)) result }
 {
@@ -73,9 +72,7 @@ fn one_path(alloc: Global, points: &[Pair], all: &[Value]) -> Result<Vec<Outline
 {
     let indices = three_indices(alloc, points.len(), all)?;
     let path = path(alloc, points, indices)?;
-    let mut paths = Vec::new(alloc);
-    paths.push(path)?;
-    Ok(paths)
+    alone(alloc, path)
 }
 
 /// The path that a value is.
@@ -88,7 +85,6 @@ fn path_in(alloc: Global, points: &[Pair], value: &Value) -> Result<Outline, Arg
 }
 
 /// The paths that values are.
-#[tactic(auto, using(scad_value::proofs::Rows::left, crate::proofs::Paths::paths))]
 fn paths(alloc: Global, points: &[Pair], all: &[Value]) -> Result<Vec<Outline>, ArgumentFault>
     ensures reads { Reads (λ v. outlines v.items) (paths_onto points.now [] (elements all.now)) result }
     ensures outlines { IfOk result (λ v. list_all is_outline (outlines v.items) ≡ true) }
@@ -144,9 +140,7 @@ fn whole_path(alloc: Global, points: Vec<Pair>) -> Result<Vec<Outline>, Argument
     if points.len() < 3 {
         return Err(ArgumentFault::BadArgument);
     }
-    let mut paths = Vec::new(alloc);
-    paths.push(Outline::Path(points))?;
-    Ok(paths)
+    alone(alloc, Outline::Path(points))
 }
 
 fn paths_of(

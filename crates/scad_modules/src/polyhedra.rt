@@ -17,7 +17,6 @@ use scad_value::Value;
 use std::alloc::Global;
 
 /// The points that values are.
-#[tactic(auto, using(scad_value::proofs::Rows::left, crate::proofs::Onto::points))]
 fn points(alloc: Global, all: &[Value]) -> Result<Vec<Triple>, ArgumentFault>
     ensures { Reads (λ v. v.items) (points_onto [] (elements all.now)) result }
 {
@@ -72,7 +71,6 @@ fn index(limit: usize, value: &Value) -> Result<u32, ArgumentFault>
 }
 
 /// The indices that values are.
-#[tactic(auto, using(scad_value::proofs::Rows::left, crate::proofs::Onto::indices))]
 fn indices(alloc: Global, limit: usize, all: &[Value]) -> Result<Vec<u32>, ArgumentFault>
     ensures reads { Reads (λ v. v.items) (indices_onto limit [] (elements all.now)) result }
     ensures named { IfOk result (λ v. names_points limit v.items ≡ true) }
@@ -112,7 +110,6 @@ pub(crate) fn face(alloc: Global, limit: usize, value: &Value) -> Result<Face, A
 }
 
 /// The faces that values are.
-#[tactic(auto, using(scad_value::proofs::Rows::left, crate::proofs::Onto::faces))]
 fn faces(alloc: Global, limit: usize, all: &[Value]) -> Result<Vec<Face>, ArgumentFault>
     ensures reads { Reads (λ v. v.items) (faces_onto limit [] (elements all.now)) result }
     ensures faces { IfOk result (λ v. list_all (is_face limit) v.items ≡ true) }

@@ -4,7 +4,7 @@ use scad_num::Num;
 use scad_solid::Face;
 
 /// A primitive solid, before it is placed.
-#[derive(Debug, Drop)]
+#[derive(Drop)]
 pub enum Primitive {
     /// The sizes along x, y and z, centred or not.
     Cube(Num, Num, Num, bool),

@@ -27,7 +27,6 @@ fn profile_point(m: &Matrix, p: Pair) -> Result<Pair, ArgumentFault>
 
 /// The points of an outline, placed by the matrix of a profile, in millionths. NumberRange where a number
 /// passes 10^15 of them in size.
-#[tactic(auto, using(crate::proofs::Profiles::points))]
 pub fn profile_of(
     alloc: Global,
     m: &Matrix,
