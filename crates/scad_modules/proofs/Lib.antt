@@ -5,4 +5,5 @@ pub mod Onto
 pub mod Outlines
 pub mod Paths
 pub mod Profiles
+pub mod Takes
 mod Meanings

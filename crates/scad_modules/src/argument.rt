@@ -60,7 +60,6 @@ fn counted(i: usize, arg: &Arg) -> usize
 }
 
 /// What the parameter takes of all arguments.
-#[tactic(auto, using(scad_value::proofs::Lists::lists))]
 fn last_taken<'a>(
     place: Option<usize>,
     name: &[u8],
