@@ -21,19 +21,19 @@ pub paths-preserved : goal.paths-preserved
 paths-preserved c = record {
   onto =
       ap (λ so_far. paths_onto c.args.points.now (outlines so_far) (elements (drop (c.paths.value-index + 1)
-          c.args.all.now))) c.in_ok-push.ensures.items
+      c.args.all.now))) c.in_ok-push.ensures.items
       ∙ paths-goes c.args.points.now c.paths.paths.items c.args.all.now c.paths.value-index c.value-item.result _
-          c.paths-test.true c.value-item.is c.in_ok-path.ensures.reads
+      c.paths-test.true c.value-item.is c.in_ok-path.ensures.reads
       ∙ c.paths.invariant.onto;
   outlines =
       ap (λ made. list_all is_outline (outlines made)) c.in_ok-push.ensures.items
       ∙ ap (list_all is_outline) (outlines-push c.paths.paths.items c.in_ok-path.path)
       ∙ all-more is_outline (outlines c.paths.paths.items) (outline c.in_ok-path.path) c.paths.invariant.outlines
-          c.in_ok-path.ensures.outline;
+      c.in_ok-path.ensures.outline;
 }
 
 pub returns-clause-reads : goal.returns-clause-reads
 returns-clause-reads c =
     sym c.paths.invariant.onto
     ∙ ap (paths_onto c.args.points.now (outlines c.paths.paths.items)) (elements-drop_all c.args.all.now
-        c.paths.value-index c.paths-test.false)
+    c.paths.value-index c.paths-test.false)

@@ -18,9 +18,9 @@ pub faces-preserved : goal.faces-preserved
 faces-preserved c = record {
   onto =
       ap (λ so_far. faces_onto c.args.limit so_far (elements (drop (c.faces.value-index + 1) c.args.all.now)))
-          c.in_ok-push.ensures.items
+      c.in_ok-push.ensures.items
       ∙ faces-goes c.args.limit c.faces.faces.items c.args.all.now c.faces.value-index c.value-item.result _
-          c.faces-test.true c.value-item.is c.in_ok-face.ensures.reads
+      c.faces-test.true c.value-item.is c.in_ok-face.ensures.reads
       ∙ c.faces.invariant.onto;
   named =
       ap (list_all (is_face c.args.limit)) c.in_ok-push.ensures.items
@@ -32,4 +32,4 @@ pub returns-clause-reads : goal.returns-clause-reads
 returns-clause-reads c =
     sym c.faces.invariant.onto
     ∙ ap (faces_onto c.args.limit c.faces.faces.items) (elements-drop_all c.args.all.now c.faces.value-index
-        c.faces-test.false)
+    c.faces-test.false)

@@ -19,14 +19,14 @@ pub indices-preserved : goal.indices-preserved
 indices-preserved c = record {
   onto =
       ap (λ so_far. indices_onto c.args.limit so_far (elements (drop (c.indices.value-index + 1) c.args.all.now)))
-          c.in_ok-push.ensures.items
+      c.in_ok-push.ensures.items
       ∙ indices-goes c.args.limit c.indices.indices.items c.args.all.now c.indices.value-index c.value-item.result _
-          c.indices-test.true c.value-item.is c.in_ok-index.ensures.value
+      c.indices-test.true c.value-item.is c.in_ok-index.ensures.value
       ∙ c.indices.invariant.onto;
   named =
       ap (names_points c.args.limit) c.in_ok-push.ensures.items
       ∙ all-more _ c.indices.indices.items c.in_ok-index.index c.indices.invariant.named
-          (lt-ltb c.in_ok-index.index c.args.limit c.in_ok-index.ensures.below);
+      (lt-ltb c.in_ok-index.index c.args.limit c.in_ok-index.ensures.below);
   count = one-more _ c.indices.indices.items _ _ c.in_ok-push.ensures.items c.indices.invariant.count;
 }
 
@@ -34,4 +34,4 @@ pub returns-clause-reads : goal.returns-clause-reads
 returns-clause-reads c =
     sym c.indices.invariant.onto
     ∙ ap (indices_onto c.args.limit c.indices.indices.items) (elements-drop_all c.args.all.now c.indices.value-index
-        c.indices-test.false)
+    c.indices-test.false)

@@ -16,9 +16,9 @@ pub points-preserved : goal.points-preserved
 points-preserved c = record {
   onto =
       ap (λ so_far. points_onto so_far (elements (drop (c.points.value-index + 1) c.args.all.now)))
-          c.in_ok-push.ensures.items
+      c.in_ok-push.ensures.items
       ∙ points-goes c.points.points.items c.args.all.now c.points.value-index c.value-item.result _ c.points-test.true
-          c.value-item.is c.in_ok-point.ensures
+      c.value-item.is c.in_ok-point.ensures
       ∙ c.points.invariant.onto;
 }
 

@@ -16,9 +16,9 @@ pub points-preserved : goal.points-preserved
 points-preserved c = record {
   onto =
       ap (λ so_far. profile_onto c.args.m.now so_far (drop (c.points.point-index + 1) c.args.ring.now))
-          c.in_ok-push.ensures.items
+      c.in_ok-push.ensures.items
       ∙ profile-goes c.args.m.now c.points.profile.items c.args.ring.now c.points.point-index c.point-item.result _
-          c.points-test.true c.point-item.is c.in_ok-placed.ensures
+      c.points-test.true c.point-item.is c.in_ok-placed.ensures
       ∙ c.points.invariant.onto;
   count = one-more _ c.points.profile.items _ _ c.in_ok-push.ensures.items c.points.invariant.count;
 }
