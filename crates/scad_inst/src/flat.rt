@@ -14,6 +14,7 @@ ghost use Rattle.scad_expr.specs.Machine.{held, state_of};
 ghost use Rattle.scad_expr.specs.State.{State};
 ghost use Rattle.scad_inst.specs.FlatLeaves.{linear_leaf, judge_points, judge_sides, swept, turned_leaf, leaf_in, flat_leaves};
 ghost use Rattle.scad_inst.specs.Made.{count_triangles};
+ghost use Rattle.scad_inst.specs.Portions.{profile_made, profile_turned};
 ghost use Rattle.scad_inst.specs.View.{trees_in};
 
 use crate::arguments::profile_argued;
@@ -44,26 +45,36 @@ fn count_prism<'p>(points: usize, at: Place, m: &mut Machine<'p>) -> Result<(), 
     count_triangles(triangles_of(&FlatForm::Linear(points as u32)), at, m)
 }
 
+/// An outline that is a leaf: where its shape was called, and the matrix that places it.
+#[derive(Clone, Copy)]
+struct FlatLeaf<'a> {
+    at: Place,
+    shape: &'a Outline,
+    whole: &'a Matrix,
+}
+
 /// A leaf inside `linear_extrude`: it is counted, then its triangles, and then it is placed.
 #[tactic(auto, unfolding(crate::specs::FlatLeaves::linear_leaf))]
 fn linear_leaf<'p>(
     alloc: Global,
-    at: Place,
-    shape: &Outline,
+    leaf: FlatLeaf,
     height: Num,
     center: bool,
-    whole: &Matrix,
     m: &mut Machine<'p>,
 ) -> Result<Tree, EvalFault>
-    requires { is_outline (outline shape.now) ≡ true }
-    ensures does { Does solid_of (linear_leaf at (outline shape.now) height center whole.now (state_of m.old)) result
-        (state_of m.new) }
+    requires { is_outline (outline leaf.shape.now) ≡ true }
+    ensures does { Does solid_of (linear_leaf leaf.entry.at (outline leaf.entry.shape.now) height center
+        leaf.entry.whole.now (state_of m.old)) result (state_of m.new) }
     ensures kept { held m.new ≡ held m.old }
 {
-    count_leaf(at, m)?;
-    count_prism(points_in(shape), at, m)?;
-    let ring = ring_of(alloc, shape)?;
-    placed(alloc, at, linear(alloc, &ring, height, center, whole))
+    count_leaf(leaf.at, m)?;
+    count_prism(points_in(leaf.shape), leaf.at, m)?;
+    let ring = ring_of(alloc, leaf.shape)?;
+    placed(
+        alloc,
+        leaf.at,
+        linear(alloc, &ring, height, center, leaf.whole),
+    )
 }
 
 /// The points of an outline are at most as many as all leaves have triangles.
@@ -128,30 +139,63 @@ pub(crate) fn swept<'p>(
     placed(alloc, at, turned(alloc, ring, turns, whole))
 }
 
-/// A leaf inside `rotate_extrude`: it is counted, then the points of its outline are judged; the outline is
-/// placed as a profile, which is judged in its turn, kept for a hull and turned.
-#[tactic(auto, unfolding(crate::specs::FlatLeaves::turned_leaf))]
-fn turned_leaf<'p>(
+/// The outline of a leaf, placed as a profile.
+#[tactic(auto, unfolding(crate::specs::Portions::profile_made))]
+fn profile_made(
+    alloc: Global,
+    leaf: FlatLeaf,
+    name: &[u8],
+    by: &Matrix,
+) -> Result<Vec<(Num, Num)>, EvalFault>
+    requires { is_outline (outline leaf.shape.now) ≡ true }
+    ensures does { (s : State) → Does (λ v. v.items) (profile_made leaf.entry.at name.now (outline
+        leaf.entry.shape.now) by.now s) result s }
+    ensures count { IfOk result (λ v. length v.items ≡ count_of (outline leaf.entry.shape.now)) }
+    ensures some { IfOk result (λ v. 3 ≤ length v.items) }
+{
+    let ring = ring_of(alloc, leaf.shape)?;
+    profile_argued(alloc, leaf.at, name, profile_of(alloc, by, &ring))
+}
+
+/// A placed profile is judged, kept for a hull and turned.
+#[tactic(auto, unfolding(crate::specs::Portions::profile_turned))]
+fn profile_turned<'p>(
     alloc: Global,
     at: Place,
-    name: &[u8],
-    shape: &Outline,
+    ring: &[(Num, Num)],
     t: &Turning,
     whole: &Matrix,
     m: &mut Machine<'p>,
 ) -> Result<Tree, EvalFault>
-    requires { is_outline (outline shape.now) ≡ true }
-    ensures does { Does solid_of (turned_leaf at name.now (outline shape.now) t.now whole.now (state_of m.old)) result
-        (state_of m.new) }
+    requires some { 3 ≤ length ring.now }
+    requires few { length ring.now ≤ triangle_limit }
+    ensures does { Does solid_of (profile_turned at ring.now t.now whole.now (state_of m.old)) result (state_of m.new) }
     ensures kept { held m.new ≡ held m.old }
 {
-    count_leaf(at, m)?;
-    judge_points(at, points_in(shape))?;
-    let ring = ring_of(alloc, shape)?;
-    let profile = profile_argued(alloc, at, name, profile_of(alloc, &t.profile, &ring))?;
-    judge_sides(alloc, t.word, &profile)?;
-    keep_profile(&profile, m)?;
-    swept(alloc, at, &profile, t, whole, m)
+    judge_sides(alloc, t.word, ring)?;
+    keep_profile(ring, m)?;
+    swept(alloc, at, ring, t, whole, m)
+}
+
+/// A leaf inside `rotate_extrude`: it is counted, then the points of its outline are judged; the outline is
+/// placed as a profile, which is judged in its turn, kept for a hull and turned.
+#[tactic(auto, unfolding(crate::specs::FlatLeaves::turned_leaf, crate::specs::Portions::profile_made, crate::specs::Portions::profile_turned))]
+fn turned_leaf<'p>(
+    alloc: Global,
+    leaf: FlatLeaf,
+    name: &[u8],
+    t: &Turning,
+    m: &mut Machine<'p>,
+) -> Result<Tree, EvalFault>
+    requires { is_outline (outline leaf.shape.now) ≡ true }
+    ensures does { Does solid_of (turned_leaf leaf.entry.at name.now (outline leaf.entry.shape.now) t.now
+        leaf.entry.whole.now (state_of m.old)) result (state_of m.new) }
+    ensures kept { held m.new ≡ held m.old }
+{
+    count_leaf(leaf.at, m)?;
+    judge_points(leaf.at, points_in(leaf.shape))?;
+    let profile = profile_made(alloc, leaf, name, &t.profile)?;
+    profile_turned(alloc, leaf.at, &profile, t, leaf.whole, m)
 }
 
 /// The leaf of an outline.
@@ -169,12 +213,12 @@ fn leaf_in<'p>(
         result (state_of m.new) }
     ensures kept { held m.new ≡ held m.old }
 {
+    let whole = &w.whole;
+    let leaf = FlatLeaf { at, shape, whole };
     match w.space {
         Space::Solid => Err(fault(alloc, FaultKind::MixedDimensions, at)),
-        Space::Linear(height, center) => {
-            linear_leaf(alloc, at, shape, height, center, &w.whole, m)
-        }
-        Space::Turned(t) => turned_leaf(alloc, at, name, shape, &t, &w.whole, m),
+        Space::Linear(height, center) => linear_leaf(alloc, leaf, height, center, m),
+        Space::Turned(t) => turned_leaf(alloc, leaf, name, &t, m),
     }
 }
 

@@ -1,6 +1,6 @@
 //! Hulls of the trees of statements, with their budgets.
 
-ghost use Rattle.std.specs.Prelude.{◌≡◌, ◌<◌, ◌≤◌, IfOk, IfSome, drop, length};
+ghost use Rattle.std.specs.Prelude.{◌≡◌, ◌<◌, ◌≤◌, IfOk, IfSome, Some, drop, length};
 ghost use Rattle.scad_hull.specs.Faces.{hull_of};
 ghost use Rattle.scad_hull.specs.Flat.{ring_hull_of};
 ghost use Rattle.scad_tree.specs.Points.{points_of};
@@ -22,6 +22,7 @@ use scad_fault::{BudgetKind, FaultKind, Place};
 use scad_hull::laws::rings_are_convex;
 use scad_hull::{HullFault, Ring2, hull, ring_hull};
 use scad_matrix::Matrix;
+use scad_num::Num;
 use scad_solid::Triangles;
 use scad_tree::Tree;
 use std::alloc::Global;
@@ -120,6 +121,27 @@ fn hull_profile<'p>(
     stand: Stand,
     t: &Turning,
     alloc: Global,
+    points: &[(Num, Num)],
+    m: &mut Machine<'p>,
+) -> Result<Tree, EvalFault>
+    requires { 3 ≤ length points.now }
+    ensures does { Does solid_of (hull_profile stand.at stand.from t.now stand.whole (Some points.now) (state_of
+        m.old)) result (state_of m.new) }
+    ensures kept { held m.new ≡ held m.old }
+{
+    count_leaf(stand.at, m)?;
+    judge_points(stand.at, points.len())?;
+    judge_sides(alloc, t.word, points)?;
+    replace_profiles(stand.from, points, m)?;
+    swept(alloc, stand.at, points, t, &stand.whole, m)
+}
+
+/// No hull is no profile.
+#[tactic(auto, unfolding(crate::specs::Hulls::hull_profile))]
+fn hull_turned<'p>(
+    stand: Stand,
+    t: &Turning,
+    alloc: Global,
     found: Option<Ring2>,
     m: &mut Machine<'p>,
 ) -> Result<Tree, EvalFault>
@@ -128,15 +150,10 @@ fn hull_profile<'p>(
         (state_of m.new) }
     ensures kept { held m.new ≡ held m.old }
 {
-    let Some(ring) = found else {
-        return Ok(Tree::empty());
-    };
-    let points = ring.as_slice();
-    count_leaf(stand.at, m)?;
-    judge_points(stand.at, points.len())?;
-    judge_sides(alloc, t.word, points)?;
-    replace_profiles(stand.from, points, m)?;
-    swept(alloc, stand.at, points, t, &stand.whole, m)
+    match found {
+        Some(ring) => hull_profile(stand, t, alloc, ring.as_slice(), m),
+        None => Ok(Tree::empty()),
+    }
 }
 
 /// Where a hull inside `rotate_extrude` stands, and the number from which on the points of profiles are its own.
@@ -160,7 +177,7 @@ fn turned_hull<'p>(
     ensures kept { held m.new ≡ held m.old }
 {
     let found = ring_round(alloc, stand.at, stand.from, m)?;
-    hull_profile(stand, t, alloc, found, m)
+    hull_turned(stand, t, alloc, found, m)
 }
 
 /// The hull of the tree of its children.
