@@ -1,9 +1,11 @@
 pub mod Angles
 pub mod Faces
 pub mod Fragments
+pub mod Matrices
 pub mod Onto
 pub mod Outlines
 pub mod Paths
 pub mod Profiles
 pub mod Takes
+pub mod Vectors
 mod Meanings

@@ -14,7 +14,7 @@ ghost use Rattle.scad_modules.specs.View.{datum_in, outline, outlines, Reads};
 use crate::fault::ArgumentFault;
 use crate::outline::{Outline, alone};
 use crate::polyhedra::{face, three_indices};
-use crate::reading::{Pair, needed, pair, vector};
+use crate::reading::{Pair, given_vector, pair, vector};
 use scad_solid::Face;
 use scad_value::{Value, number_of};
 use std::alloc::{AllocError, Global};
@@ -158,6 +158,7 @@ fn paths_of(
 }
 
 /// `polygon(points, paths)`.
+#[tactic(auto, using(crate::proofs::Vectors::vectors))]
 pub(crate) fn polygon_by(
     alloc: Global,
     points: Option<&Value>,
@@ -167,6 +168,6 @@ pub(crate) fn polygon_by(
         result }
     ensures outlines { IfOk result (λ v. list_all is_outline (outlines v.items) ≡ true) }
 {
-    let points = some_pairs(alloc, vector(needed(points)?)?)?;
+    let points = some_pairs(alloc, given_vector(points)?)?;
     paths_of(alloc, points, paths)
 }

@@ -2,6 +2,7 @@
 
 ghost use Rattle.std.specs.Prelude.{◌≡◌, ◌<◌, ◌^◌, length, [], option_map};
 ghost use Rattle.std.specs.Result.{result_map_both};
+ghost use Rattle.scad_base.specs.Results.{and_then};
 ghost use Rattle.scad_num.specs.Rounding.{half_away};
 ghost use Rattle.scad_value.specs.View.{datum_of, elements};
 ghost use Rattle.scad_modules.specs.Reading.{as_number, as_vector, if_size, size_of, needed, truth_of, number_at, triple_at};
@@ -63,6 +64,17 @@ pub(crate) fn needed(given: Option<&Value>) -> Result<&Value, ArgumentFault>
     match given {
         Some(value) => Ok(value),
         None => Err(ArgumentFault::BadArgument),
+    }
+}
+
+/// The elements of a vector that has to be given.
+pub(crate) fn given_vector(given: Option<&Value>) -> Result<&[Value], ArgumentFault>
+    ensures { result_map_both (λ all. elements all.now) (λ e. e) result
+        ≡ and_then (needed (datum_in given.entry)) as_vector }
+{
+    match needed(given) {
+        Ok(value) => vector(value),
+        Err(why) => Err(why),
     }
 }
 

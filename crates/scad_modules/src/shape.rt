@@ -18,7 +18,7 @@ use crate::module::Shape;
 use crate::polyhedra::{some_faces, some_points};
 use crate::primitive::Primitive;
 use crate::reading::{
-    Triple, half_or, if_size, is_true, needed, number, point, radius_or, size, vector,
+    Triple, given_vector, half_or, if_size, is_true, number, point, radius_or, size,
 };
 use scad_ast::Arg;
 use scad_num::Num;
@@ -207,6 +207,7 @@ fn cylinder_by(fine: &Fineness, args: &[Arg], values: &[Value]) -> Result<Primit
 }
 
 /// A polyhedron over these points.
+#[tactic(auto, using(crate::proofs::Vectors::vectors))]
 fn faces_over(
     alloc: Global,
     points: Vec<Triple>,
@@ -215,11 +216,12 @@ fn faces_over(
     ensures reads { Reads primitive (faces_over points.items (datum_in faces.entry)) result }
     ensures primitive { IfOk result (λ p. is_primitive (primitive p) ≡ true) }
 {
-    let faces = some_faces(alloc, points.len(), vector(needed(faces)?)?)?;
+    let faces = some_faces(alloc, points.len(), given_vector(faces)?)?;
     Ok(Primitive::Polyhedron(points, faces))
 }
 
 /// `polyhedron(points, faces)`.
+#[tactic(auto, using(crate::proofs::Vectors::vectors))]
 fn polyhedron_by(
     alloc: Global,
     points: Option<&Value>,
@@ -228,7 +230,7 @@ fn polyhedron_by(
     ensures reads { Reads primitive (polyhedron_by (datum_in points.entry) (datum_in faces.entry)) result }
     ensures primitive { IfOk result (λ p. is_primitive (primitive p) ≡ true) }
 {
-    let points = some_points(alloc, vector(needed(points)?)?)?;
+    let points = some_points(alloc, given_vector(points)?)?;
     faces_over(alloc, points, faces)
 }
 
