@@ -9,8 +9,8 @@ use Rattle.scad_fault.specs.declared.budget.BudgetKind.{BudgetKind}
 use Rattle.scad_fault.specs.declared.budget.BudgetKind.TheVariants.{Steps, Depth, Leaves, Triangles}
 use Rattle.scad_value.specs.Datum.{Datum}
 use Rattle.scad_value.specs.Measures.{made, nesting}
-use Rattle.scad_expr.specs.declared.fault.EvalFault.{EvalFault}
-use Rattle.scad_expr.specs.declared.fault.EvalFault.TheVariants.{Fault, Over, Memory}
+use Rattle.scad_machine.specs.declared.fault.EvalFault.{EvalFault}
+use Rattle.scad_machine.specs.declared.fault.EvalFault.TheVariants.{Fault, Over, Memory}
 use Rattle.scad_expr.specs.State.{State, Outcome, gives, refuses, Action, pure, and_then, ◌>>=◌, refuse, fault}
 use Rattle.scad_expr.specs.State.{fault_of, over}
 use Rattle.scad_expr.specs.State.{take, step, make, say, step_limit, nesting_limit}

@@ -1,7 +1,7 @@
 -- The refusals that programs mean.
 use Rattle.std.specs.Prelude.{◌≢◌}
 use Rattle.scad_ast.specs.Tree.{Items}
-use Rattle.scad_expr.specs.declared.fault.EvalFault.TheVariants.{Memory}
+use Rattle.scad_machine.specs.declared.fault.EvalFault.TheVariants.{Memory}
 use Rattle.scad_expr.specs.State.{State, refuses}
 use Rattle.scad_inst.specs.Meaning.{means}
 

@@ -4,22 +4,21 @@ use Rattle.scad_ast.specs.Tree.{Arguments, Parameter}
 use Rattle.scad_value.specs.Datum.{Datum}
 use Rattle.scad_scope.specs.Env.{Env}
 use Rattle.scad_scope.specs.Stored.{StoredChildren, env_at, envs, children_in}
-use Rattle.scad_expr.specs.Arguments.{with_children, number_of_children}
-use Rattle.scad_expr.specs.Machine.{Held, along_in}
+use Rattle.scad_machine.specs.Arguments.{with_children, number_of_children}
+use Rattle.scad_machine.specs.Machine.{Held, along_in}
 use Rattle.scad_expr.specs.Meaning.{meaning, bound, bind}
 use Rattle.scad_expr.specs.Meaning.{opened as opens}
-use Rattle.scad_expr.specs.Opened.{opened, bound_in, with_count, opened_in}
-use Rattle.scad_expr.specs.State.{State, Outcome, gives, and_then}
-use Rattle.scad_expr.specs.Variables.{Bound}
-use Rattle.scad_expr.proofs.OpenFrames.{opened-bound, opened-again, call-env, call-along, call-set}
+use Rattle.scad_machine.specs.Opened.{opened, bound_in, with_count, opened_in}
+use Rattle.scad_machine.specs.State.{State, Outcome, gives, and_then}
+use Rattle.scad_machine.specs.Variables.{Bound}
+use Rattle.scad_machine.proofs.OpenFrames.{opened-bound, opened-again, call-env, call-along, call-set}
 
-pub bound-same : (depth depth0 : ℕ) (home along : Env) (ps ps0 : List Parameter) (args args0 : Arguments)
-    (found : List Datum) (s : State) → depth0 ≡ depth → ps0 ≡ ps → args0 ≡ args
-    → bound (meaning depth) home along ps
-    args found s ≡ bound (meaning depth0) home along ps0 args0 found s
-bound-same depth depth0 home along ps ps0 args args0 found s d p a =
+pub bound-same : (depth depth0 : ℕ) (home along : Env) (ps : List Parameter) (args args0 : Arguments)
+    (found : List Datum) (s : State) → depth0 ≡ depth → args0 ≡ args
+    → bound (meaning depth) home along ps args found s ≡ bound (meaning depth0) home along ps args0 found s
+bound-same depth depth0 home along ps args args0 found s d a =
     ap (λ e. bound (meaning e) home along ps args found s) (sym d)
-    ∙ ap₂ (λ q b. bound (meaning depth0) home along q b found s) (sym p) (sym a)
+    ∙ ap (λ b. bound (meaning depth0) home along ps b found s) (sym a)
 
 module _ (kept : Option StoredChildren) (home : ℕ) (h n o : Held) (was : h ≡ opened kept (length o.frames) home (bound_in h) o) (made : n ≡ with_count kept h) where
   -- the names once the children are counted

@@ -8,7 +8,7 @@ use Rattle.scad_ast.specs.View.{expression_at, expression_of}
 use Rattle.scad_fault.specs.declared.place.Place.{Place}
 use Rattle.scad_value.specs.Datum.{Datum}
 use Rattle.scad_scope.specs.Env.{Env}
-use Rattle.scad_expr.specs.State.{State, over}
+use Rattle.scad_machine.specs.State.{State, over}
 use Rattle.scad_expr.specs.Places.{place, element_place}
 use Rattle.scad_expr.specs.Meaning.{meaning, value, value_layer, element_node}
 

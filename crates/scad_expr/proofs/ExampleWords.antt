@@ -7,10 +7,10 @@ use Rattle.scad_fault.specs.declared.budget.BudgetKind.{BudgetKind}
 use Rattle.scad_ast.specs.Tree.{Expression, Parameter, Items}
 use Rattle.scad_value.specs.Datum.{Datum}
 use Rattle.scad_scope.specs.Env.{inside, frame, no_children}
-use Rattle.scad_expr.specs.declared.fault.EvalFault.{EvalFault}
-use Rattle.scad_expr.specs.declared.fault.EvalFault.TheVariants.{Fault, Over}
-use Rattle.scad_expr.specs.State.{State, Outcome}
-use Rattle.scad_expr.specs.Variables.{first_env, first_along}
+use Rattle.scad_machine.specs.declared.fault.EvalFault.{EvalFault}
+use Rattle.scad_machine.specs.declared.fault.EvalFault.TheVariants.{Fault, Over}
+use Rattle.scad_machine.specs.State.{State, Outcome}
+use Rattle.scad_machine.specs.Variables.{first_env, first_along}
 use Rattle.scad_expr.specs.Meaning.{value}
 
 -- in line 1

@@ -8,7 +8,7 @@ use Rattle.scad_ast.specs.declared.operator.BinOp.TheVariants.{Mul, Div}
 use Rattle.scad_ast.specs.Tree.{no_elements, element, item, no_items}
 use Rattle.scad_ast.specs.Tree.{boolean as boolean_at, number as number_at, string as string_at, vector as vector_at, range as range_at, stepped as stepped_at, unary as unary_at, binary as binary_at, index as index_at, member as member_at}
 use Rattle.scad_value.specs.Datum.{undef, number, string, range}
-use Rattle.scad_expr.specs.State.{start, gives, refuses}
+use Rattle.scad_machine.specs.State.{start, gives, refuses}
 use Rattle.scad_expr.proofs.OnLiterals.{expressions_on_literals}
 use Rattle.scad_expr.proofs.ExampleWords.{at, after, faulted, evaluated}
 

@@ -14,11 +14,11 @@ use Rattle.scad_value.specs.Datum.{Datum, undef, boolean, number, string, vector
 use Rattle.scad_value.specs.Index.{at_whole, indexed}
 use Rattle.scad_scope.specs.Env.{Env}
 use Rattle.scad_scope.specs.Names.{is_same_name}
-use Rattle.scad_expr.specs.declared.fault.EvalFault.{EvalFault}
-use Rattle.scad_expr.specs.declared.fault.EvalFault.TheVariants.{Memory as NoMemory}
-use Rattle.scad_expr.specs.State.{State, over, step, refuses, gives, and_then}
+use Rattle.scad_machine.specs.declared.fault.EvalFault.{EvalFault}
+use Rattle.scad_machine.specs.declared.fault.EvalFault.TheVariants.{Memory as NoMemory}
+use Rattle.scad_machine.specs.State.{State, over, step, refuses, gives, and_then}
 use Rattle.scad_expr.specs.Portions.{lone}
-use Rattle.scad_expr.specs.Variables.{variable}
+use Rattle.scad_machine.specs.Variables.{variable}
 use Rattle.scad_expr.specs.Meaning.{Below, value, value_layer, node, member_of, values, called_builtin}
 use Rattle.scad_expr.proofs.DepthLeft.{value_none, value_more}
 

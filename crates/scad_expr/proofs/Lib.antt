@@ -11,13 +11,10 @@ pub mod ExamplesLoops
 pub mod ExamplesOperators
 pub mod ExamplesParameters
 pub mod ExamplesRanges
-pub mod Giving
-pub mod Homes
 pub mod InPlace
 pub mod Lists
 pub mod Loops
 pub mod OnLiterals
-pub mod OpenFrames
 pub mod Parts
 pub mod Rising
 pub mod RisingNodes
@@ -27,3 +24,6 @@ pub mod StackTurns
 pub mod StepsAndTurns
 pub mod Tested
 pub mod Views
+pub use Rattle.scad_machine.proofs.Giving
+pub use Rattle.scad_machine.proofs.Homes
+pub use Rattle.scad_machine.proofs.OpenFrames

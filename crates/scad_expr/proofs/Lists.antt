@@ -6,7 +6,7 @@ use Rattle.scad_value.specs.declared.value.Value.{Value}
 use Rattle.scad_value.specs.Datum.{vector, element}
 use Rattle.scad_value.specs.View.{datum_of, elements, data_of}
 use Rattle.scad_expr.specs.Runs.{as_elements}
-use Rattle.scad_expr.specs.Arguments.{is_none}
+use Rattle.scad_machine.specs.Arguments.{is_none}
 
 -- whether there are arguments
 pub none-empty : (all : List Arg) → length all ≡ 0 → is_none (arguments all) ≡ true

@@ -6,25 +6,22 @@ use Rattle.scad_ast.specs.View.{expression_of, arguments}
 use Rattle.scad_value.specs.Datum.{Datum}
 use Rattle.scad_scope.specs.Names.{Names}
 use Rattle.scad_scope.specs.Env.{Env}
-use Rattle.scad_expr.specs.declared.fault.EvalFault.{EvalFault}
-use Rattle.scad_expr.specs.State.{State, Outcome, gives, refuses, Action, and_then, pure, ◌>>=◌}
-use Rattle.scad_expr.specs.Variables.{Bound, set, empty, within}
-use Rattle.scad_expr.specs.Machine.{Held, env_in, along_in}
-use Rattle.scad_expr.specs.Arguments.{is_given, given, set_all}
-use Rattle.scad_expr.specs.Portions.{bind_one, defaulted, missing}
+use Rattle.scad_machine.specs.declared.fault.EvalFault.{EvalFault}
+use Rattle.scad_machine.specs.State.{State, Outcome, gives, refuses, Action, and_then, pure, ◌>>=◌}
+use Rattle.scad_machine.specs.Variables.{Bound, set, empty, within}
+use Rattle.scad_machine.specs.Machine.{Held, env_in, along_in}
+use Rattle.scad_machine.specs.Arguments.{is_given, given, set_all}
+use Rattle.scad_expr.specs.Portions.{bind_one, defaulted}
 use Rattle.scad_expr.specs.Meaning.{Below, values, default_value, defaults, bound, bound_in_order}
 use Rattle.scad_ast.specs.declared.statement.Param.{Param}
 use Rattle.scad_ast.specs.Scope.{parameter}
 use Rattle.scad_scope.specs.Stored.{StoredChildren, env_at, envs}
-use Rattle.scad_expr.specs.Given.{parameter_names}
-use Rattle.scad_expr.specs.Opened.{opened, set_in_last, bound_in}
+use Rattle.scad_machine.specs.Given.{missing, parameter_names}
+use Rattle.scad_machine.specs.Opened.{opened, set_in_last, bound_in}
 use Rattle.scad_value.proofs.Lists.{arguments-drop, arguments-drop_all}
-use Rattle.scad_expr.proofs.Giving.{names-parameters}
-use Rattle.scad_expr.proofs.OpenFrames.{call-home, call-along, call-set, opened-bound, opened-again}
-
-pub nothing-left : {A : Type 0} (all : List A) → length all ≤ 0 → all ≡ []
-nothing-left [] none = refl
-nothing-left (a ∷ all) none = absurd (let no : ⊥ = omega arith in no)
+use Rattle.scad_machine.proofs.Giving.{names-parameters}
+pub use Rattle.scad_machine.proofs.Giving.{nothing-left}
+use Rattle.scad_machine.proofs.OpenFrames.{call-home, call-along, call-set, opened-bound, opened-again}
 
 -- ---- what follows an outcome
 pub goes : {A B : Type 0} (o : Outcome A) (f : A → Action B) (a : A) (s : State) → o ≡ gives a s

@@ -17,7 +17,7 @@ use Rattle.scad_expr.specs.declared.part.Part.TheVariants.{One, Run}
 use Rattle.scad_expr.specs.Parts.{part_data, parts_of, MakeAlike, MakeAlikeThen}
 use Rattle.scad_expr.specs.Portions.{numbers_left}
 use Rattle.scad_expr.specs.Runs.{items, as_elements, numbers_from, count_of_range}
-use Rattle.scad_expr.specs.State.{State, make, take, over, step_limit, nesting_limit, pure, ◌>>◌}
+use Rattle.scad_machine.specs.State.{State, make, take, over, step_limit, nesting_limit, pure, ◌>>◌}
 
 -- ---- one more part
 pub parts-push : (all : List Part) (v : Value) → parts_of (all ++ One v ∷ []) ≡ parts_of all ++ datum_of v ∷ []

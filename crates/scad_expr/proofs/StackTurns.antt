@@ -9,23 +9,23 @@ use Rattle.scad_value.specs.Comparison.{truth}
 use Rattle.scad_builtin.specs.Builtin.{builtin}
 use Rattle.scad_scope.specs.Env.{Env}
 use Rattle.scad_scope.specs.Stored.{env_at, envs}
-use Rattle.scad_expr.specs.declared.fault.EvalFault.{EvalFault}
+use Rattle.scad_machine.specs.declared.fault.EvalFault.{EvalFault}
 use Rattle.scad_expr.specs.declared.frame.Frame.{Frame}
 use Rattle.scad_expr.specs.declared.frame.Purpose.{Purpose}
-use Rattle.scad_expr.specs.State.{State, Outcome, gives, refuses, Action, pure, and_then, ◌>>=◌, over, step}
-use Rattle.scad_expr.specs.Machine.{Held, env_in, along_in}
-use Rattle.scad_expr.specs.Functions.{Found, function_named}
+use Rattle.scad_machine.specs.State.{State, Outcome, gives, refuses, Action, pure, and_then, ◌>>=◌, over, step}
+use Rattle.scad_machine.specs.Machine.{Held, env_in, along_in}
+use Rattle.scad_machine.specs.Functions.{Found, function_named}
 use Rattle.scad_expr.specs.Runs.{as_elements, items}
-use Rattle.scad_expr.specs.Variables.{Bound, set, empty, within}
+use Rattle.scad_machine.specs.Variables.{Bound, set, empty, within}
 use Rattle.scad_expr.specs.Meaning.{Below, meaning, value, value_layer, node, values, default_value, called, called_own, called_builtin, bound_in_order, loop_turns, turns, for_variables}
-use Rattle.scad_expr.specs.Opened.{opened, set_in_last, left, bound_in, outer, IsInner}
+use Rattle.scad_machine.specs.Opened.{opened, set_in_last, left, bound_in, outer, IsInner}
 use Rattle.scad_expr.specs.Pieces.{named_of}
 use Rattle.scad_expr.specs.Portions.{defaulted, lone}
 use Rattle.scad_expr.specs.Stack.{Whole, Rest, ended, added, binds, fills, renewed, turned, repeats, served, supplied, onto, rest_of}
 use Rattle.scad_expr.proofs.DepthLeft.{value_none, value_more, place_of, element_none, element_more}
 use Rattle.scad_expr.proofs.InPlace.{values-lone}
 use Rattle.scad_expr.proofs.Loops.{twice, same-then}
-use Rattle.scad_expr.proofs.OpenFrames.{env_in-opened, env_in-before, along_in-opened, set_in_last-opened, left-opened}
+use Rattle.scad_machine.proofs.OpenFrames.{env_in-opened, env_in-before, along_in-opened, set_in_last-opened, left-opened}
 
 -- ---- what follows a list of frames
 pub rest-push : (all : List Frame) (f : Frame) (k : Rest) → rest_of (all ++ f ∷ []) k ≡ onto f (rest_of all k)

@@ -4,9 +4,9 @@ use Rattle.scad_ast.specs.Tree.{Expression, Element}
 use Rattle.scad_value.specs.Datum.{Datum}
 use Rattle.scad_value.specs.Comparison.{truth}
 use Rattle.scad_scope.specs.Env.{Env}
-use Rattle.scad_expr.specs.State.{State, Outcome, gives, refuses, Action, and_then, step, step_limit}
+use Rattle.scad_machine.specs.State.{State, Outcome, gives, refuses, Action, and_then, step, step_limit}
 use Rattle.scad_expr.specs.Places.{place, element_place}
-use Rattle.scad_expr.specs.Variables.{within}
+use Rattle.scad_machine.specs.Variables.{within}
 use Rattle.scad_expr.specs.Meaning.{meaning, value, bound_in_order, loop_turns}
 use Rattle.scad_expr.specs.Laws.{Within, StepsRise, TurnsDontEnd}
 use Rattle.scad_expr.proofs.Rising.{Rising, rising-over, step-counts}

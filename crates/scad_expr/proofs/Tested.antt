@@ -6,8 +6,8 @@ use Rattle.std.proofs.lemmas.Bool.{or_parts}
 use Rattle.scad_ast.specs.Tree.{Arguments, no_arguments, argument}
 use Rattle.scad_value.specs.Datum.{Datum}
 use Rattle.scad_scope.specs.Names.{Names, is_same_name, value_of_name, with_name}
-use Rattle.scad_expr.specs.Variables.{is_dollar}
-use Rattle.scad_expr.specs.Arguments.{is_parameter, to_parameter, to_name, given_from, given}
+use Rattle.scad_machine.specs.Variables.{is_dollar}
+use Rattle.scad_machine.specs.Arguments.{is_parameter, to_parameter, to_name, given_from, given}
 use Rattle.scad_expr.specs.Tested.{test_from}
 
 -- ---- a name in a frame where another one is set

@@ -4,8 +4,8 @@ use Rattle.scad_fault.specs.declared.place.Place.{Place}
 use Rattle.scad_ast.specs.Tree.{Expression, Arguments, Element}
 use Rattle.scad_value.specs.Datum.{Datum}
 use Rattle.scad_scope.specs.Env.{Env}
-use Rattle.scad_expr.specs.State.{State, Outcome, gives, refuses, step_limit}
-use Rattle.scad_expr.specs.Variables.{Bound}
+use Rattle.scad_machine.specs.State.{State, Outcome, gives, refuses, step_limit}
+use Rattle.scad_machine.specs.Variables.{Bound}
 use Rattle.scad_expr.specs.Meaning.{meaning, value, loop_turns}
 
 -- after it there are no fewer steps than so many, and no more than the limit

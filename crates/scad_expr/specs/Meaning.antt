@@ -26,14 +26,15 @@ use Rattle.scad_builtin.specs.declared.fault.BuiltinFault.{BuiltinFault}
 use Rattle.scad_builtin.specs.declared.fault.BuiltinFault.TheVariants.{UnknownFunction, LeftOut, BadArgument, ZeroDivisor, NumberRange, Memory}
 use Rattle.scad_scope.specs.Names.{Names, is_same_name, value_of_name}
 use Rattle.scad_scope.specs.Env.{Env, inside, frame, Children}
-use Rattle.scad_expr.specs.declared.fault.EvalFault.TheVariants.{Memory as WantOfMemory}
-use Rattle.scad_expr.specs.State.{step_limit, Action, pure, ◌>>=◌, ◌>>◌, refuse, fault, fault_of, over, step, make, say}
+use Rattle.scad_machine.specs.declared.fault.EvalFault.TheVariants.{Memory as WantOfMemory}
+use Rattle.scad_machine.specs.State.{step_limit, Action, pure, ◌>>=◌, ◌>>◌, refuse, fault, fault_of, over, step, make, say}
+pub use Rattle.scad_machine.specs.Opened.{Opened}
 use Rattle.scad_expr.specs.Places.{place, element_place}
-use Rattle.scad_expr.specs.Variables.{variable, Bound, set, empty, within}
-use Rattle.scad_expr.specs.Functions.{Found, function_named}
+use Rattle.scad_machine.specs.Variables.{variable, Bound, set, empty, within}
+use Rattle.scad_machine.specs.Functions.{Found, function_named}
 use Rattle.scad_expr.specs.Runs.{items, as_elements, range_of_ends}
-use Rattle.scad_expr.specs.Arguments.{given, set_all, is_given, are_named, is_none, with_children}
-use Rattle.scad_expr.specs.Printed.{echo_line}
+use Rattle.scad_machine.specs.Arguments.{given, set_all, is_given, are_named, is_none, with_children}
+use Rattle.scad_machine.specs.Printed.{echo_line}
 
 -- ---- values with a fault at a place
 -- what an operator gives, and the steps of what it makes
@@ -324,12 +325,7 @@ meaning (suc depth) = record { value = value_layer (meaning depth); element = el
 abbrev pub value : ℕ → Env → Env → Expression → Action Datum
 value depth = (meaning depth).value
 
--- what a call opens: the environment of its parameters, with its children where it keeps some, and that of its `$`
--- names
-pub record Opened : Type 0 where
-  pub env : Env
-  pub along : Env
-
+-- what a call opens, by the names that it sets
 abbrev pub opened : Env → Env → Children → Bound → Opened
 opened home along kept b = record { env = inside (frame b.names None kept) home; along = within along b.dollars }
 

@@ -8,7 +8,7 @@ use Rattle.scad_value.specs.View.{datum_of}
 use Rattle.scad_expr.specs.declared.part.Part.{Part}
 use Rattle.scad_expr.specs.declared.part.Part.TheVariants.{One, Run}
 use Rattle.scad_expr.specs.Runs.{items, as_elements}
-use Rattle.scad_expr.specs.State.{State, make}
+use Rattle.scad_machine.specs.State.{State, make}
 
 -- a value, or a range's numbers
 abbrev pub part_data : Part → List Datum

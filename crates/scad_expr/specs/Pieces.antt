@@ -6,7 +6,7 @@ use Rattle.scad_value.specs.Datum.{Datum}
 use Rattle.scad_value.specs.Comparison.{truth}
 use Rattle.scad_value.specs.Index.{indexed}
 use Rattle.scad_scope.specs.Env.{Env}
-use Rattle.scad_expr.specs.State.{Action, pure, ◌>>=◌}
+use Rattle.scad_machine.specs.State.{Action, pure, ◌>>=◌}
 use Rattle.scad_expr.specs.Meaning.{Below, ranged, ranged_by_one}
 
 -- the arguments from the first one on that has a name

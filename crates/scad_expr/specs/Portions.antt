@@ -1,13 +1,11 @@
 -- What one turn of each of the evaluator's loops gives, in the terms of the meaning of expressions.
-use Rattle.std.specs.Prelude.{ℕ, ℤ, Bool, not, pos, int_lt, if◌then◌else◌, List, [], ◌∷◌, Option, Some, None, filter}
+use Rattle.std.specs.Prelude.{ℕ, ℤ, Bool, pos, int_lt, if◌then◌else◌, List, [], ◌∷◌, Option, Some, None}
 use Rattle.scad_ast.specs.Tree.{Expression, Arguments, no_arguments, argument, Parameter}
 use Rattle.scad_value.specs.Datum.{Datum}
-use Rattle.scad_scope.specs.Names.{Names}
 use Rattle.scad_scope.specs.Env.{Env}
-use Rattle.scad_expr.specs.State.{Action, pure, ◌>>=◌}
-use Rattle.scad_expr.specs.Variables.{Bound, set, within}
+use Rattle.scad_machine.specs.State.{Action, pure, ◌>>=◌}
+use Rattle.scad_machine.specs.Variables.{Bound, set, within}
 use Rattle.scad_expr.specs.Runs.{numbers_from, count_of_range}
-use Rattle.scad_expr.specs.Arguments.{is_given}
 use Rattle.scad_expr.specs.Meaning.{Below, default_value}
 
 module _ (below : Below) where
@@ -30,10 +28,6 @@ abbrev pub lone : Arguments → Option Expression
 lone no_arguments = None
 lone (argument word e no_arguments) = Some e
 lone (argument word e (argument word2 e2 more)) = None
-
--- the parameters that aren't given
-abbrev pub missing : Names → List Parameter → List Parameter
-missing given all = filter (λ p. not (is_given p.name given)) all
 
 -- whether a number is past the end of a range
 abbrev pub is_past : ℤ → ℤ → ℤ → Bool

@@ -13,8 +13,8 @@ use Rattle.scad_value.specs.Operators.{op, unary_op}
 use Rattle.scad_value.specs.View.{datum_of, data_of, data_in}
 use Rattle.scad_value.specs.declared.value.Value.{Value}
 use Rattle.scad_scope.specs.Env.{Env}
-use Rattle.scad_expr.specs.declared.fault.EvalFault.{EvalFault}
-use Rattle.scad_expr.specs.declared.fault.EvalFault.TheVariants.{Memory}
+use Rattle.scad_machine.specs.declared.fault.EvalFault.{EvalFault}
+use Rattle.scad_machine.specs.declared.fault.EvalFault.TheVariants.{Memory}
 use Rattle.scad_expr.specs.declared.frame.Written.{Written}
 use Rattle.scad_expr.specs.declared.frame.Purpose.{Purpose}
 use Rattle.scad_expr.specs.declared.frame.Purpose.TheVariants.{Call, Assert, Echo}
@@ -34,20 +34,20 @@ use Rattle.scad_expr.specs.declared.frame.Focus.TheVariants.{Part, Element as El
 use Rattle.scad_expr.specs.declared.stack.Stack.{Stack}
 use Rattle.scad_expr.specs.declared.run.Next.{Next}
 use Rattle.scad_expr.specs.declared.run.Next.TheVariants.{More, End}
-use Rattle.scad_expr.specs.declared.machine.Machine.{Machine}
-use Rattle.scad_expr.specs.State.{State, Outcome, gives, refuses, Action, pure, and_then, ◌>>=◌, ◌>>◌, over, step, make, say}
+use Rattle.scad_machine.specs.declared.machine.Machine.{Machine}
+use Rattle.scad_machine.specs.State.{State, Outcome, gives, refuses, Action, pure, and_then, ◌>>=◌, ◌>>◌, over, step, make, say}
 use Rattle.scad_fault.specs.declared.budget.BudgetKind.TheVariants.{Steps}
-use Rattle.scad_expr.specs.Machine.{Held, held, env_in, along_in, state_of}
-use Rattle.scad_expr.specs.Functions.{function_named}
+use Rattle.scad_machine.specs.Machine.{Held, held, env_in, along_in, state_of}
+use Rattle.scad_machine.specs.Functions.{function_named}
 use Rattle.scad_expr.specs.Meaning.{Below, meaning, value, operated, ranged, ranged_by_one, member_of, asserted, values, default_value, called, turns, for_variables, right_side, node, judge_named, bound_in_order, loop_turns}
 use Rattle.scad_expr.specs.Meaning.{elements as elements_given}
-use Rattle.scad_expr.specs.Opened.{set_in_last, left}
+use Rattle.scad_machine.specs.Opened.{set_in_last, left}
 use Rattle.scad_expr.specs.Parts.{parts_in}
 use Rattle.scad_expr.specs.Pieces.{range_end, stepped_end, step_and_end, side, index_of, element_if, either_element}
 use Rattle.scad_expr.specs.Portions.{numbers_left}
-use Rattle.scad_expr.specs.Printed.{echo_line}
+use Rattle.scad_machine.specs.Printed.{echo_line}
 use Rattle.scad_expr.specs.Runs.{items, as_elements}
-use Rattle.scad_expr.specs.Variables.{variable, empty}
+use Rattle.scad_machine.specs.Variables.{variable, empty}
 
 -- a value, and what is held then
 abbrev pub Whole : Type 0

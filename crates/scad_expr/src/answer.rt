@@ -2,9 +2,9 @@
 
 ghost use Rattle.scad_ast.specs.View.{expression_of};
 ghost use Rattle.scad_value.specs.View.{datum_of};
-ghost use Rattle.scad_expr.specs.Machine.{held, env_in, along_in, state_of};
+ghost use Rattle.scad_machine.specs.Machine.{held, env_in, along_in, state_of};
 ghost use Rattle.scad_expr.specs.Meaning.{right_side, meaning};
-ghost use Rattle.scad_expr.specs.Opened.{left};
+ghost use Rattle.scad_machine.specs.Opened.{left};
 ghost use Rattle.scad_expr.specs.Pieces.{side};
 ghost use Rattle.scad_expr.specs.Runs.{items};
 ghost use Rattle.scad_expr.specs.Stack.{Leads, Below_by, followed, followed_list, onto, rest, made_in, turns_of};
@@ -12,17 +12,17 @@ ghost use Rattle.scad_expr.specs.Stack.{Leads, Below_by, followed, followed_list
 use crate::calls::next_argument;
 use crate::defaults::next_parameter;
 use crate::elements::{add, either, if_element, make, more_elements, spread};
-use crate::fault::EvalFault;
 use crate::frame::{Focus, Frame, Variable};
-use crate::loans::index_in;
-use crate::machine::Machine;
 use crate::named::{bind_next, renew, tested};
-use crate::operations::{member, range, range_by_one};
+use crate::operands::{
+    at_index, before_one, between_two, member_at, range_of_both, range_of_three, variable_at_index,
+};
 use crate::stack::Stack;
 use crate::turns::{course_of, turn};
 use scad_ast::{BinOp, Expr};
 use scad_fault::Place;
-use scad_value::{Value, index, truth};
+use scad_machine::{EvalFault, Machine};
+use scad_value::{Value, truth};
 
 /// A frame goes on with a value.
 #[tactic(auto, using(crate::proofs::StackTurns::nodes), unfolding(crate::specs::Stack::onto, crate::specs::Stack::goes_on, crate::specs::Pieces::range_end, crate::specs::Pieces::stepped_end, crate::specs::Pieces::step_and_end, crate::specs::Pieces::index_of))]
@@ -38,24 +38,24 @@ pub(crate) fn given<'p>(
 {
     match frame {
         Frame::RangeEnd(end, depth) => stack.wait(Frame::Ends(v), end, depth),
-        Frame::Ends(a) => Ok(Focus::Given(range_by_one(&a, &v))),
+        Frame::Ends(a) => range_of_both(a, v, stack, m),
         Frame::StepAndEnd(at, step, end, depth) => {
             stack.wait(Frame::SteppedEnd(at, v, end, depth), step, depth)
         }
         Frame::SteppedEnd(at, a, end, depth) => stack.wait(Frame::Stepped(at, a, v), end, depth),
-        Frame::Stepped(at, a, s) => Ok(Focus::Given(range(stack.alloc(), at, &a, &s, &v)?)),
-        Frame::Unary(at, op) => Ok(Focus::Given(m.unary(stack.alloc(), at, op, &v)?)),
+        Frame::Stepped(at, a, s) => range_of_three(at, a, s, v, stack, m),
+        Frame::Unary(at, op) => before_one(at, op, v, stack, m),
         Frame::Right(at, op, b, depth) => {
             let right = Right { at, op, b, depth };
             right_side(right, v, stack, m)
         }
         Frame::Truth => Ok(Focus::Given(Value::Bool(truth(&v)))),
-        Frame::Operand(at, op, a) => { Ok(Focus::Given(m.binary(stack.alloc(), at, op, &a, &v)?)) }
+        Frame::Operand(at, op, a) => between_two(at, op, a, v, stack, m),
         Frame::Sides(a, b, depth) => side(&v, a, b, depth, stack, m),
         Frame::IndexOf(i, depth) => stack.wait(Frame::Indexed(v), i, depth),
-        Frame::Indexed(a) => Ok(Focus::Given(index(stack.alloc(), &a, &v)?)),
-        Frame::IndexedName(word) => { Ok(Focus::Given(index_in(stack.alloc(), m.seek(word), &v)?)) }
-        Frame::Member(word) => Ok(Focus::Given(member(stack.alloc(), &v, word)?)),
+        Frame::Indexed(a) => at_index(a, v, stack, m),
+        Frame::IndexedName(word) => variable_at_index(word, v, stack, m),
+        Frame::Member(word) => member_at(word, v, stack, m),
         Frame::Arguments(supply, more) => next_argument(supply, more, v, stack, m),
         Frame::Default(name, opening) => next_parameter(name, opening, v, stack, m),
         Frame::Leave(back) => leave(back, v, stack, m),

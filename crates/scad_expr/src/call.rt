@@ -7,17 +7,15 @@ ghost use Rattle.scad_value.specs.View.{datum_of, data_in};
 ghost use Rattle.scad_scope.specs.Env.{inside, frame};
 ghost use Rattle.scad_scope.specs.Stored.{env_at, envs, children_in};
 ghost use Rattle.scad_scope.specs.View.{children_stored};
-ghost use Rattle.scad_expr.specs.Answers.{Does};
-ghost use Rattle.scad_expr.specs.Machine.{held, env_in, along_in, state_of};
+ghost use Rattle.scad_machine.specs.Answers.{Does};
+ghost use Rattle.scad_machine.specs.Machine.{held, env_in, along_in, state_of};
 ghost use Rattle.scad_expr.specs.Meaning.{values, default_value, bound, bind, meaning};
-ghost use Rattle.scad_expr.specs.Opened.{opened, bound_in, left, opened_in};
-ghost use Rattle.scad_expr.specs.Variables.{within};
+ghost use Rattle.scad_machine.specs.Opened.{opened, bound_in, left, opened_in};
+ghost use Rattle.scad_machine.specs.Variables.{within};
 
-use crate::fault::EvalFault;
-use crate::machine::Machine;
-use crate::opening::Call;
 use crate::run::eval_at;
-use scad_ast::{Arg, Args, Param, Params};
+use scad_ast::{Arg, Args, Param};
+use scad_machine::{Call, Callee, EvalFault, Invocation, Machine};
 use scad_scope::Kept;
 use scad_value::Value;
 use std::alloc::Global;
@@ -43,24 +41,24 @@ pub fn values<'p>(
 /// kept `$children` is their number.
 pub fn bind<'p>(
     alloc: Global,
-    params: &'p Params,
+    callee: Callee<'p>,
     args: &'p Args,
     values: Vec<Value>,
-    home: u32,
     kept: Option<Kept<'p>>,
     machine: &mut Machine<'p>,
 ) -> Result<(), EvalFault>
-    requires { home < length (held machine.old).frames }
+    requires { callee.home < length (held machine.old).frames }
     ensures does { Does (λ _. opened_in (held machine.new)) (bind (held machine.old).depth
-        (env_at (envs (held machine.old).frames) home) (along_in (held machine.old))
-        (map parameter params.now.items) (arguments args.now.items) (data_in values)
+        (env_at (envs (held machine.old).frames) callee.entry.home) (along_in (held machine.old))
+        (map parameter callee.entry.params.now.items) (arguments args.now.items) (data_in values)
         (children_in (envs (held machine.old).frames) (option_map children_stored kept.entry))
         (state_of machine.old)) result (state_of machine.new) }
     ensures opened { OnOk result (held machine.new ≡ opened (option_map children_stored kept.entry)
-        (length (held machine.old).frames) home (bound_in (held machine.new)) (held machine.old)) }
+        (length (held machine.old).frames) callee.entry.home (bound_in (held machine.new)) (held machine.old)) }
 {
     let depth = machine.depth();
-    let _back = bind_at(alloc, params, args, values, home, kept, depth, machine)?;
+    let call = Invocation { callee, args, kept };
+    let _back = bind_at(alloc, call, values, depth, machine)?;
     machine.count_children(kept)?;
     Ok(())
 }
@@ -87,24 +85,21 @@ pub(crate) fn values_at<'p>(
 /// Opens the frames of a call. Gives the number of the frame from which names were sought before.
 fn bind_at<'p>(
     alloc: Global,
-    params: &'p [Param],
-    args: &'p [Arg],
+    call: Invocation<'p>,
     found: Vec<Value>,
-    home: u32,
-    kept: Option<Kept<'p>>,
     depth: u32,
     m: &mut Machine<'p>,
 ) -> Result<u32, EvalFault>
-    requires { home < length (held m.old).frames }
+    requires { call.callee.home < length (held m.old).frames }
     ensures does { Does (λ _. bound_in (held m.new)) (bound (meaning depth)
-        (env_at (envs (held m.old).frames) home) (along_in (held m.old))
-        (map parameter params.now) (arguments args.now) (data_in found)
+        (env_at (envs (held m.old).frames) call.entry.callee.home) (along_in (held m.old))
+        (map parameter call.entry.callee.params.now.items) (arguments call.entry.args.now) (data_in found)
         (state_of m.old)) result (state_of m.new) }
-    ensures opened { OnOk result (held m.new ≡ opened (option_map children_stored kept.entry)
-        (length (held m.old).frames) home (bound_in (held m.new)) (held m.old)) }
+    ensures opened { OnOk result (held m.new ≡ opened (option_map children_stored call.entry.kept)
+        (length (held m.old).frames) call.entry.callee.home (bound_in (held m.new)) (held m.old)) }
     ensures env { OnOk result (env_in (held m.new) ≡ inside (frame (bound_in (held m.new)).names None
-        (children_in (envs (held m.old).frames) (option_map children_stored kept.entry)))
-        (env_at (envs (held m.old).frames) home)) }
+        (children_in (envs (held m.old).frames) (option_map children_stored call.entry.kept)))
+        (env_at (envs (held m.old).frames) call.entry.callee.home)) }
     ensures along { OnOk result (along_in (held m.new)
         ≡ within (along_in (held m.old)) (bound_in (held m.new)).dollars) }
     ensures back { IfOk result (λ back. left back (held m.new) ≡ held m.old) }
@@ -113,7 +108,7 @@ fn bind_at<'p>(
         missing,
         inner,
         back,
-    } = m.call(alloc, params, args, found, home, kept)?;
+    } = m.call(alloc, call, found)?;
     'missing: for param in missing {
         let value = default_of(alloc, param, depth, m)?;
         m.set(param.name.as_slice(), value)?;

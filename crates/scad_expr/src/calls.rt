@@ -1,28 +1,31 @@
 //! Arguments one by one, and what is done once each has its value.
 
-ghost use Rattle.std.specs.Prelude.{◌<◌, ◌++◌, ◌∷◌, [], length};
+ghost use Rattle.std.specs.Prelude.{◌≡◌, ◌<◌, ◌≤◌, ◌++◌, ◌∷◌, [], length, OnOk};
 ghost use Rattle.scad_ast.specs.View.{arguments, expression_of};
 ghost use Rattle.scad_builtin.specs.Builtin.{builtin};
 ghost use Rattle.scad_value.specs.View.{datum_of, data_in, data_of};
 ghost use Rattle.scad_scope.specs.Stored.{envs};
-ghost use Rattle.scad_expr.specs.Machine.{held, env_in, along_in, state_of};
-ghost use Rattle.scad_expr.specs.Meaning.{called_builtin, called_own, meaning, value};
+ghost use Rattle.scad_machine.specs.Answers.{Does, nothing};
+ghost use Rattle.scad_machine.specs.Machine.{held, env_in, along_in, state_of};
+ghost use Rattle.scad_machine.specs.Printed.{echo_line};
+ghost use Rattle.scad_machine.specs.State.{State, say};
+ghost use Rattle.scad_expr.specs.Meaning.{asserted, called_builtin, called_own, meaning, value};
 ghost use Rattle.scad_expr.specs.Runs.{as_elements};
 ghost use Rattle.scad_expr.specs.Stack.{Leads, Below_by, followed, supplied, served_in, supplied_in, called_as};
-ghost use Rattle.scad_expr.specs.Variables.{variable};
-ghost use Rattle.scad_expr.specs.View.{found_at};
+ghost use Rattle.scad_machine.specs.Variables.{variable};
+ghost use Rattle.scad_machine.specs.View.{found_at};
 
 use crate::defaults::fill;
-use crate::fault::EvalFault;
 use crate::frame::{Focus, Frame, Opening, Purpose, Supply, Written};
-use crate::functions::DefinedAt;
-use crate::machine::Machine;
-use crate::opening::Call;
+use crate::loans::builtin_on;
+use crate::operations::builtin_at;
 use crate::requirements::asserted;
 use crate::stack::Stack;
 use scad_ast::{Arg, Expr};
 use scad_fault::Place;
+use scad_machine::{Call, Callee, DefinedAt, EvalFault, Invocation, Machine};
 use scad_value::Value;
+use std::alloc::Global;
 
 /// The next argument, or what is done with the values of all.
 #[tactic(auto, using(crate::proofs::StackTurns::calls), unfolding(crate::specs::Stack::onto))]
@@ -92,14 +95,37 @@ fn serve<'p>(
     match purpose {
         Purpose::Call(written) => called(written, so_far, depth, stack, m),
         Purpose::Assert(at, args, body) => {
-            asserted(stack.alloc(), at, args, &so_far)?;
+            assert_all(stack.alloc(), at, args, so_far)?;
             begin(body, depth, stack, m)
         }
         Purpose::Echo(at, args, body) => {
-            m.echo(stack.alloc(), at, args, &so_far)?;
+            echo_all(stack.alloc(), at, args, so_far, m)?;
             begin(body, depth, stack, m)
         }
     }
+}
+
+/// The judgement of an `assert` whose arguments have their values.
+fn assert_all(alloc: Global, at: Place, args: &[Arg], found: Vec<Value>) -> Result<(), EvalFault>
+    ensures { (s : State) → Does nothing (asserted at (arguments args.now) (data_in found) s) result s }
+{
+    asserted(alloc, at, args, &found)
+}
+
+/// The line of an `echo` whose arguments have their values.
+fn echo_all<'p>(
+    alloc: Global,
+    at: Place,
+    args: &[Arg],
+    found: Vec<Value>,
+    m: &mut Machine<'p>,
+) -> Result<(), EvalFault>
+    ensures does { Does nothing (say at (echo_line (arguments args.now) (data_in found)) (state_of m.old))
+        result (state_of m.new) }
+    ensures kept { held m.new ≡ held m.old }
+    ensures less { OnOk result (m.new.steps_left ≤ m.old.steps_left) }
+{
+    m.echo(alloc, at, args, &found)
 }
 
 /// An expression for which no frame waits.
@@ -149,7 +175,7 @@ fn call_known<'p>(
         stack.old m.old) result stack.new m.new }
     ensures less { Below_by 4 result stack.old m.old stack.new m.new }
 {
-    Ok(Focus::Given(m.builtin(stack.alloc(), at, word, found)?))
+    Ok(Focus::Given(builtin_at(stack.alloc(), at, word, found, m)?))
 }
 
 /// A call whose one argument is a variable, which a function of the language reads where it stands.
@@ -167,7 +193,7 @@ pub(crate) fn call_of_name<'p>(
 {
     match m.function(written.word)? {
         Some(own) => own_of_name(own, written.args, of, depth, stack, m),
-        None => Ok(Focus::Given(m.builtin_on(stack.alloc(), written.at, written.word, of)?)),
+        None => Ok(Focus::Given(builtin_on(stack.alloc(), written.at, written.word, of, m)?)),
     }
 }
 
@@ -209,18 +235,20 @@ fn call_own<'p>(
         result stack.new m.new }
     ensures less { Below_by 4 result stack.old m.old stack.new m.new }
 {
+    let callee = Callee {
+        params: own.function.params,
+        home: own.home,
+    };
+    let call = Invocation {
+        callee,
+        args,
+        kept: None,
+    };
     let Call {
         missing,
         inner,
         back,
-    } = m.call(
-        stack.alloc(),
-        own.function.params,
-        args,
-        found,
-        own.home,
-        None,
-    )?;
+    } = m.call(stack.alloc(), call, found)?;
     let opening = Opening {
         missing,
         next: 0,

@@ -4,18 +4,17 @@ ghost use Rattle.std.specs.Prelude.{◌≡◌, map, drop, IfOk, OnOk, MatchOptio
 ghost use Rattle.scad_ast.specs.Scope.{parameter};
 ghost use Rattle.scad_ast.specs.View.{expression_of};
 ghost use Rattle.scad_value.specs.View.{datum_of};
-ghost use Rattle.scad_expr.specs.Answers.{Does, nothing, done_at};
-ghost use Rattle.scad_expr.specs.Machine.{Held, held, env_in, along_in, state_of};
+ghost use Rattle.scad_machine.specs.Answers.{Does, nothing, done_at};
+ghost use Rattle.scad_machine.specs.Machine.{Held, held, env_in, along_in, state_of};
 ghost use Rattle.scad_expr.specs.Meaning.{Below};
-ghost use Rattle.scad_expr.specs.Opened.{set_in_last};
+ghost use Rattle.scad_machine.specs.Opened.{set_in_last};
 ghost use Rattle.scad_expr.specs.Stack.{Whole, Leads, Below_by, fills, filling, entered, rest, made_in};
-ghost use Rattle.scad_expr.specs.State.{State, Action, and_then};
+ghost use Rattle.scad_machine.specs.State.{State, Action, and_then};
 
-use crate::fault::EvalFault;
 use crate::frame::{Focus, Frame, Opening};
-use crate::machine::Machine;
 use crate::stack::Stack;
 use scad_ast::{Expr, Param};
+use scad_machine::{EvalFault, Machine};
 use scad_value::Value;
 
 /// A parameter with its default, and the number of the parameter behind it.
@@ -96,7 +95,7 @@ pub(crate) fn fill<'p>(
 }
 
 /// The function's expression.
-#[tactic(auto, using(crate::proofs::StackTurns::nodes), unfolding(crate::specs::Stack::onto, crate::specs::Stack::entered, crate::specs::Opened::left))]
+#[tactic(auto, using(crate::proofs::StackTurns::nodes), unfolding(crate::specs::Stack::onto, crate::specs::Stack::entered, scad_machine::specs::Opened::left))]
 fn enter<'p>(
     opening: Opening<'p>,
     stack: &mut Stack<'p>,

@@ -7,18 +7,17 @@ ghost use Rattle.scad_ast.specs.View.{expression_of, arguments, element_of};
 ghost use Rattle.scad_ast.specs.View.{elements as tree_elements};
 ghost use Rattle.scad_value.specs.Datum.{vector};
 ghost use Rattle.scad_value.specs.View.{datum_of};
-ghost use Rattle.scad_expr.specs.Machine.{held, env_in, along_in, state_of};
+ghost use Rattle.scad_machine.specs.Machine.{held, env_in, along_in, state_of};
 ghost use Rattle.scad_expr.specs.Meaning.{element_node, elements, value, meaning};
 ghost use Rattle.scad_expr.specs.Parts.{parts_in};
 ghost use Rattle.scad_expr.specs.Pieces.{element_if, either_element};
 ghost use Rattle.scad_expr.specs.Places.{element_place};
 ghost use Rattle.scad_expr.specs.Runs.{items, as_elements};
-ghost use Rattle.scad_expr.specs.State.{and_then, make, step};
+ghost use Rattle.scad_machine.specs.State.{and_then, make, step};
 ghost use Rattle.scad_expr.specs.Stack.{Leads, Below_by, followed_list, loop_of, onto, added, rest, made_in};
 
-use crate::fault::EvalFault;
+use crate::construction::vector as vector_at;
 use crate::frame::{Focus, Frame, Inside, Loop, Within};
-use crate::machine::Machine;
 use crate::named::bind_more;
 use crate::part::Part;
 use crate::pieces::add_parts;
@@ -27,6 +26,7 @@ use crate::stack::Stack;
 use crate::turns::variables;
 use scad_ast::{Arg, Elem, Expr};
 use scad_fault::{Budget, BudgetKind, Place};
+use scad_machine::{EvalFault, Machine};
 use scad_value::{Value, truth};
 
 /// The next element, or none.
@@ -52,7 +52,7 @@ pub(crate) fn more_elements<'p>(
 }
 
 /// An element that begins, with so many levels of depth left.
-#[tactic(auto, using(crate::proofs::StackTurns::element_depths), unfolding(crate::specs::State::over))]
+#[tactic(auto, using(crate::proofs::StackTurns::element_depths), unfolding(scad_machine::specs::State::over))]
 pub(crate) fn element<'p>(
     e: &'p Elem,
     depth: u32,
@@ -185,8 +185,7 @@ fn each_element<'p>(
     ensures less { Below_by 2 result stack.old m.old stack.new m.new }
 {
     m.step(at)?;
-    let none = Vec::new(stack.alloc());
-    let outer = stack.exchange(none);
+    let outer = stack.set_aside();
     stack.push(Frame::Each(outer))?;
     Ok(Focus::Element(e, depth))
 }
@@ -274,7 +273,7 @@ pub(crate) fn make<'p>(
     ensures less { Below_by 4 result stack.old m.old stack.new m.new }
 {
     let all = stack.exchange(outer);
-    Ok(Focus::Given(m.vector(stack.alloc(), at, all)?))
+    Ok(Focus::Given(vector_at(stack.alloc(), at, all, m)?))
 }
 
 /// What an `each` gives in place of what was added.
@@ -289,8 +288,7 @@ pub(crate) fn spread<'p>(
     ensures less { Below_by 4 result stack.old m.old stack.new m.new }
 {
     let _steps = m.steps_left;
-    let none = Vec::new(stack.alloc());
-    let found = stack.exchange(none);
+    let found = stack.set_aside();
     let all = add_parts(stack.alloc(), outer, found)?;
     let _none = stack.exchange(all);
     Ok(Focus::Given(Value::Undef))

@@ -8,18 +8,17 @@ ghost use Rattle.scad_builtin.specs.Answer.{Refuses};
 ghost use Rattle.scad_value.specs.Datum.{element, no_elements};
 ghost use Rattle.scad_value.specs.Index.{indexed};
 ghost use Rattle.scad_value.specs.View.{datum_of};
-ghost use Rattle.scad_expr.specs.Answers.{Does};
-ghost use Rattle.scad_expr.specs.Machine.{held, env_in, along_in, state_of};
+ghost use Rattle.scad_machine.specs.Answers.{Does};
+ghost use Rattle.scad_machine.specs.Machine.{held, env_in, along_in, state_of};
 ghost use Rattle.scad_expr.specs.Meaning.{called_builtin, member_of, value};
 ghost use Rattle.scad_expr.specs.Portions.{lone};
-ghost use Rattle.scad_expr.specs.Variables.{or_undef, variable};
+ghost use Rattle.scad_machine.specs.Variables.{or_undef, variable};
 
-use crate::fault::EvalFault;
-use crate::machine::Machine;
 use crate::operations::{member, refusal};
 use scad_ast::{Arg, Node};
 use scad_builtin::{BuiltinFault, call};
 use scad_fault::{Budget, BudgetKind, Place};
+use scad_machine::{EvalFault, Machine};
 use scad_value::{Value, index};
 use std::alloc::{AllocError, Global};
 
@@ -51,60 +50,63 @@ pub(crate) fn member_in(
     }
 }
 
-impl<'p> Machine<'p> {
-    /// The step of a name that is evaluated, with so many levels of depth left.
-    #[tactic(auto, using(crate::proofs::InPlace::names), unfolding(crate::specs::State::over))]
-    pub(crate) fn pass_name(&mut self, at: Place, word: &[u8], depth: u32) -> Result<(), EvalFault>
-        ensures does { Does (λ _. variable word.now (env_in (held self.old)) (along_in (held self.old)))
-            (value depth (env_in (held self.old)) (along_in (held self.old)) (name at word.now)
-            (state_of self.old)) result (state_of self.new) }
-        ensures kept { OnOk result (held self.new ≡ held self.old) }
-        ensures less { OnOk result (self.new.steps_left + 1 ≡ self.old.steps_left) }
-    {
-        let _bytes = word.len();
-        if depth == 0 {
-            return Err(EvalFault::Over(Budget::placed(BudgetKind::Depth, at)));
-        }
-        self.step(at)
+/// The step of a name that is evaluated, with so many levels of depth left.
+#[tactic(auto, using(crate::proofs::InPlace::names), unfolding(scad_machine::specs::State::over))]
+pub(crate) fn pass_name<'p>(
+    at: Place,
+    word: &[u8],
+    depth: u32,
+    m: &mut Machine<'p>,
+) -> Result<(), EvalFault>
+    ensures does { Does (λ _. variable word.now (env_in (held m.old)) (along_in (held m.old)))
+        (value depth (env_in (held m.old)) (along_in (held m.old)) (name at word.now)
+        (state_of m.old)) result (state_of m.new) }
+    ensures kept { OnOk result (held m.new ≡ held m.old) }
+    ensures less { OnOk result (m.new.steps_left + 1 ≡ m.old.steps_left) }
+{
+    let _bytes = word.len();
+    if depth == 0 {
+        return Err(EvalFault::Over(Budget::placed(BudgetKind::Depth, at)));
     }
+    m.step(at)
+}
 
-    /// What a function of the language gives of a variable.
-    pub(crate) fn of_variable(
-        &self,
-        alloc: Global,
-        word: &[u8],
-        of: &[u8],
-    ) -> Result<Value, BuiltinFault>
-        ensures ok { IfOk result (λ v. builtin word.now (element (variable of.now
-            (env_in (held self.now)) (along_in (held self.now))) no_elements) ≡ Ok (datum_of v)) }
-        ensures err { IfErr result (Refuses (builtin word.now (element (variable of.now
-            (env_in (held self.now)) (along_in (held self.now))) no_elements))) }
-    {
-        match self.seek(of) {
-            Some(value) => call(alloc, word, std::slice::from_ref(value)),
-            None => call(alloc, word, &[Value::Undef]),
-        }
+/// What a function of the language gives of a variable.
+pub(crate) fn of_variable<'p>(
+    alloc: Global,
+    word: &[u8],
+    of: &[u8],
+    m: &Machine<'p>,
+) -> Result<Value, BuiltinFault>
+    ensures ok { IfOk result (λ v. builtin word.now (element (variable of.now
+        (env_in (held m.now)) (along_in (held m.now))) no_elements) ≡ Ok (datum_of v)) }
+    ensures err { IfErr result (Refuses (builtin word.now (element (variable of.now
+        (env_in (held m.now)) (along_in (held m.now))) no_elements))) }
+{
+    match m.seek(of) {
+        Some(value) => call(alloc, word, std::slice::from_ref(value)),
+        None => call(alloc, word, &[Value::Undef]),
     }
+}
 
-    /// A function of the language of one argument, a variable.
-    #[tactic(auto, using(crate::proofs::InPlace::refused), unfolding(crate::specs::Meaning::called_builtin))]
-    pub(crate) fn builtin_on(
-        &mut self,
-        alloc: Global,
-        at: Place,
-        word: &[u8],
-        of: &[u8],
-    ) -> Result<Value, EvalFault>
-        ensures does { Does datum_of (called_builtin at word.now (builtin word.now (element (variable of.now
-            (env_in (held self.old)) (along_in (held self.old))) no_elements)) (state_of self.old)) result
-            (state_of self.new) }
-        ensures kept { OnOk result (held self.new ≡ held self.old) }
-        ensures less { OnOk result (self.new.steps_left ≤ self.old.steps_left) }
-    {
-        match self.of_variable(alloc, word, of) {
-            Ok(value) => self.make(at, value),
-            Err(e) => Err(refusal(alloc, at, word, e)),
-        }
+/// A function of the language of one argument, a variable.
+#[tactic(auto, using(crate::proofs::InPlace::refused), unfolding(crate::specs::Meaning::called_builtin))]
+pub(crate) fn builtin_on<'p>(
+    alloc: Global,
+    at: Place,
+    word: &[u8],
+    of: &[u8],
+    m: &mut Machine<'p>,
+) -> Result<Value, EvalFault>
+    ensures does { Does datum_of (called_builtin at word.now (builtin word.now (element (variable of.now
+        (env_in (held m.old)) (along_in (held m.old))) no_elements)) (state_of m.old)) result
+        (state_of m.new) }
+    ensures kept { OnOk result (held m.new ≡ held m.old) }
+    ensures less { OnOk result (m.new.steps_left ≤ m.old.steps_left) }
+{
+    match of_variable(alloc, word, of, m) {
+        Ok(value) => m.make(at, value),
+        Err(e) => Err(refusal(alloc, at, word, e)),
     }
 }
 

@@ -4,19 +4,18 @@ ghost use Rattle.std.specs.Prelude.{◌≡◌, Some, MatchOption};
 ghost use Rattle.scad_ast.specs.Tree.{no_arguments, argument};
 ghost use Rattle.scad_ast.specs.View.{expression_of, element_of, arguments};
 ghost use Rattle.scad_value.specs.View.{datum_of};
-ghost use Rattle.scad_expr.specs.Machine.{held, env_in, along_in, state_of};
+ghost use Rattle.scad_machine.specs.Machine.{held, env_in, along_in, state_of};
 ghost use Rattle.scad_expr.specs.Meaning.{meaning};
-ghost use Rattle.scad_expr.specs.Opened.{left, set_in_last};
+ghost use Rattle.scad_machine.specs.Opened.{left, set_in_last};
 ghost use Rattle.scad_expr.specs.Pieces.{named_of};
 ghost use Rattle.scad_expr.specs.Stack.{Leads, Below_by, added, inside, binding, looping, renewing, turning, rest, made_in};
-ghost use Rattle.scad_expr.specs.State.{and_then};
+ghost use Rattle.scad_machine.specs.State.{and_then};
 
-use crate::fault::EvalFault;
 use crate::frame::{Focus, Frame, Inside, Loop, Within};
-use crate::machine::Machine;
 use crate::stack::Stack;
 use scad_ast::{Arg, Elem, Expr};
 use scad_fault::{Budget, BudgetKind};
+use scad_machine::{EvalFault, Machine};
 use scad_value::{Value, truth};
 
 /// A name with its expression, and the arguments behind it.
@@ -129,7 +128,7 @@ fn enter_element<'p>(
 }
 
 /// The next turn of a loop with start, test and step: its test.
-#[tactic(auto, using(crate::proofs::StackTurns::loops), unfolding(crate::specs::Stack::onto, crate::specs::State::over))]
+#[tactic(auto, using(crate::proofs::StackTurns::loops), unfolding(crate::specs::Stack::onto, scad_machine::specs::State::over))]
 fn repeat<'p>(
     all: Loop<'p>,
     back: u32,

@@ -5,26 +5,25 @@ ghost use Rattle.scad_ast.specs.Tree.{name, vector, index, member, let_in, asser
 ghost use Rattle.scad_ast.specs.View.{expression_of, arguments};
 ghost use Rattle.scad_ast.specs.View.{elements as tree_elements};
 ghost use Rattle.scad_value.specs.Datum.{string};
-ghost use Rattle.scad_expr.specs.Machine.{Held, held, env_in, along_in, state_of};
+ghost use Rattle.scad_machine.specs.Machine.{Held, held, env_in, along_in, state_of};
 ghost use Rattle.scad_expr.specs.Meaning.{node, value, meaning};
 ghost use Rattle.scad_expr.specs.Stack.{Whole, Goes, Leads, Below_by, followed, written_node, rest, height, made_in, rank, size};
-ghost use Rattle.scad_expr.specs.State.{State, Outcome};
+ghost use Rattle.scad_machine.specs.State.{State, Outcome};
 
 use crate::calls::{arguments, call_of_name};
 use crate::elements::more_elements;
-use crate::fault::EvalFault;
 use crate::frame::{Focus, Frame, Inside, Name, Purpose, Supply, Within, Written};
-use crate::loans::{lone_name, member_in};
-use crate::machine::Machine;
+use crate::loans::{lone_name, member_in, pass_name};
 use crate::named::bind_more;
 use crate::requirements::judge_named;
 use crate::stack::Stack;
 use scad_ast::{Arg, Elem, Expr, Node};
 use scad_fault::{Budget, BudgetKind, Chars, Place};
+use scad_machine::{EvalFault, Machine};
 use scad_value::Value;
 
 /// An expression that begins, with so many levels of depth left.
-#[tactic(auto, using(crate::proofs::StackTurns::depths), unfolding(crate::specs::Meaning::value_layer, crate::specs::State::over))]
+#[tactic(auto, using(crate::proofs::StackTurns::depths), unfolding(crate::specs::Meaning::value_layer, scad_machine::specs::State::over))]
 pub(crate) fn part<'p>(
     e: &'p Expr,
     depth: u32,
@@ -108,8 +107,7 @@ fn vector_node<'p>(
         (vector at (tree_elements all.now))) stack.old m.old) result stack.new m.new }
     ensures less { Below_by 9 result stack.old m.old stack.new m.new }
 {
-    let none = Vec::new(stack.alloc());
-    let outer = stack.exchange(none);
+    let outer = stack.set_aside();
     stack.push(Frame::Vector(at, outer))?;
     more_elements(all, depth, stack, m)
 }
@@ -154,7 +152,7 @@ fn index_of_name<'p>(
         (index _at (name of.entry.at of.entry.word.now) (expression_of i.now))) stack.old m.old) result stack.new m.new }
     ensures less { Below_by 9 result stack.old m.old stack.new m.new }
 {
-    m.pass_name(of.at, of.word, depth)?;
+    pass_name(of.at, of.word, depth, m)?;
     stack.wait(Frame::IndexedName(of.word), i, depth)
 }
 
@@ -175,7 +173,7 @@ fn member_node<'p>(
     let _place = at;
     match &a.node {
         Node::Name(name) => {
-            m.pass_name(a.at, name.as_slice(), depth)?;
+            pass_name(a.at, name.as_slice(), depth, m)?;
             Ok(Focus::Given(member_in(stack.alloc(), m.seek(name.as_slice()), word)?))
         }
         _ => stack.wait(Frame::Member(word), a, depth),
@@ -196,7 +194,7 @@ fn call_node<'p>(
 {
     match lone_name(written.args) {
         Some((at, word)) => {
-            m.pass_name(at, word, depth)?;
+            pass_name(at, word, depth, m)?;
             call_of_name(written, word, depth, stack, m)
         }
         None => {

@@ -5,17 +5,16 @@ ghost use Rattle.scad_builtin.specs.Builtin.{builtin};
 ghost use Rattle.scad_value.specs.Datum.{number};
 ghost use Rattle.scad_value.specs.Operators.{op, unary_op};
 ghost use Rattle.scad_value.specs.View.{datum_of, elements};
-ghost use Rattle.scad_expr.specs.Answers.{Does};
-ghost use Rattle.scad_expr.specs.Machine.{held, state_of};
+ghost use Rattle.scad_machine.specs.Answers.{Does};
+ghost use Rattle.scad_machine.specs.Machine.{held, state_of};
 ghost use Rattle.scad_expr.specs.Meaning.{operated, called_builtin, ranged, ranged_by_one, member_of};
 ghost use Rattle.scad_expr.specs.Runs.{range_of_ends};
-ghost use Rattle.scad_expr.specs.State.{State, make, refuses};
+ghost use Rattle.scad_machine.specs.State.{State, make, refuses};
 
-use crate::fault::EvalFault;
-use crate::machine::Machine;
 use scad_ast::{BinOp, UnOp};
 use scad_builtin::{BuiltinFault, call};
 use scad_fault::{Fault, FaultKind, Place, Text};
+use scad_machine::{EvalFault, Machine};
 use scad_num::Num;
 use scad_value::{Value, ValueFault, binary, index, unary};
 use std::alloc::{AllocError, Global};
@@ -42,72 +41,70 @@ pub(crate) fn named_fault(alloc: Global, kind: FaultKind, at: Place, name: &[u8]
     }
 }
 
-impl<'p> Machine<'p> {
-    /// The value of an operator between two values.
-    #[tactic(auto, unfolding(crate::specs::Meaning::operated, crate::specs::State::fault))]
-    pub(crate) fn binary(
-        &mut self,
-        alloc: Global,
-        at: Place,
-        kind: BinOp,
-        a: &Value,
-        b: &Value,
-    ) -> Result<Value, EvalFault>
-        ensures does { Does datum_of (operated at (op kind (datum_of a.now) (datum_of b.now))
-            (state_of self.old)) result (state_of self.new) }
-        ensures kept { held self.new ≡ held self.old }
-        ensures less { OnOk result (self.new.steps_left ≤ self.old.steps_left) }
-    {
-        match binary(alloc, kind, a, b) {
-            Ok(value) => self.make(at, value),
-            Err(ValueFault::ZeroDivisor) => Err(fault(alloc, FaultKind::ZeroDivisor, at)),
-            Err(ValueFault::NumberRange) => Err(fault(alloc, FaultKind::NumberRange, at)),
-            Err(ValueFault::Memory) => Err(EvalFault::Memory),
-        }
+/// The value of an operator between two values.
+#[tactic(auto, unfolding(crate::specs::Meaning::operated, scad_machine::specs::State::fault))]
+pub(crate) fn binary_at<'p>(
+    alloc: Global,
+    at: Place,
+    kind: BinOp,
+    a: &Value,
+    b: &Value,
+    m: &mut Machine<'p>,
+) -> Result<Value, EvalFault>
+    ensures does { Does datum_of (operated at (op kind (datum_of a.now) (datum_of b.now))
+        (state_of m.old)) result (state_of m.new) }
+    ensures kept { held m.new ≡ held m.old }
+    ensures less { OnOk result (m.new.steps_left ≤ m.old.steps_left) }
+{
+    match binary(alloc, kind, a, b) {
+        Ok(value) => m.make(at, value),
+        Err(ValueFault::ZeroDivisor) => Err(fault(alloc, FaultKind::ZeroDivisor, at)),
+        Err(ValueFault::NumberRange) => Err(fault(alloc, FaultKind::NumberRange, at)),
+        Err(ValueFault::Memory) => Err(EvalFault::Memory),
     }
+}
 
-    /// The value of an operator before a value.
-    pub(crate) fn unary(
-        &mut self,
-        alloc: Global,
-        at: Place,
-        kind: UnOp,
-        a: &Value,
-    ) -> Result<Value, EvalFault>
-        ensures does { Does datum_of (make at (unary_op kind (datum_of a.now)) (state_of self.old))
-            result (state_of self.new) }
-        ensures kept { held self.new ≡ held self.old }
-        ensures less { OnOk result (self.new.steps_left ≤ self.old.steps_left) }
-    {
-        match unary(alloc, kind, a) {
-            Ok(value) => self.make(at, value),
-            Err(_) => Err(EvalFault::Memory),
-        }
+/// The value of an operator before a value.
+pub(crate) fn unary_at<'p>(
+    alloc: Global,
+    at: Place,
+    kind: UnOp,
+    a: &Value,
+    m: &mut Machine<'p>,
+) -> Result<Value, EvalFault>
+    ensures does { Does datum_of (make at (unary_op kind (datum_of a.now)) (state_of m.old))
+        result (state_of m.new) }
+    ensures kept { held m.new ≡ held m.old }
+    ensures less { OnOk result (m.new.steps_left ≤ m.old.steps_left) }
+{
+    match unary(alloc, kind, a) {
+        Ok(value) => m.make(at, value),
+        Err(_) => Err(EvalFault::Memory),
     }
+}
 
-    /// The value of a function of the language.
-    #[tactic(auto, using(crate::proofs::InPlace::refused), unfolding(crate::specs::Meaning::called_builtin))]
-    pub(crate) fn builtin(
-        &mut self,
-        alloc: Global,
-        at: Place,
-        name: &[u8],
-        args: &[Value],
-    ) -> Result<Value, EvalFault>
-        ensures does { Does datum_of (called_builtin at name.now (builtin name.now (elements args.now))
-            (state_of self.old)) result (state_of self.new) }
-        ensures kept { held self.new ≡ held self.old }
-        ensures less { OnOk result (self.new.steps_left ≤ self.old.steps_left) }
-    {
-        match call(alloc, name, args) {
-            Ok(value) => self.make(at, value),
-            Err(e) => Err(refusal(alloc, at, name, e)),
-        }
+/// The value of a function of the language.
+#[tactic(auto, using(crate::proofs::InPlace::refused), unfolding(crate::specs::Meaning::called_builtin))]
+pub(crate) fn builtin_at<'p>(
+    alloc: Global,
+    at: Place,
+    name: &[u8],
+    args: &[Value],
+    m: &mut Machine<'p>,
+) -> Result<Value, EvalFault>
+    ensures does { Does datum_of (called_builtin at name.now (builtin name.now (elements args.now))
+        (state_of m.old)) result (state_of m.new) }
+    ensures kept { held m.new ≡ held m.old }
+    ensures less { OnOk result (m.new.steps_left ≤ m.old.steps_left) }
+{
+    match call(alloc, name, args) {
+        Ok(value) => m.make(at, value),
+        Err(e) => Err(refusal(alloc, at, name, e)),
     }
 }
 
 /// The fault for which a function of the language has no value.
-#[tactic(auto, unfolding(crate::specs::Meaning::called_builtin, crate::specs::State::fault, crate::specs::State::fault_of))]
+#[tactic(auto, unfolding(crate::specs::Meaning::called_builtin, scad_machine::specs::State::fault, scad_machine::specs::State::fault_of))]
 pub(crate) fn refusal(alloc: Global, at: Place, name: &[u8], e: BuiltinFault) -> EvalFault
     ensures told { (s : State) → result ≢ EvalFault.Memory
         → called_builtin at name.now (Err e) s ≡ refuses result s }
@@ -166,7 +163,7 @@ pub(crate) fn member(alloc: Global, a: &Value, name: &[u8]) -> Result<Value, All
 }
 
 /// `[start : step : end]` of three values.
-#[tactic(auto, unfolding(crate::specs::Meaning::ranged, crate::specs::State::fault))]
+#[tactic(auto, unfolding(crate::specs::Meaning::ranged, scad_machine::specs::State::fault))]
 pub(crate) fn range(
     alloc: Global,
     at: Place,
@@ -189,7 +186,7 @@ pub(crate) fn range(
     }
 }
 
-#[tactic(auto, unfolding(crate::specs::Meaning::ranged, crate::specs::State::fault))]
+#[tactic(auto, unfolding(crate::specs::Meaning::ranged, scad_machine::specs::State::fault))]
 fn range_of(alloc: Global, at: Place, a: Num, s: Num, b: Num) -> Result<Value, EvalFault>
     ensures { (st : State) → Does datum_of (ranged at (number a) (number s) (number b) st) result st }
 {

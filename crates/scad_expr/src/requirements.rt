@@ -4,22 +4,21 @@ ghost use Rattle.std.specs.Prelude.{◌≡◌, [], ◌∷◌, codes, option_map}
 ghost use Rattle.scad_ast.specs.View.{arguments};
 ghost use Rattle.scad_value.specs.View.{datum_of, data_of};
 ghost use Rattle.scad_scope.specs.Names.{value_of_name};
-ghost use Rattle.scad_expr.specs.Answers.{Does, nothing};
-ghost use Rattle.scad_expr.specs.Arguments.{given};
+ghost use Rattle.scad_machine.specs.Answers.{Does, nothing};
+ghost use Rattle.scad_machine.specs.Arguments.{given};
 ghost use Rattle.scad_expr.specs.Meaning.{tested, asserted, judge_named, judge_variables};
-ghost use Rattle.scad_expr.specs.State.{State};
+ghost use Rattle.scad_machine.specs.State.{State};
 ghost use Rattle.scad_expr.specs.Tested.{first_after, test_by};
 
-use crate::fault::EvalFault;
-use crate::names::are_named;
 use crate::operations::{fault, named_fault};
 use scad_ast::Arg;
 use scad_fault::{FaultKind, Place};
+use scad_machine::{EvalFault, are_named};
 use scad_value::{Value, truth};
 use std::alloc::Global;
 
 /// Every argument has a name.
-#[tactic(auto, unfolding(crate::specs::Meaning::judge_named, crate::specs::State::fault_of))]
+#[tactic(auto, unfolding(crate::specs::Meaning::judge_named, scad_machine::specs::State::fault_of))]
 pub fn judge_named(alloc: Global, at: Place, word: &[u8], args: &[Arg]) -> Result<(), EvalFault>
     ensures { (s : State) → Does nothing (judge_named at word.now (arguments args.now) s) result s }
 {
@@ -31,7 +30,7 @@ pub fn judge_named(alloc: Global, at: Place, word: &[u8], args: &[Arg]) -> Resul
 }
 
 /// There is an argument, and every one has a name.
-#[tactic(auto, using(crate::proofs::Lists::some), unfolding(crate::specs::Meaning::judge_variables, crate::specs::State::fault_of))]
+#[tactic(auto, using(crate::proofs::Lists::some), unfolding(crate::specs::Meaning::judge_variables, scad_machine::specs::State::fault_of))]
 pub fn judge_variables(alloc: Global, at: Place, word: &[u8], args: &[Arg]) -> Result<(), EvalFault>
     ensures { (s : State) → Does nothing (judge_variables at word.now (arguments args.now) s) result s }
 {
@@ -95,7 +94,7 @@ fn test_of<'a>(args: &[Arg], values: &'a [Value]) -> Option<&'a Value>
 }
 
 /// The judgement of a test.
-#[tactic(auto, unfolding(crate::specs::State::fault, crate::specs::State::fault_of))]
+#[tactic(auto, unfolding(scad_machine::specs::State::fault, scad_machine::specs::State::fault_of))]
 fn tested(alloc: Global, at: Place, test: Option<&Value>) -> Result<(), EvalFault>
     ensures { (s : State) → Does nothing (tested at (option_map (λ v. datum_of v.now) test.entry) s) result s }
 {

@@ -3,19 +3,18 @@
 ghost use Rattle.std.specs.Prelude.{◌≡◌, OnOk};
 ghost use Rattle.scad_ast.specs.View.{expression_of};
 ghost use Rattle.scad_value.specs.View.{datum_of};
-ghost use Rattle.scad_expr.specs.Answers.{Does};
-ghost use Rattle.scad_expr.specs.Machine.{held, env_in, along_in, state_of};
+ghost use Rattle.scad_machine.specs.Answers.{Does};
+ghost use Rattle.scad_machine.specs.Machine.{held, env_in, along_in, state_of};
 ghost use Rattle.scad_expr.specs.Meaning.{value};
 ghost use Rattle.scad_expr.specs.Stack.{Ending, Less, Done, rest, made_in, goes_on, size};
 
 use crate::answer::given;
 use crate::elements::element;
-use crate::fault::EvalFault;
 use crate::frame::Focus;
-use crate::machine::Machine;
 use crate::nodes::part;
 use crate::stack::Stack;
 use scad_ast::Expr;
+use scad_machine::{EvalFault, Machine};
 use scad_value::Value;
 use std::alloc::Global;
 

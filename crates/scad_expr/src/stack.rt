@@ -1,9 +1,9 @@
 //! The stack of an evaluation.
 
-use crate::fault::EvalFault;
 use crate::frame::{Focus, Frame};
 use crate::part::Part;
 use scad_ast::Expr;
+use scad_machine::EvalFault;
 use scad_value::Value;
 use std::alloc::{AllocError, AllocFailed, Global};
 use std::mem::replace;
@@ -20,11 +20,11 @@ impl<'p> Stack<'p> {
     ghost use Rattle.std.specs.Prelude.{◌≡◌, ◌+◌, ◌≤◌, ◌*◌, ◌++◌, ◌∷◌, [], OnOk, IfOk, MatchOption};
     ghost use Rattle.scad_ast.specs.View.{expression_of};
     ghost use Rattle.scad_value.specs.View.{datum_of};
-    ghost use Rattle.scad_expr.specs.Machine.{Held, env_in, along_in};
+    ghost use Rattle.scad_machine.specs.Machine.{Held, env_in, along_in};
     ghost use Rattle.scad_expr.specs.Meaning.{value};
     ghost use Rattle.scad_expr.specs.Parts.{parts_in};
     ghost use Rattle.scad_expr.specs.Stack.{Whole, Goes, rest, ended, onto, height, made_in, rank};
-    ghost use Rattle.scad_expr.specs.State.{State, Outcome, and_then};
+    ghost use Rattle.scad_machine.specs.State.{State, Outcome, and_then};
 
     /// A stack without frames.
     #[tactic(auto, unfolding(crate::specs::Stack::rest, crate::specs::Stack::height, crate::specs::Stack::made_in))]
@@ -101,5 +101,16 @@ impl<'p> Stack<'p> {
         ensures height { height self.new ≡ height self.old }
     {
         replace(&mut self.made, other)
+    }
+
+    /// An empty vector is made; gives what was added to the one before.
+    pub(crate) fn set_aside(&mut self) -> Vec<Part>
+        ensures made { made_in self.new ≡ [] }
+        ensures before { parts_in result ≡ made_in self.old }
+        ensures rest { rest self.new ≡ rest self.old }
+        ensures height { height self.new ≡ height self.old }
+    {
+        let none = Vec::new(self.alloc);
+        self.exchange(none)
     }
 }

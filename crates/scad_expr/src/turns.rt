@@ -3,19 +3,18 @@
 ghost use Rattle.std.specs.Prelude.{◌≡◌, ◌∷◌, [], IfOk, MatchOption};
 ghost use Rattle.scad_ast.specs.View.{arguments, element_of};
 ghost use Rattle.scad_value.specs.View.{datum_of};
-ghost use Rattle.scad_expr.specs.Machine.{held, env_in, along_in, state_of};
+ghost use Rattle.scad_machine.specs.Machine.{held, env_in, along_in, state_of};
 ghost use Rattle.scad_expr.specs.Meaning.{for_variables, meaning};
 ghost use Rattle.scad_expr.specs.Runs.{items};
 ghost use Rattle.scad_expr.specs.Stack.{Leads, Below_by, followed_list, turns_of, course, rest, made_in};
 
-use crate::fault::EvalFault;
 use crate::frame::{Course, Focus, Frame, Variable};
-use crate::machine::Machine;
 use crate::named::named;
 use crate::sequence::{items_of, next_number};
 use crate::stack::Stack;
 use scad_ast::{Arg, Elem};
 use scad_fault::Place;
+use scad_machine::{EvalFault, Machine};
 use scad_value::{Value, copy};
 use std::alloc::{AllocError, Global};
 

@@ -2,17 +2,16 @@
 
 ghost use Rattle.std.specs.Prelude.{◌≡◌, IfOk, OnOk};
 ghost use Rattle.scad_ast.specs.View.{expression_of, arguments};
-ghost use Rattle.scad_expr.specs.Answers.{Does};
-ghost use Rattle.scad_expr.specs.Machine.{held, env_in, along_in, state_of};
+ghost use Rattle.scad_machine.specs.Answers.{Does};
+ghost use Rattle.scad_machine.specs.Machine.{held, env_in, along_in, state_of};
 ghost use Rattle.scad_expr.specs.Meaning.{bound_in_order, meaning};
-ghost use Rattle.scad_expr.specs.Opened.{bound_in, outer, left, IsInner};
+ghost use Rattle.scad_machine.specs.Opened.{bound_in, outer, left, IsInner};
 ghost use Rattle.scad_expr.specs.Portions.{bind_one};
-ghost use Rattle.scad_expr.specs.Variables.{empty, within};
+ghost use Rattle.scad_machine.specs.Variables.{empty, within};
 
-use crate::fault::EvalFault;
-use crate::machine::Machine;
 use crate::run::eval_at;
 use scad_ast::{Arg, Args};
+use scad_machine::{EvalFault, Machine};
 use std::alloc::Global;
 
 /// Opens frames for the names of a `let`, and binds them from left to right, each seeing those before it. Gives the number of
@@ -37,7 +36,7 @@ pub fn let_names<'p>(
 
 /// Opens frames for the names of a `let`, and binds them from left to right. Gives the number of the
 /// frame from which names were sought before.
-#[tactic(auto, using(crate::proofs::OpenFrames::inner))]
+#[tactic(auto, using(scad_machine::proofs::OpenFrames::inner))]
 fn bind_names<'p>(
     alloc: Global,
     args: &'p [Arg],
@@ -81,7 +80,7 @@ fn set_names<'p>(
 }
 
 /// Binds a name in the last frames.
-#[tactic(auto, using(crate::proofs::OpenFrames::inner), unfolding(crate::specs::Portions::bind_one))]
+#[tactic(auto, using(scad_machine::proofs::OpenFrames::inner), unfolding(crate::specs::Portions::bind_one))]
 fn set_one<'p>(
     alloc: Global,
     arg: &'p Arg,

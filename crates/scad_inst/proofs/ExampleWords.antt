@@ -9,8 +9,8 @@ use Rattle.scad_geom.specs.declared.point3.Pt3.{Pt3}
 use Rattle.scad_solid.specs.declared.triangle.Triangle.{Triangle}
 use Rattle.scad_ast.specs.Tree.{Expression, Parameter, Items}
 use Rattle.scad_tree.specs.Solid.{Solid, Solids, nothing, surface, union, intersection, difference, none, member}
-use Rattle.scad_expr.specs.declared.fault.EvalFault.{EvalFault}
-use Rattle.scad_expr.specs.declared.fault.EvalFault.TheVariants.{Fault, Over}
+use Rattle.scad_machine.specs.declared.fault.EvalFault.{EvalFault}
+use Rattle.scad_machine.specs.declared.fault.EvalFault.TheVariants.{Fault, Over}
 use Rattle.scad_expr.specs.State.{Outcome, gives, refuses}
 use Rattle.scad_inst.specs.Meaning.{means}
 

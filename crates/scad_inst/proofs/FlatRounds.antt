@@ -10,7 +10,7 @@ use Rattle.scad_modules.specs.View.{outline, outlines}
 use Rattle.scad_tree.specs.declared.node.Node.{Node}
 use Rattle.scad_tree.specs.Solid.{Solid}
 use Rattle.scad_tree.specs.View.{solid_of, solids}
-use Rattle.scad_expr.specs.declared.fault.EvalFault.{EvalFault}
+use Rattle.scad_machine.specs.declared.fault.EvalFault.{EvalFault}
 use Rattle.scad_expr.specs.State.{State, Outcome, gives, refuses, Action, and_then}
 use Rattle.scad_expr.proofs.Loops.{goes, stops}
 use Rattle.scad_inst.specs.declared.space.Where.{Where}

@@ -1,7 +1,7 @@
 -- `linear_extrude` goes on with the height that its arguments say, or stops at their fault.
 use Rattle.std.proofs.Common.{◌≡◌, ℤ, Bool, ◌∙◌}
 use Rattle.scad_fault.specs.declared.place.Place.{Place}
-use Rattle.scad_expr.specs.declared.fault.EvalFault.{EvalFault}
+use Rattle.scad_machine.specs.declared.fault.EvalFault.{EvalFault}
 use Rattle.scad_expr.specs.State.{State, Action, gives, refuses, ◌>>=◌, ◌>>◌}
 use Rattle.scad_expr.proofs.Loops.{goes, stops}
 use Rattle.scad_tree.specs.Solid.{Solid}

@@ -12,7 +12,7 @@ use Rattle.scad_expr.specs.Variables.{is_dollar, Bound, empty, within}
 use Rattle.scad_expr.specs.Variables.{set as set_name}
 use Rattle.scad_scope.specs.Assigned.{bindings}
 use Rattle.scad_scope.specs.declared.binding.Binding.{Binding}
-use Rattle.scad_expr.specs.declared.fault.EvalFault.{EvalFault}
+use Rattle.scad_machine.specs.declared.fault.EvalFault.{EvalFault}
 use Rattle.scad_expr.specs.State.{State, gives, refuses, and_then, pure}
 use Rattle.scad_inst.specs.Frames.{below_of, scope_held, IsScope}
 use Rattle.scad_inst.specs.Meaning.{statements_meaning, assigned, opened_scope}

@@ -14,8 +14,8 @@ use Rattle.scad_hull.specs.Flat.{ring_hull_of}
 use Rattle.scad_modules.specs.Outline.{Pair}
 use Rattle.scad_tree.specs.Points.{is_united, points_of}
 use Rattle.scad_tree.specs.Solid.{Solid, nothing, surface}
-use Rattle.scad_expr.specs.declared.fault.EvalFault.{EvalFault}
-use Rattle.scad_expr.specs.declared.fault.EvalFault.TheVariants.{Over, Memory as WantOfMemory}
+use Rattle.scad_machine.specs.declared.fault.EvalFault.{EvalFault}
+use Rattle.scad_machine.specs.declared.fault.EvalFault.TheVariants.{Over, Memory as WantOfMemory}
 use Rattle.scad_expr.specs.State.{Action, pure, ◌>>=◌, ◌>>◌, refuse, fault_of}
 use Rattle.scad_inst.specs.declared.space.Space.{Space}
 use Rattle.scad_inst.specs.declared.space.Space.TheVariants.{Solid as Outside, Linear, Turned}

@@ -17,8 +17,8 @@ use Rattle.scad_modules.specs.Primitive.{Primitive, triangles_of, solid_of}
 use Rattle.scad_modules.specs.Reading.{Read}
 use Rattle.scad_tree.specs.Nesting.{nesting}
 use Rattle.scad_tree.specs.Solid.{Solid, surface}
-use Rattle.scad_expr.specs.declared.fault.EvalFault.{EvalFault}
-use Rattle.scad_expr.specs.declared.fault.EvalFault.TheVariants.{Fault, Memory as WantOfMemory}
+use Rattle.scad_machine.specs.declared.fault.EvalFault.{EvalFault}
+use Rattle.scad_machine.specs.declared.fault.EvalFault.TheVariants.{Fault, Memory as WantOfMemory}
 use Rattle.scad_expr.specs.State.{Action, pure, ◌>>◌, refuse, fault, over}
 use Rattle.scad_inst.specs.declared.space.Space.{Space}
 use Rattle.scad_inst.specs.declared.space.Space.TheVariants.{Solid as Outside, Linear, Turned}

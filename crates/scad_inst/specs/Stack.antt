@@ -8,9 +8,9 @@ use Rattle.scad_value.specs.View.{data_of}
 use Rattle.scad_tree.specs.Normal.{united}
 use Rattle.scad_tree.specs.Solid.{Solid, nothing}
 use Rattle.scad_tree.specs.View.{solid_of, solids}
-use Rattle.scad_expr.specs.declared.fault.EvalFault.{EvalFault}
-use Rattle.scad_expr.specs.declared.fault.EvalFault.TheVariants.{Memory}
-use Rattle.scad_expr.specs.declared.machine.Machine.{Machine}
+use Rattle.scad_machine.specs.declared.fault.EvalFault.{EvalFault}
+use Rattle.scad_machine.specs.declared.fault.EvalFault.TheVariants.{Memory}
+use Rattle.scad_machine.specs.declared.machine.Machine.{Machine}
 use Rattle.scad_expr.specs.Machine.{Held, held, env_in, along_in, state_of}
 use Rattle.scad_expr.specs.Opened.{left}
 use Rattle.scad_expr.specs.Portions.{numbers_left}

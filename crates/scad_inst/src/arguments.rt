@@ -6,7 +6,7 @@ ghost use Rattle.scad_modules.specs.Reading.{Read};
 ghost use Rattle.scad_modules.specs.Outline.{Pair};
 ghost use Rattle.scad_modules.specs.Outline.{Outline as Flat};
 ghost use Rattle.scad_modules.specs.View.{primitive, outlines, Reads};
-ghost use Rattle.scad_expr.specs.declared.fault.EvalFault.TheVariants.{Memory};
+ghost use Rattle.scad_machine.specs.declared.fault.EvalFault.TheVariants.{Memory};
 ghost use Rattle.scad_expr.specs.Answers.{Does};
 ghost use Rattle.scad_expr.specs.State.{State};
 ghost use Rattle.scad_inst.specs.Made.{argument_fault, argued, placed_by};

@@ -18,7 +18,7 @@ ghost use Rattle.scad_inst.specs.View.{found_at};
 
 use crate::modules::DefinedAt;
 use scad_ast::{Arg, Args, Scope};
-use scad_expr::{EvalFault, Machine, bind, let_names};
+use scad_expr::{Callee, EvalFault, Machine, bind, let_names};
 use scad_scope::Kept;
 use scad_value::{Value, copy};
 use std::alloc::Global;
@@ -126,7 +126,11 @@ pub(crate) fn open_own<'p>(
         scope: all,
         home: back,
     });
-    bind(alloc, own.module.params, args, found, own.home, kept, m)?;
+    let callee = Callee {
+        params: own.module.params,
+        home: own.home,
+    };
+    bind(alloc, callee, args, found, kept, m)?;
     Ok(back)
 }
 

@@ -15,7 +15,7 @@ ghost use Rattle.scad_scope.specs.View.{stored};
 ghost use Rattle.scad_expr.specs.Machine.{held, env_in, along_in, state_of};
 ghost use Rattle.scad_expr.specs.State.{State, Outcome, start, depth_limit};
 ghost use Rattle.scad_expr.specs.Variables.{first_env, first_along};
-ghost use Rattle.scad_expr.specs.declared.fault.EvalFault.TheVariants.{Memory};
+ghost use Rattle.scad_machine.specs.declared.fault.EvalFault.TheVariants.{Memory};
 ghost use Rattle.scad_inst.specs.FirstFrames.{outermost};
 
 use crate::answers::{Model, ModelEnd};

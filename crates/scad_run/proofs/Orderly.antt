@@ -16,7 +16,7 @@ use Rattle.scad_script.specs.Steps.{Step, Reads, Sends, reading}
 use Rattle.scad_script.specs.Script.{Script, Ending, Finishes, Refuses, Lacks, first, ends}
 use Rattle.scad_script.specs.Names.{Given, UsesGiven, IsAmong, AllFrom, OnlyReads, IsOrderly}
 use Rattle.scad_script.proofs.Layers.{lacks_nothing}
-use Rattle.scad_expr.specs.declared.fault.EvalFault.TheVariants.{Fault, Over, Memory}
+use Rattle.scad_machine.specs.declared.fault.EvalFault.TheVariants.{Fault, Over, Memory}
 use Rattle.scad_expr.specs.State.{Outcome, gives, refuses}
 use Rattle.scad_tree.specs.Solid.{Solid}
 use Rattle.scad_tree.specs.Order.{leaves as leaf_count}

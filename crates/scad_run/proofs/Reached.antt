@@ -11,7 +11,7 @@ use Rattle.scad_script.specs.declared.refusal.Refusal.TheVariants.{Source, Usage
 use Rattle.scad_script.specs.Steps.{Reads, echoing, text_of}
 use Rattle.scad_script.specs.Script.{Script, Ending, Finishes, Refuses, Lacks, first, ends}
 use Rattle.scad_script.specs.Names.{AllUpTo}
-use Rattle.scad_expr.specs.declared.fault.EvalFault.TheVariants.{Fault as IsFault, Over as IsOver, Memory as NoMemory}
+use Rattle.scad_machine.specs.declared.fault.EvalFault.TheVariants.{Fault as IsFault, Over as IsOver, Memory as NoMemory}
 use Rattle.scad_expr.specs.State.{State, Outcome, gives, refuses}
 use Rattle.scad_tree.specs.Solid.{Solid}
 use Rattle.cli_text.specs.Cli.{Layer}

@@ -7,7 +7,7 @@ use Rattle.scad_grammar.specs.Machine.{Refusal, syntax_at, nesting_at, left_out_
 use Rattle.scad_lex.specs.declared.fault.LexFault.TheVariants.{BadText, Range, Memory}
 use Rattle.scad_lex.specs.Tokens.{Answer, tokens}
 use Rattle.scad_lex.proofs.Refusals.{IsOfText, of_text-tokens}
-use Rattle.scad_expr.specs.declared.fault.EvalFault.TheVariants.{Fault, Over, Memory as WantOfMemory}
+use Rattle.scad_machine.specs.declared.fault.EvalFault.TheVariants.{Fault, Over, Memory as WantOfMemory}
 use Rattle.scad_expr.specs.State.{State, Outcome, gives, refuses}
 use Rattle.scad_tree.specs.Solid.{Solid}
 use Rattle.scad_tree.specs.Solids.{AreSolids}

@@ -16,8 +16,8 @@ use Rattle.scad_script.specs.declared.stop.Stop.{Stop}
 use Rattle.scad_script.specs.Script.{Script, Refuses, ends}
 use Rattle.scad_script.specs.Played.{Left, Stops, EndsIn}
 use Rattle.scad_script.proofs.Layers.{as_left}
-use Rattle.scad_expr.specs.declared.fault.EvalFault.{EvalFault}
-use Rattle.scad_expr.specs.declared.fault.EvalFault.TheVariants.{Memory}
+use Rattle.scad_machine.specs.declared.fault.EvalFault.{EvalFault}
+use Rattle.scad_machine.specs.declared.fault.EvalFault.TheVariants.{Memory}
 use Rattle.scad_expr.specs.State.{Outcome, refuses, start}
 use Rattle.scad_tree.specs.Solid.{Solid}
 use Rattle.scad_tree.specs.declared.tree.Tree.{Tree}

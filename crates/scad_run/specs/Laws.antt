@@ -8,7 +8,7 @@ use Rattle.scad_fault.specs.declared.status.Status.{Status}
 use Rattle.scad_io.specs.Desk.{Files, View}
 use Rattle.scad_script.specs.declared.loading.Input.{Input}
 use Rattle.scad_script.specs.Script.{answer_of}
-use Rattle.scad_expr.specs.declared.fault.EvalFault.TheVariants.{Memory}
+use Rattle.scad_machine.specs.declared.fault.EvalFault.TheVariants.{Memory}
 use Rattle.scad_expr.specs.State.{State, gives, refuses}
 use Rattle.scad_tree.specs.Solid.{Solid}
 use Rattle.scad_tree.specs.Solids.{AreSolids}

@@ -9,8 +9,8 @@ use Rattle.scad_lex.specs.declared.fault.LexFault.TheVariants.{BadText, Range, M
 use Rattle.scad_lex.specs.Tokens.{Answer, tokens}
 use Rattle.scad_ast.specs.Tree.{Items}
 use Rattle.scad_grammar.specs.Machine.{Refusal, syntax_at, nesting_at, left_out_at, outcome_of}
-use Rattle.scad_expr.specs.declared.fault.EvalFault.{EvalFault}
-use Rattle.scad_expr.specs.declared.fault.EvalFault.TheVariants.{Fault, Over, Memory as WantOfMemory}
+use Rattle.scad_machine.specs.declared.fault.EvalFault.{EvalFault}
+use Rattle.scad_machine.specs.declared.fault.EvalFault.TheVariants.{Fault, Over, Memory as WantOfMemory}
 use Rattle.scad_expr.specs.State.{Outcome, refuses, start, State, gives}
 use Rattle.scad_tree.specs.Solid.{Solid}
 use Rattle.scad_inst.specs.Meaning.{means}

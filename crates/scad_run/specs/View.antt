@@ -2,8 +2,8 @@
 use Rattle.scad_fault.specs.declared.fault.FaultKind.TheVariants.{Syntax as IsSyntax, Nesting as IsNesting, LeftOut as IsLeftOut}
 use Rattle.scad_parse.specs.declared.fault.ParseFault.{ParseFault}
 use Rattle.scad_parse.specs.declared.fault.ParseFault.TheVariants.{Memory, Syntax, Nesting, LeftOut}
-use Rattle.scad_expr.specs.declared.fault.EvalFault.{EvalFault}
-use Rattle.scad_expr.specs.declared.fault.EvalFault.TheVariants.{Fault, Memory as WantOfMemory}
+use Rattle.scad_machine.specs.declared.fault.EvalFault.{EvalFault}
+use Rattle.scad_machine.specs.declared.fault.EvalFault.TheVariants.{Fault, Memory as WantOfMemory}
 use Rattle.scad_run.specs.Meaning.{fault_at}
 
 -- why tokens are no program, as the parser answers it

@@ -6,10 +6,10 @@ use Rattle.scad_ast.specs.View.{expression_of, arguments}
 use Rattle.scad_value.specs.Datum.{Datum}
 use Rattle.scad_value.specs.View.{data_in}
 use Rattle.scad_value.proofs.Lists.{arguments-drop}
-use Rattle.scad_expr.specs.Machine.{held, env_in, along_in, state_of}
+use Rattle.scad_machine.specs.Machine.{held, env_in, along_in, state_of}
 use Rattle.scad_expr.specs.Meaning.{meaning}
 use Rattle.scad_expr.specs.Stack.{Whole, onto, rest, made_in, supplied, supplied_in}
-use Rattle.scad_expr.specs.State.{Outcome, and_then}
+use Rattle.scad_machine.specs.State.{Outcome, and_then}
 use Rattle.scad_expr.proofs.StackTurns.{supplied-next, supplied-end}
 use Rattle.scad_expr.proofs.calls.arguments.Goals as goal
 

@@ -5,12 +5,12 @@ use Rattle.scad_value.specs.Datum.{Datum}
 use Rattle.scad_value.specs.declared.value.Value.{Value}
 use Rattle.scad_value.specs.View.{datum_of, data_of}
 use Rattle.scad_scope.specs.Stored.{envs}
-use Rattle.scad_expr.specs.Machine.{held, env_in, along_in, state_of}
+use Rattle.scad_machine.specs.Machine.{held, env_in, along_in, state_of}
 use Rattle.scad_expr.specs.Meaning.{meaning, called_own}
 use Rattle.scad_expr.specs.Stack.{rest, made_in}
-use Rattle.scad_expr.specs.State.{and_then}
-use Rattle.scad_expr.specs.Variables.{variable}
-use Rattle.scad_expr.specs.View.{found_at}
+use Rattle.scad_machine.specs.State.{and_then}
+use Rattle.scad_machine.specs.Variables.{variable}
+use Rattle.scad_machine.specs.View.{found_at}
 use Rattle.scad_expr.proofs.calls.own_of_name.Goals as goal
 
 pub returns-in_err-value-clause-goes : goal.returns-in_err-value-clause-goes

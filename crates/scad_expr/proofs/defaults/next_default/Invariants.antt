@@ -1,9 +1,9 @@
 use Rattle.std.proofs.Common.{◌≡◌, ◌-◌, length, map, drop}
 use Rattle.scad_ast.specs.Scope.{parameter}
-use Rattle.scad_expr.specs.Machine.{Held, held, state_of}
+use Rattle.scad_machine.specs.Machine.{Held, held, state_of}
 use Rattle.scad_expr.specs.Meaning.{Below}
 use Rattle.scad_expr.specs.Stack.{Whole, fills}
-use Rattle.scad_expr.specs.State.{State, Action}
+use Rattle.scad_machine.specs.State.{State, Action}
 use Rattle.scad_expr.proofs.defaults.next_default.Given as goal
 
 abbrev pub invariant-missing : goal.invariant-missing

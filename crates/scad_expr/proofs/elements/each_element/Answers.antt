@@ -1,9 +1,8 @@
 use Rattle.std.proofs.Common.{ap, ◌∙◌}
 use Rattle.scad_ast.specs.View.{element_of}
 use Rattle.scad_expr.specs.declared.frame.Frame.TheVariants.{Each}
-use Rattle.scad_expr.specs.Machine.{held, state_of}
+use Rattle.scad_machine.specs.Machine.{held, state_of}
 use Rattle.scad_expr.specs.Meaning.{meaning}
-use Rattle.scad_expr.specs.Parts.{parts_of}
 use Rattle.scad_expr.specs.Stack.{rest, made_in, onto, goes_on}
 use Rattle.scad_expr.proofs.StackBegins.{each-node-begins}
 use Rattle.scad_expr.proofs.elements.each_element.Goals as goal
@@ -13,7 +12,7 @@ unfolding goes_on meaning
 returns-clause-goes c = λ o is.
     is ∙ each-node-begins (meaning c.args.depth) c.args.at (element_of c.args.e.now) (rest c.args.stack.now)
     (rest c.push.new.self) (held c.args.m.now) (held c.step.new.self) (made_in c.args.stack.now)
-    (made_in c.push.new.self) c.exchange-outer.result (state_of c.args.m.now) (state_of c.step.new.self)
-    c.in_ok-step.ensures.does c.in_ok-step.ensures.kept c.exchange-outer.ensures.before
-    (c.in_ok-push.ensures.made ∙ c.exchange-outer.ensures.made ∙ ap parts_of c.new-none.ensures.items)
-    (c.in_ok-push.ensures.rest ∙ ap (onto (Each c.exchange-outer.result)) c.exchange-outer.ensures.rest)
+    (made_in c.push.new.self) c.set_aside-outer.result (state_of c.args.m.now) (state_of c.step.new.self)
+    c.in_ok-step.ensures.does c.in_ok-step.ensures.kept c.set_aside-outer.ensures.before
+    (c.in_ok-push.ensures.made ∙ c.set_aside-outer.ensures.made)
+    (c.in_ok-push.ensures.rest ∙ ap (onto (Each c.set_aside-outer.result)) c.set_aside-outer.ensures.rest)

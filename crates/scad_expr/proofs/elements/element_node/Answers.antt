@@ -3,7 +3,7 @@ use Rattle.std.specs.Borrow.{Bor}
 use Rattle.scad_ast.specs.declared.expression.Expr.{Expr}
 use Rattle.scad_ast.specs.View.{arguments}
 use Rattle.scad_expr.specs.declared.frame.Loop.{Loop}
-use Rattle.scad_expr.specs.Machine.{held, state_of}
+use Rattle.scad_machine.specs.Machine.{held, state_of}
 use Rattle.scad_expr.specs.Stack.{rest, made_in}
 use Rattle.scad_expr.proofs.Views.{for_node, loop_node, let_element_node}
 use Rattle.scad_expr.proofs.StackBegins.{element-same, loop-same}

@@ -1,6 +1,6 @@
 use Rattle.std.proofs.Common.{◌∙◌}
 use Rattle.scad_ast.specs.View.{expression_of}
-use Rattle.scad_expr.specs.Machine.{held, state_of}
+use Rattle.scad_machine.specs.Machine.{held, state_of}
 use Rattle.scad_expr.specs.Stack.{rest, made_in}
 use Rattle.scad_expr.proofs.StackBegins.{if-begins}
 use Rattle.scad_expr.proofs.elements.if_node.Goals as goal

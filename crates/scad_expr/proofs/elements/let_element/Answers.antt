@@ -1,6 +1,6 @@
 use Rattle.std.proofs.Common.{sym, ap, ◌∙◌}
 use Rattle.scad_ast.specs.View.{arguments}
-use Rattle.scad_expr.specs.Machine.{Held, held, state_of}
+use Rattle.scad_machine.specs.Machine.{Held, held, state_of}
 use Rattle.scad_expr.specs.Stack.{rest, made_in}
 use Rattle.scad_expr.proofs.Loops.{same-state}
 use Rattle.scad_expr.proofs.StackBegins.{let-element-node-begins}

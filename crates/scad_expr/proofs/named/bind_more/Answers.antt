@@ -1,6 +1,6 @@
 use Rattle.std.proofs.Common.{◌∙◌}
 use Rattle.scad_ast.specs.View.{expression_of, arguments}
-use Rattle.scad_expr.specs.Machine.{held, state_of}
+use Rattle.scad_machine.specs.Machine.{held, state_of}
 use Rattle.scad_expr.specs.Meaning.{meaning}
 use Rattle.scad_expr.specs.Stack.{rest, made_in, inside, onto}
 use Rattle.scad_expr.proofs.StackTurns.{binds-some}

@@ -1,7 +1,7 @@
 use Rattle.std.proofs.Common.{◌≡◌, true, ◌∙◌}
 use Rattle.scad_value.specs.Comparison.{truth}
 use Rattle.scad_value.specs.View.{datum_of}
-use Rattle.scad_expr.specs.Machine.{held, state_of}
+use Rattle.scad_machine.specs.Machine.{held, state_of}
 use Rattle.scad_expr.specs.Meaning.{meaning}
 use Rattle.scad_expr.specs.Stack.{rest, made_in, goes_on}
 use Rattle.scad_expr.proofs.StackBegins.{test-holds}

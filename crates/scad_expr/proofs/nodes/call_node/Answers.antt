@@ -5,13 +5,13 @@ use Rattle.scad_fault.specs.declared.place.Place.{Place}
 use Rattle.scad_ast.specs.Tree.{name}
 use Rattle.scad_ast.specs.View.{arguments}
 use Rattle.scad_value.specs.Datum.{Datum}
-use Rattle.scad_expr.specs.Functions.{function_named}
-use Rattle.scad_expr.specs.Machine.{Held, held, env_in, along_in, state_of}
+use Rattle.scad_machine.specs.Functions.{function_named}
+use Rattle.scad_machine.specs.Machine.{Held, held, env_in, along_in, state_of}
 use Rattle.scad_expr.specs.Meaning.{meaning, called}
 use Rattle.scad_expr.specs.Portions.{lone}
 use Rattle.scad_expr.specs.Stack.{rest, made_in, called_as}
-use Rattle.scad_expr.specs.State.{Outcome, Action, and_then}
-use Rattle.scad_expr.specs.Variables.{variable}
+use Rattle.scad_machine.specs.State.{Outcome, Action, and_then}
+use Rattle.scad_machine.specs.Variables.{variable}
 use Rattle.scad_expr.proofs.StackTurns.{node-lone}
 use Rattle.scad_expr.proofs.nodes.call_node.Goals as goal
 
@@ -49,5 +49,5 @@ returns-in_ok-pass_name-in-Some-clause-goes c = λ o is.
     (state_of c.args.m.now) alone
     ∙ ap (λ (r : Outcome Datum). and_then r call) c.in_ok-pass_name-in-Some.ensures.does)
     ∙ ap (λ (x : Held). and_then (called_as w c.args.depth x (variable word (env_in x) (along_in x) ∷ [])
-    (state_of c.pass_name.new.self)) (rest c.args.stack.now x (made_in c.args.stack.now)))
+    (state_of c.pass_name.new.m)) (rest c.args.stack.now x (made_in c.args.stack.now)))
     (sym c.in_ok-pass_name-in-Some.ensures.kept))

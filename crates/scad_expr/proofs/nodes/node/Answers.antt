@@ -4,10 +4,10 @@ use Rattle.scad_ast.specs.Tree.{name}
 use Rattle.scad_ast.specs.View.{expression_at, expression_of}
 use Rattle.scad_value.specs.Datum.{Datum}
 use Rattle.scad_value.specs.View.{datum_of}
-use Rattle.scad_expr.specs.Machine.{held, env_in, along_in, state_of}
+use Rattle.scad_machine.specs.Machine.{held, env_in, along_in, state_of}
 use Rattle.scad_expr.specs.Meaning.{node}
 use Rattle.scad_expr.specs.Stack.{rest, made_in, goes_on}
-use Rattle.scad_expr.specs.Variables.{variable}
+use Rattle.scad_machine.specs.Variables.{variable}
 use Rattle.scad_expr.proofs.Views.{list_node, call_node, let_node, assert_node, echo_node}
 use Rattle.scad_expr.proofs.StackBegins.{node-same}
 use Rattle.scad_expr.proofs.nodes.node.Goals as goal

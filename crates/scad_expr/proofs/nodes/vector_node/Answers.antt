@@ -1,9 +1,8 @@
 use Rattle.std.proofs.Common.{ap, ◌∙◌}
 use Rattle.scad_ast.specs.View.{elements}
 use Rattle.scad_expr.specs.declared.frame.Frame.TheVariants.{Vector}
-use Rattle.scad_expr.specs.Machine.{held, state_of}
+use Rattle.scad_machine.specs.Machine.{held, state_of}
 use Rattle.scad_expr.specs.Meaning.{meaning}
-use Rattle.scad_expr.specs.Parts.{parts_of}
 use Rattle.scad_expr.specs.Stack.{rest, made_in, onto}
 use Rattle.scad_expr.proofs.StackBegins.{vector-begins}
 use Rattle.scad_expr.proofs.nodes.vector_node.Goals as goal
@@ -12,6 +11,6 @@ pub returns-clause-goes : goal.returns-clause-goes
 returns-clause-goes c = λ o is.
     c.more_elements.ensures.goes o (is ∙ vector-begins (meaning c.args.depth) c.args.at (elements c.args.all.now)
     (rest c.args.stack.now) (rest c.push.new.self) (held c.args.m.now) (made_in c.args.stack.now)
-    (made_in c.push.new.self) c.exchange-outer.result (state_of c.args.m.now) c.exchange-outer.ensures.before
-    (c.in_ok-push.ensures.made ∙ c.exchange-outer.ensures.made ∙ ap parts_of c.new-none.ensures.items)
-    (c.in_ok-push.ensures.rest ∙ ap (onto (Vector c.args.at c.exchange-outer.result)) c.exchange-outer.ensures.rest))
+    (made_in c.push.new.self) c.set_aside-outer.result (state_of c.args.m.now) c.set_aside-outer.ensures.before
+    (c.in_ok-push.ensures.made ∙ c.set_aside-outer.ensures.made)
+    (c.in_ok-push.ensures.rest ∙ ap (onto (Vector c.args.at c.set_aside-outer.result)) c.set_aside-outer.ensures.rest))

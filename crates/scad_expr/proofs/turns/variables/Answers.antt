@@ -1,6 +1,6 @@
 use Rattle.std.proofs.Common.{◌∙◌}
 use Rattle.scad_ast.specs.View.{expression_of, element_of, arguments}
-use Rattle.scad_expr.specs.Machine.{held, env_in, along_in, state_of}
+use Rattle.scad_machine.specs.Machine.{held, env_in, along_in, state_of}
 use Rattle.scad_expr.specs.Meaning.{meaning}
 use Rattle.scad_expr.specs.Stack.{rest, made_in, added, onto}
 use Rattle.scad_expr.proofs.StackTurns.{variables-some}

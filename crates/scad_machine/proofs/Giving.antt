@@ -1,0 +1,136 @@
+-- Arguments that are given one by one.
+use Rattle.std.proofs.Common.{◌≡◌, ℕ, zero, suc, ◌+◌, ◌<◌, ◌≤◌, Bool, true, false, List, [], ◌∷◌, map, length, get_or, drop, Option, Some, None, is_some, if◌then◌else◌, refl, sym, ap, ◌∙◌, arith}
+use Rattle.std.proofs.lemmas.List.{drop_more, drop_all}
+use Rattle.std.specs.Borrow.{Bor}
+use Rattle.std.specs.Map.{lookup}
+use Rattle.std.specs.Prelude.{nat_eq, slice_get}
+use Rattle.std.specs.Cmp.Lexicographic.{pointwise}
+use Rattle.indexmap.specs.IndexMap.{insert_entry}
+use Rattle.scad_ast.specs.declared.expression.Arg.{Arg}
+use Rattle.scad_ast.specs.declared.statement.Param.{Param}
+use Rattle.scad_ast.specs.declared.statement.Item.{Item}
+use Rattle.scad_ast.specs.Tree.{Arguments, no_arguments, argument}
+use Rattle.scad_ast.specs.View.{expression_of, arguments}
+use Rattle.scad_ast.specs.Scope.{parameter, item_of, items}
+use Rattle.scad_value.specs.Datum.{Datum}
+use Rattle.scad_value.specs.View.{datum_of}
+use Rattle.scad_value.specs.declared.value.Value.{Value}
+use Rattle.scad_scope.specs.Names.{Names, value_of_name, with_name}
+use Rattle.scad_machine.specs.Arguments.{given_from, is_given, is_statement, statements}
+use Rattle.scad_machine.specs.Given.{parameter_names, shown, taken, counted_on}
+use Rattle.scad_machine.proofs.Homes.{items-drop, items-drop_all}
+use Rattle.scad_value.proofs.Lists.{arguments-drop, arguments-drop_all}
+
+pub nothing-left : {A : Type 0} (all : List A) → length all ≤ 0 → all ≡ []
+nothing-left [] none = refl
+nothing-left (a ∷ all) none = absurd (let no : ⊥ = omega arith in no)
+
+-- ---- the parameters that are left in a loop
+pub names-drop : (all : List Param) (i : ℕ) (p : Param) → i < length all → p ≡ get_or all i p
+    → parameter_names (drop i all) ≡ p.name ∷ parameter_names (drop (i + 1) all)
+names-drop all i p below is = ap parameter_names (drop_more all i p below) ∙ ap
+    (λ q. q.name ∷ parameter_names (drop (i + 1) all)) (sym is)
+
+pub names-drop_all : (all : List Param) (i : ℕ) → length all ≤ i → parameter_names (drop i all) ≡ []
+names-drop_all all i past = ap parameter_names (drop_all i all past)
+
+pub parameters-drop : (all : List Param) (i : ℕ) (p : Param) → i < length all → p ≡ get_or all i p
+    → map parameter (drop i all) ≡ parameter p ∷ map parameter (drop (i + 1) all)
+parameters-drop all i p below is = ap (map parameter) (drop_more all i p below)
+    ∙ ap (λ q. parameter q ∷ map parameter
+    (drop (i + 1) all)) (sym is)
+
+pub parameters-drop_all : (all : List Param) (i : ℕ) → length all ≤ i → map parameter (drop i all) ≡ []
+parameters-drop_all all i past = ap (map parameter) (drop_all i all past)
+
+pub name_there : (all : List Param) (i : ℕ) (p : Param) → i < length all → p ≡ get_or all i p
+    → slice_get (parameter_names all) i ≡ Some p.name
+name_there [] i p below is = absurd (omega arith)
+name_there (q ∷ all) zero p below is = ap (λ x. Some x.name) (sym is)
+name_there (q ∷ all) (suc i) p below is = name_there all i p (omega arith) is
+
+pub name_past : (all : List Param) (i : ℕ) → length all ≤ i → slice_get (parameter_names all) i ≡ None
+name_past [] i past = refl
+name_past (q ∷ all) zero past = absurd (omega arith)
+name_past (q ∷ all) (suc i) past = name_past all i (omega arith)
+
+pub names-parameters : (all : List Param) → map (λ p. p.name) (map parameter all) ≡ parameter_names all
+names-parameters [] = refl
+names-parameters (p ∷ all) = ap (λ l. p.name ∷ l) (names-parameters all)
+
+-- ---- names in a map
+pub shown_insert : (key : Bor (List ℕ)) (v : Value) (es : List (Bor (List ℕ) × Value))
+    → map shown (insert_entry (λ a b. pointwise nat_eq a.now b.now) es key v) ≡ with_name key.now (datum_of v)
+    (map shown es)
+shown_insert key v [] = refl
+shown_insert key v (e ∷ es) = by (shown_insert key v es) (pointwise nat_eq key.now e.0.now)
+  where
+    by : map shown (insert_entry (λ a b. pointwise nat_eq a.now b.now) es key v) ≡ with_name key.now (datum_of v)
+        (map shown es) → (b : Bool)
+        → map shown (if b then (e.0, v) ∷ es else e
+        ∷ insert_entry (λ a b. pointwise nat_eq a.now b.now) es key v)
+        ≡ (if b then (e.0.now, datum_of v) ∷ map shown es else shown e
+        ∷ with_name key.now (datum_of v) (map shown es))
+    by rest true = refl
+    by rest false = ap (λ l. shown e ∷ l) rest
+
+pub given_lookup : (name : List ℕ) (es : List (Bor (List ℕ) × Value))
+    → is_some (lookup (λ k. pointwise nat_eq name k.now) es) ≡ is_given name (map shown es)
+given_lookup name [] = refl
+given_lookup name (e ∷ es) = by (given_lookup name es) (pointwise nat_eq name e.0.now)
+  where
+    by : is_some (lookup (λ k. pointwise nat_eq name k.now) es) ≡ is_given name (map shown es) → (b : Bool)
+        → is_some (if b then Some e.1 else lookup (λ k. pointwise nat_eq name k.now) es)
+        ≡ is_some (if b then Some (datum_of e.1) else value_of_name name (map shown es))
+    by rest true = refl
+    by rest false = rest
+
+-- ---- the arguments that are left
+taken-argument : (names : List (List ℕ)) (i : ℕ) (word : Option (List ℕ)) (e : _) (more : Arguments) (d : Datum)
+    (values : List Datum) (so_far : Names) → given_from names i (argument word e more) (d ∷ values) so_far
+    ≡ given_from names (counted_on word i) more values (taken names i word d so_far)
+taken-argument names i None e more d values so_far = refl
+taken-argument names i (Some name) e more d values so_far = refl
+
+pub given-next : (names : List (List ℕ)) (i : ℕ) (all : List Arg) (at : ℕ) (a : Arg) (d : Datum)
+    (values : List Datum)
+    (so_far : Names) → at < length all → a ≡ get_or all at a
+    → given_from names i (arguments (drop at all)) (d ∷ values)
+    so_far ≡ given_from names (counted_on a.name i) (arguments (drop (at + 1) all)) values
+    (taken names i a.name d so_far)
+given-next names i all at a d values so_far below is =
+    ap (λ args. given_from names i args (d ∷ values) so_far) (arguments-drop all at a below is)
+    ∙ taken-argument names i a.name (expression_of a.value) (arguments (drop (at + 1) all)) d values so_far
+
+pub given-past : (names : List (List ℕ)) (i : ℕ) (all : List Arg) (at : ℕ) (values : List Datum) (so_far : Names)
+    → length all ≤ at → given_from names i (arguments (drop at all)) values so_far ≡ so_far
+given-past names i all at values so_far past = ap (λ args. given_from names i args values so_far)
+    (arguments-drop_all all at past)
+
+no_values : (names : List (List ℕ)) (i : ℕ) (args : Arguments) (so_far : Names)
+    → given_from names i args [] so_far ≡ so_far
+no_values names i no_arguments so_far = refl
+no_values names i (argument word e more) so_far = refl
+
+pub given-end : (names : List (List ℕ)) (i : ℕ) (args : Arguments) (values : List Datum) (so_far : Names)
+    → values ≡ [] → given_from names i args values so_far ≡ so_far
+given-end names i args values so_far none = ap (λ vs. given_from names i args vs so_far) none
+    ∙ no_values names i args
+    so_far
+
+-- ---- child statements that are left
+pub statements-next : (all : List Item) (i : ℕ) (v : Item) → i < length all → v ≡ get_or all i v
+    → statements (items (drop i all)) ≡ (if is_statement (item_of v) then 1 else 0) + statements
+    (items (drop (i + 1) all))
+statements-next all i v below is = ap statements (items-drop all i v below is)
+
+pub statements-end : (all : List Item) (i : ℕ) → length all ≤ i → statements (items (drop i all)) ≡ 0
+statements-end all i past = ap statements (items-drop_all all i past)
+
+pub ruleset names = (names-drop, names-drop_all, name_there, name_past)
+
+pub ruleset misses = (parameters-drop, parameters-drop_all)
+
+pub ruleset gives = (given-next, given-past, given-end)
+
+pub ruleset counts = (statements-next, statements-end)

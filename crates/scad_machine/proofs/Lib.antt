@@ -1,0 +1,3 @@
+pub mod Giving
+pub mod Homes
+pub mod OpenFrames

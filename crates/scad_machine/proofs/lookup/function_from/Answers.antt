@@ -1,0 +1,22 @@
+use Rattle.std.proofs.Common.{◌≡◌, None, Some, ◌<◌, length, option_map, sym, ap, ◌∙◌, arith}
+use Rattle.scad_scope.specs.Stored.{stored_at}
+use Rattle.scad_scope.specs.View.{stored}
+use Rattle.scad_machine.specs.Functions.{defined_in}
+use Rattle.scad_machine.specs.View.{function_at}
+use Rattle.scad_machine.proofs.Homes.{function-round_past}
+use Rattle.scad_machine.proofs.lookup.function_from.Goals as goal
+
+pub returns-then-at-parent-clause-found : goal.returns-then-at-parent-clause-found
+returns-then-at-parent-clause-found c =
+    let fs = stored c.args.frames.now in
+    let n = c.outwards.at in
+    let are = c.outwards.invariant.0 in
+    let many = ap length are in
+    let inside : n < length (stored c.args.frames.now) = omega (arith, c.len.ensures, many) in
+    let none : defined_in c.args.name.now (stored_at (stored c.args.frames.now) n).scope ≡ None =
+    sym (ap (λ l. defined_in c.args.name.now (stored_at l n).scope) are) ∙ sym c.in_ok-function.ensures.found
+    ∙ ap (option_map function_at) c.in-None.is in
+    let round : (stored_at (stored c.args.frames.now) n).parent ≡ Some c.in-Some-parent.parent =
+    sym (ap (λ l. (stored_at l n).parent) (c.defined_in.ensures.same ∙ are)) ∙ sym c.in-Some-parent.ensures in
+    sym (function-round_past fs n inside c.args.name.now c.in-Some-parent.parent none round (omega arith))
+    ∙ c.outwards.invariant.1

@@ -1,0 +1,14 @@
+use Rattle.std.proofs.Common.{◌≡◌}
+use Rattle.scad_scope.specs.Stored.{env_at, envs}
+use Rattle.scad_scope.specs.View.{stored}
+use Rattle.scad_machine.specs.Functions.{function_named}
+use Rattle.scad_machine.proofs.lookup.function_from.Given as goal
+
+abbrev pub invariant-outwards : goal.invariant-outwards
+invariant-outwards l =
+    (stored l.frames ≡ stored l.fn.frames)
+    × (function_named l.name (env_at (envs (stored l.fn.frames)) l.at) ≡ function_named l.name
+    (env_at (envs (stored l.fn.frames)) l.from))
+
+abbrev pub decreases-outwards : goal.decreases-outwards
+decreases-outwards l = l.at

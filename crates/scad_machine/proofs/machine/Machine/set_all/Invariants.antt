@@ -1,0 +1,11 @@
+use Rattle.std.proofs.Common.{◌≡◌, map}
+use Rattle.scad_machine.specs.Given.{shown}
+use Rattle.scad_machine.specs.Machine.{held, state_of}
+use Rattle.scad_machine.specs.Opened.{set_all_in_last}
+use Rattle.scad_machine.proofs.machine.Machine.set_all.Given as goal
+
+abbrev pub invariant-names : goal.invariant-names
+invariant-names l =
+    (set_all_in_last (map shown l.name-iterator) (held l.self) ≡ set_all_in_last (map shown l.fn.all.entries)
+    (held l.fn.self))
+    × (state_of l.self ≡ state_of l.fn.self) × (l.self.steps_left ≡ l.fn.self.steps_left)

@@ -1,0 +1,32 @@
+-- Arguments that are given one by one.
+use Rattle.std.specs.Prelude.{ℕ, ◌+◌, not, List, filter, map, slice_get, Option, Some, None}
+use Rattle.std.specs.Borrow.{Bor}
+use Rattle.scad_ast.specs.declared.statement.Param.{Param}
+use Rattle.scad_ast.specs.Tree.{Parameter}
+use Rattle.scad_value.specs.Datum.{Datum}
+use Rattle.scad_value.specs.View.{datum_of}
+use Rattle.scad_value.specs.declared.value.Value.{Value}
+use Rattle.scad_scope.specs.Names.{Names}
+use Rattle.scad_machine.specs.Arguments.{to_parameter, to_name, is_given}
+
+-- the names of parameters in memory
+abbrev pub parameter_names : List Param → List (List ℕ)
+parameter_names all = map (λ p. p.name) all
+
+-- a name in memory, with its value
+abbrev pub shown : Bor (List ℕ) × Value → List ℕ × Datum
+shown p = (p.0.now, datum_of p.1)
+
+-- an argument with its value, before which so many unnamed ones stood
+abbrev pub taken : List (List ℕ) → ℕ → Option (List ℕ) → Datum → Names → Names
+taken parameters i None d so_far = to_parameter (slice_get parameters i) d so_far
+taken parameters i (Some name) d so_far = to_name parameters name d so_far
+
+-- how many unnamed ones stand before the next argument
+abbrev pub counted_on : Option (List ℕ) → ℕ → ℕ
+counted_on None i = i + 1
+counted_on (Some name) i = i
+
+-- the parameters that aren't given
+abbrev pub missing : Names → List Parameter → List Parameter
+missing given all = filter (λ p. not (is_given p.name given)) all

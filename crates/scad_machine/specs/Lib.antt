@@ -1,0 +1,10 @@
+pub mod Answers
+pub mod Arguments
+pub mod Functions
+pub mod Given
+pub mod Machine
+pub mod Opened
+pub mod Printed
+pub mod State
+pub mod Variables
+pub mod View

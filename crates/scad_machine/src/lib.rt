@@ -1,0 +1,23 @@
+//! What an evaluation holds: frames of names, the steps and the depth that are left, and the lines of `echo`.
+//! Each call of a `Machine` is proved to be its part of the meaning of expressions: which steps are taken and where their
+//! limit is passed, what a name means, which parameter takes which argument, and which frames a call opens.
+#![tactic(auto)]
+
+mod counts;
+mod echo_lines;
+mod fault;
+mod functions;
+mod invocation;
+pub mod laws;
+mod lookup;
+mod machine;
+mod names;
+mod opening;
+mod parameters;
+
+pub use fault::EvalFault;
+pub use functions::{Defined, DefinedAt};
+pub use invocation::{Callee, Invocation};
+pub use machine::{DEPTH_LIMIT, Machine, STEP_LIMIT};
+pub use names::are_named;
+pub use opening::Call;
