@@ -1,5 +1,5 @@
 -- Parts that begin on the stack, as the code has them.
-use Rattle.std.proofs.Common.{◌≡◌, ◌≢◌, ℕ, zero, suc, ◌-◌, ◌+◌, ◌<◌, ◌≤◌, Bool, true, false, if◌then◌else◌, List, [], ◌∷◌, ◌++◌, map, length, get_or, drop, Option, Some, None, option_map, Vec, Global, codes, refl, sym, ap, ap₂, ◌∙◌, arith}
+use Rattle.std.proofs.Common.{◌≡◌, ℕ, suc, ◌+◌, ◌<◌, ◌≤◌, Bool, true, if◌then◌else◌, List, [], ◌∷◌, ◌++◌, map, length, get_or, drop, Some, None, option_map, Vec, Global, codes, refl, sym, ap, ap₂, ◌∙◌}
 use Rattle.std.proofs.lemmas.List.{drop_more, drop_all}
 use Rattle.std.specs.Borrow.{Bor}
 use Rattle.std.specs.List.{flat_map}
@@ -16,17 +16,15 @@ use Rattle.scad_value.specs.Comparison.{truth}
 use Rattle.scad_scope.specs.Env.{Env}
 use Rattle.scad_scope.specs.Stored.{env_at, envs}
 use Rattle.scad_expr.specs.declared.part.Part.{Part}
-use Rattle.scad_machine.specs.declared.fault.EvalFault.{EvalFault}
 use Rattle.scad_expr.specs.declared.frame.Frame.TheVariants.{Vector, Each, If, Either, Turns, Leave, Body}
 use Rattle.scad_expr.specs.declared.frame.Inside.TheVariants.{Value as InsideValue, Element as InsideElement, Turns as InsideTurns}
-use Rattle.scad_expr.specs.declared.frame.Within.{Within}
 use Rattle.scad_expr.specs.declared.frame.Loop.{Loop}
 use Rattle.scad_expr.specs.declared.frame.Opening.{Opening}
 use Rattle.scad_expr.specs.declared.frame.Variable.{Variable}
 use Rattle.scad_expr.specs.declared.frame.Course.{Course}
 use Rattle.scad_machine.specs.State.{State, Outcome, gives, refuses, Action, pure, and_then, ◌>>=◌, step, make, step_limit}
 use Rattle.scad_machine.specs.Machine.{Held, env_in, along_in}
-use Rattle.scad_machine.specs.Functions.{Function, Found}
+use Rattle.scad_machine.specs.Functions.{Found}
 use Rattle.scad_machine.specs.Given.{missing, parameter_names}
 use Rattle.scad_machine.specs.Arguments.{given, set_all}
 use Rattle.scad_expr.specs.Parts.{parts_in}
@@ -37,11 +35,10 @@ use Rattle.scad_expr.specs.Meaning.{elements as elements_given}
 use Rattle.scad_machine.specs.Opened.{opened, set_in_last, left, bound_in, outer, IsInner}
 use Rattle.scad_expr.specs.Pieces.{element_if, either_element}
 use Rattle.scad_expr.specs.Portions.{defaulted}
-use Rattle.scad_expr.specs.Stack.{Whole, Rest, added, onto, binds, fills, entered, filling, binding, inside_of, looped, loop_of, renewed, turned, turning, turns_of, course}
-use Rattle.scad_machine.specs.View.{function_of}
+use Rattle.scad_expr.specs.Stack.{Whole, Rest, added, onto, fills, entered, binding, inside_of, looped, loop_of, renewed, turned, turning, turns_of, course}
 use Rattle.scad_expr.proofs.Loops.{twice, same-then, call-begins}
 use Rattle.scad_machine.proofs.OpenFrames.{env_in-opened, along_in-opened, left-opened, gone-opened}
-use Rattle.scad_expr.proofs.StackTurns.{inner, inner-value, inner-element, left-inner, binds-opened, repeats-inner, fills-opened}
+use Rattle.scad_expr.proofs.StackTurns.{inner-value, inner-element, left-inner, binds-opened, repeats-inner, fills-opened}
 
 -- ---- vectors
 pub vector-begins : (below : Below) (at : Place) (es : Elements) (k k2 : Rest) (h : Held) (made none : List Datum)

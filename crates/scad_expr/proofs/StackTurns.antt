@@ -21,7 +21,7 @@ use Rattle.scad_expr.specs.Meaning.{Below, meaning, value, value_layer, node, va
 use Rattle.scad_machine.specs.Opened.{opened, set_in_last, left, bound_in, outer, IsInner}
 use Rattle.scad_expr.specs.Pieces.{named_of}
 use Rattle.scad_expr.specs.Portions.{defaulted, lone}
-use Rattle.scad_expr.specs.Stack.{Whole, Rest, ended, added, binds, fills, renewed, turned, repeats, served, supplied, onto, rest_of}
+use Rattle.scad_expr.specs.Stack.{Whole, Rest, binds, fills, renewed, turned, repeats, served, supplied, onto, rest_of}
 use Rattle.scad_expr.proofs.DepthLeft.{value_none, value_more, place_of, element_none, element_more}
 use Rattle.scad_expr.proofs.InPlace.{values-lone}
 use Rattle.scad_expr.proofs.Loops.{twice, same-then}

@@ -1,5 +1,5 @@
 -- What is left of a rule of the meaning of expressions once a part of it has its value.
-use Rattle.std.specs.Prelude.{ℕ, zero, suc, true, false, List, [], ◌∷◌, ◌++◌, Option, Some, None, if◌then◌else◌}
+use Rattle.std.specs.Prelude.{List, Some, None, if◌then◌else◌}
 use Rattle.scad_fault.specs.declared.place.Place.{Place}
 use Rattle.scad_ast.specs.Tree.{Expression, Arguments, no_arguments, argument, Element}
 use Rattle.scad_value.specs.Datum.{Datum}

@@ -1,6 +1,5 @@
 use Rattle.std.proofs.Common.{sym, ap, ◌∙◌}
 use Rattle.scad_value.specs.View.{datum_of}
-use Rattle.scad_expr.specs.declared.frame.Frame.TheVariants.{Turns}
 use Rattle.scad_machine.specs.Machine.{Held, held, env_in, along_in, state_of}
 use Rattle.scad_expr.specs.Stack.{rest, made_in}
 use Rattle.scad_machine.specs.Variables.{set, empty, within}
