@@ -4,3 +4,4 @@ pub mod Ranges
 pub mod Numerals
 pub mod Ascending
 pub mod LeastFault
+pub mod CommandForms

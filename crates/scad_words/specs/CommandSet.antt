@@ -1,8 +1,10 @@
 -- The commands, as a simple command of clap: each with its positionals in order, all required, and the options
 -- `--settings` and `--workers` with one value each. Help and version are off, and one of the commands is required.
-use Rattle.std.specs.Prelude.{true, Some, codes}
+use Rattle.std.specs.Prelude.{◌≡◌, true, false, Some, Result, IfOk, codes}
 use Rattle.clap.specs.Walk.{Rule, Text}
-use Rattle.clap.specs.Simple.{App, new_rule, new_app, on_top, with_rule, with_subcommand}
+use Rattle.clap.specs.Simple.{App, app_of, new_rule, new_app, on_top, with_rule, with_subcommand}
+use Rattle.clap.specs.declared.builder.command.Command.{Command}
+use Rattle.clap.specs.declared.builder.command.Command.TheViews.{out-Command}
 
 -- a word that is required
 abbrev pub positional : Text → Rule
@@ -59,3 +61,14 @@ drawing_set = with_subcommand (with_subcommand reading_set slice_app.top) plan_a
 
 abbrev pub command_set : App
 command_set = with_subcommand (with_subcommand drawing_set sample_app.top) verify_app.top
+
+-- ---- for the contracts of the functions that make them
+
+-- a command is of this form, with no argument that its commands share
+pub record IsOf (app : App) (command : Command) : Type 0 where
+  pub form : app_of command ≡ app
+  pub local : (out-Command command).has_globals ≡ false
+
+-- so is a command where memory sufficed to make it
+abbrev pub IsMade : {E : Type 0} → App → Result Command E → Type 0
+IsMade app made = IfOk made (IsOf app)

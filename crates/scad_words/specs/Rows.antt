@@ -1,6 +1,7 @@
 -- The settings: the range of each, and the value that it has where none is given. Lengths are micrometres, the area square
 -- micrometres, feeds millimetres a minute, temperatures degrees Celsius.
 use Rattle.std.specs.Prelude.{ℕ, Bool, ◌&&◌, List, [], ◌∷◌, Option, option_map, find, codes, bytes_eq, ℤ, pos, int_le}
+use Rattle.scad_words.specs.declared.rows.Key.{Key}
 use Rattle.scad_words.specs.declared.rows.Row.{Row}
 
 abbrev row : ℕ → ℕ → ℕ → Row
@@ -39,9 +40,18 @@ rows = (codes "bed", bed) ∷ (codes "filament_area", filament_area) ∷ (codes 
     ∷ (codes "infill_spacing", infill_spacing) ∷ (codes "layer_height", layer_height) ∷ (codes "line_width", line_width)
     ∷ (codes "print_feed", print_feed) ∷ (codes "travel_feed", travel_feed) ∷ (codes "walls", walls) ∷ []
 
+-- the row beside a key among these, if there is one
+abbrev pub row_among : List (List ℕ × Row) → List ℕ → Option Row
+row_among known key = option_map (λ r. r.1) (find (λ r. bytes_eq key r.0) known)
+
 -- the row of a key, if there is one
 abbrev pub row_of : List ℕ → Option Row
-row_of key = option_map (λ r. r.1) (find (λ r. bytes_eq key r.0) rows)
+row_of key = row_among rows key
+
+-- what the code's table holds
+abbrev pub rows_in : List Key → List (List ℕ × Row)
+rows_in [] = []
+rows_in (key ∷ keys) = (key.name.now, key.row) ∷ rows_in keys
 
 -- a whole number lies in the range of a row
 abbrev pub is_in_range : Row → ℤ → Bool

@@ -1,9 +1,8 @@
 //! The commands as `clap` takes them.
 ghost use Rattle.std.specs.Prelude.{◌≡◌, false, IfOk};
-ghost use Rattle.clap.specs.Simple.{app_of};
-ghost use Rattle.clap.specs.Walk.{rule_of};
-ghost use Rattle.clap.specs.declared.builder.command.Command.TheViews.{out-Command};
-ghost use Rattle.scad_words.specs.CommandSet.{program, positional, option, with_options, model_app, slice_app, plan_app, sample_app, verify_app, command_set};
+ghost use Rattle.clap.specs.Simple.{App, app_of, new_app, with_rule, with_subcommand};
+ghost use Rattle.clap.specs.Walk.{Rule, rule_of};
+ghost use Rattle.scad_words.specs.CommandSet.{program, positional, option, with_options, IsMade, command_set};
 
 use clap::{Arg, Command};
 use std::alloc::{AllocError, Global};
@@ -12,19 +11,28 @@ use std::alloc::{AllocError, Global};
 pub(crate) fn command_set<'a>(alloc: Global) -> Result<Command<'a>, AllocError>
     ensures { IfOk result (λ c. app_of c ≡ command_set) }
 {
-    let check = model_command(alloc, "check")?;
-    let tree = model_command(alloc, "tree")?;
-    let slice = slice_command(alloc)?;
-    let plan = plan_command(alloc)?;
-    let sample = sample_command(alloc)?;
-    let verify = verify_command(alloc)?;
-    program(alloc)
-        .subcommand(check)?
-        .subcommand(tree)?
-        .subcommand(slice)?
-        .subcommand(plan)?
-        .subcommand(sample)?
-        .subcommand(verify)
+    let commands = with_command(
+        alloc,
+        Ok(program(alloc)),
+        one_word_command(alloc, "check", "model"),
+    );
+    let commands = with_command(alloc, commands, one_word_command(alloc, "tree", "model"));
+    let commands = with_command(
+        alloc,
+        commands,
+        two_word_command(alloc, "slice", "model", "cli"),
+    );
+    let commands = with_command(
+        alloc,
+        commands,
+        three_word_command(alloc, "plan", "model", "cli", "gcode"),
+    );
+    let commands = with_command(alloc, commands, one_word_command(alloc, "sample", "number"));
+    with_command(
+        alloc,
+        commands,
+        two_word_command(alloc, "verify", "cli", "gcode"),
+    )
 }
 
 // The program without its commands.
@@ -39,63 +47,97 @@ fn program<'a>(alloc: Global) -> Command<'a>
         .subcommand_required(true)
 }
 
-// A command over one model.
-fn model_command<'a>(alloc: Global, name: &'a str) -> Result<Command<'a>, AllocError>
-    ensures app { IfOk result (λ c. app_of c ≡ model_app name.now) }
-    ensures local { IfOk result (λ c. (out-Command c).has_globals ≡ false) }
+// A command of one word, without its options.
+fn one_word_command<'a>(
+    alloc: Global,
+    name: &'a str,
+    word: &'a str,
+) -> Result<Command<'a>, AllocError>
+    ensures { IsMade (with_rule (new_app name.entry.now) (positional word.entry.now)) result }
 {
-    let command = Command::new(alloc, name).arg(positional(alloc, "model"))?;
-    with_options(alloc, command)
+    with_arg(Ok(Command::new(alloc, name)), positional(alloc, word))
 }
 
-fn slice_command<'a>(alloc: Global) -> Result<Command<'a>, AllocError>
-    ensures app { IfOk result (λ c. app_of c ≡ slice_app) }
-    ensures local { IfOk result (λ c. (out-Command c).has_globals ≡ false) }
+// A command of two words, without its options.
+fn two_word_command<'a>(
+    alloc: Global,
+    name: &'a str,
+    word: &'a str,
+    next: &'a str,
+) -> Result<Command<'a>, AllocError>
+    ensures { IsMade (with_rule (with_rule (new_app name.entry.now) (positional word.entry.now)) (positional next.entry.now)) result }
 {
-    let command = Command::new(alloc, "slice")
-        .arg(positional(alloc, "model"))?
-        .arg(positional(alloc, "cli"))?;
-    with_options(alloc, command)
+    with_arg(one_word_command(alloc, name, word), positional(alloc, next))
 }
 
-fn plan_command<'a>(alloc: Global) -> Result<Command<'a>, AllocError>
-    ensures app { IfOk result (λ c. app_of c ≡ plan_app) }
-    ensures local { IfOk result (λ c. (out-Command c).has_globals ≡ false) }
+// A command of three words, without its options.
+fn three_word_command<'a>(
+    alloc: Global,
+    name: &'a str,
+    word: &'a str,
+    next: &'a str,
+    last: &'a str,
+) -> Result<Command<'a>, AllocError>
+    ensures { IsMade (with_rule (with_rule (with_rule (new_app name.entry.now) (positional word.entry.now)) (positional next.entry.now)) (positional last.entry.now)) result }
 {
-    let command = Command::new(alloc, "plan")
-        .arg(positional(alloc, "model"))?
-        .arg(positional(alloc, "cli"))?
-        .arg(positional(alloc, "gcode"))?;
-    with_options(alloc, command)
+    with_arg(
+        two_word_command(alloc, name, word, next),
+        positional(alloc, last),
+    )
 }
 
-fn sample_command<'a>(alloc: Global) -> Result<Command<'a>, AllocError>
-    ensures app { IfOk result (λ c. app_of c ≡ sample_app) }
-    ensures local { IfOk result (λ c. (out-Command c).has_globals ≡ false) }
+// The commands and one more, with the options of every command, where memory sufficed for both.
+fn with_command<'a>(
+    alloc: Global,
+    commands: Result<Command<'a>, AllocError>,
+    command: Result<Command<'a>, AllocError>,
+) -> Result<Command<'a>, AllocError>
+    ensures { (all own : App) → IfOk commands.entry (λ c. app_of c ≡ all) → IsMade own command.entry
+        → IfOk result (λ c. app_of c ≡ with_subcommand all (with_options own).top) }
 {
-    let command = Command::new(alloc, "sample").arg(positional(alloc, "number"))?;
-    with_options(alloc, command)
+    match commands {
+        Ok(commands) => with_subcommand(commands, with_options(alloc, command)),
+        Err(error) => Err(error),
+    }
 }
 
-fn verify_command<'a>(alloc: Global) -> Result<Command<'a>, AllocError>
-    ensures app { IfOk result (λ c. app_of c ≡ verify_app) }
-    ensures local { IfOk result (λ c. (out-Command c).has_globals ≡ false) }
+fn with_subcommand<'a>(
+    commands: Command<'a>,
+    command: Result<Command<'a>, AllocError>,
+) -> Result<Command<'a>, AllocError>
+    ensures { (own : App) → IsMade own command.entry
+        → IfOk result (λ c. app_of c ≡ with_subcommand (app_of commands.entry) own.top) }
 {
-    let command = Command::new(alloc, "verify")
-        .arg(positional(alloc, "cli"))?
-        .arg(positional(alloc, "gcode"))?;
-    with_options(alloc, command)
+    match command {
+        Ok(command) => commands.subcommand(command),
+        Err(error) => Err(error),
+    }
 }
 
 // The command with the options of every command.
-fn with_options<'a>(alloc: Global, command: Command<'a>) -> Result<Command<'a>, AllocError>
-    requires { (out-Command command).has_globals ≡ false }
-    ensures app { IfOk result (λ c. app_of c ≡ with_options (app_of command.entry)) }
-    ensures local { IfOk result (λ c. (out-Command c).has_globals ≡ false) }
+fn with_options<'a>(
+    alloc: Global,
+    command: Result<Command<'a>, AllocError>,
+) -> Result<Command<'a>, AllocError>
+    ensures { (app : App) → IsMade app command.entry → IsMade (with_options app) result }
 {
-    command
-        .arg(option(alloc, "settings"))?
-        .arg(option(alloc, "workers"))
+    let command = with_arg(command, option(alloc, "settings"));
+    with_arg(command, option(alloc, "workers"))
+}
+
+// The command with a further argument, where there is a command.
+fn with_arg<'a>(
+    command: Result<Command<'a>, AllocError>,
+    arg: Arg<'a>,
+) -> Result<Command<'a>, AllocError>
+    requires { arg.global ≡ false }
+    ensures { (app : App) (rule : Rule) → IsMade app command.entry → rule_of arg.entry ≡ rule
+        → IsMade (with_rule app rule) result }
+{
+    match command {
+        Ok(command) => command.arg(arg),
+        Err(error) => Err(error),
+    }
 }
 
 // A word that a command requires.

@@ -3,7 +3,7 @@ ghost use Rattle.std.specs.Prelude.{◌≡◌, ◌&&◌, Some, None, ℤ, pos, i
 ghost use Rattle.scad_words.specs.Rows as spec;
 
 /// The least and the greatest value of a setting, and its value where none is given.
-#[derive(Clone, Copy, Debug, PartialEq, Eq)]
+#[derive(Clone, Copy)]
 pub struct Row {
     pub least: u32,
     pub most: u32,
@@ -72,29 +72,74 @@ pub(crate) const WALLS: Row = Row {
     default: 2,
 };
 
+/// A key with its row.
+#[derive(Clone, Copy)]
+pub struct Key {
+    pub name: &'static str,
+    pub row: Row,
+}
+
+const KEYS: [Key; 9] = [
+    Key {
+        name: "bed",
+        row: BED,
+    },
+    Key {
+        name: "filament_area",
+        row: FILAMENT_AREA,
+    },
+    Key {
+        name: "hot_end",
+        row: HOT_END,
+    },
+    Key {
+        name: "infill_spacing",
+        row: INFILL_SPACING,
+    },
+    Key {
+        name: "layer_height",
+        row: LAYER_HEIGHT,
+    },
+    Key {
+        name: "line_width",
+        row: LINE_WIDTH,
+    },
+    Key {
+        name: "print_feed",
+        row: PRINT_FEED,
+    },
+    Key {
+        name: "travel_feed",
+        row: TRAVEL_FEED,
+    },
+    Key {
+        name: "walls",
+        row: WALLS,
+    },
+];
+
+// The keys in byte order.
+fn keys() -> &'static [Key]
+    ensures { spec.rows_in result.now ≡ spec.rows }
+{
+    &KEYS
+}
+
 /// The row of a key.
 pub(crate) fn row_of(key: &str) -> Option<Row>
     ensures { result ≡ spec.row_of key.now }
 {
-    if key == "bed" {
-        Some(BED)
-    } else if key == "filament_area" {
-        Some(FILAMENT_AREA)
-    } else if key == "hot_end" {
-        Some(HOT_END)
-    } else if key == "infill_spacing" {
-        Some(INFILL_SPACING)
-    } else if key == "layer_height" {
-        Some(LAYER_HEIGHT)
-    } else if key == "line_width" {
-        Some(LINE_WIDTH)
-    } else if key == "print_feed" {
-        Some(PRINT_FEED)
-    } else if key == "travel_feed" {
-        Some(TRAVEL_FEED)
-    } else if key == "walls" {
-        Some(WALLS)
-    } else {
-        None
+    row_among(keys(), key)
+}
+
+// The row of a key among these.
+fn row_among(keys: &[Key], key: &str) -> Option<Row>
+    ensures { result ≡ spec.row_among (spec.rows_in keys.now) key.now }
+{
+    'keys: for known in keys {
+        if key == known.name {
+            return Some(known.row);
+        }
     }
+    None
 }
