@@ -1,6 +1,6 @@
 //! The shape of a tree over numbered leaves.
-ghost use Rattle.std.specs.Prelude.{◌≡◌, ◌+◌, IfOk};
-ghost use Rattle.scad_tree.specs.Numbered.{numbered_from, all_numbered, numbered_of, shapes_onto, end};
+ghost use Rattle.std.specs.Prelude.{◌≡◌, ℕ, ◌+◌, IfOk};
+ghost use Rattle.scad_tree.specs.Numbered.{Numbereds, leaf, end, join, meet, minus, numbered_from, all_numbered, numbered_of, shapes_onto};
 ghost use Rattle.scad_tree.specs.Order.{leaves, all_leaves};
 ghost use Rattle.scad_tree.specs.Solid.{members};
 ghost use Rattle.scad_tree.specs.View.{solid_of, solids};
@@ -30,19 +30,12 @@ fn shape_from(alloc: Global, node: &Node, leaf: u32) -> Result<(Shape, u32), All
 {
     match node {
         Node::Empty => Ok((Shape::Empty, leaf)),
-        Node::Leaf(_) => Ok((Shape::Leaf(leaf), next(leaf)?)),
-        Node::Union(members) => {
-            let (shapes, after) = shapes_from(alloc, members, leaf)?;
-            Ok((Shape::Union(shapes), after))
-        }
-        Node::Inter(members) => {
-            let (shapes, after) = shapes_from(alloc, members, leaf)?;
-            Ok((Shape::Inter(shapes), after))
-        }
+        Node::Leaf(_) => leaf_shape(leaf),
+        Node::Union(members) => union_of(shapes_from(alloc, members, leaf)),
+        Node::Inter(members) => intersection_of(shapes_from(alloc, members, leaf)),
         Node::Diff(first, rest) => {
             let (base, leaf) = shape_from(alloc, first, leaf)?;
-            let (shapes, after) = shapes_from(alloc, rest, leaf)?;
-            Ok((Shape::Diff(Box::new(alloc, base)?, shapes), after))
+            difference_of(alloc, base, shapes_from(alloc, rest, leaf))
         }
     }
 }
@@ -61,4 +54,56 @@ fn shapes_from(alloc: Global, nodes: &[Node], leaf: u32) -> Result<(Vec<Shape>, 
         leaf = after;
     }
     Ok((shapes, leaf))
+}
+
+// A leaf of this number, and the number of the next one.
+fn leaf_shape(number: u32) -> Result<(Shape, u32), AllocError>
+    ensures shape { IfOk result (λ r. numbered_of r.0 ≡ leaf number) }
+    ensures next { IfOk result (λ r. r.1 ≡ number + 1) }
+{
+    Ok((Shape::Leaf(number), next(number)?))
+}
+
+// The union of shapes, where there are shapes, beside the number of the next leaf.
+#[tactic(auto, using(crate::proofs::Numbering::shape_views))]
+fn union_of(shapes: Result<(Vec<Shape>, u32), AllocError>) -> Result<(Shape, u32), AllocError>
+    ensures shape { (all : Numbereds) → IfOk shapes (λ s. shapes_onto s.0.items end ≡ all)
+        → IfOk result (λ r. numbered_of r.0 ≡ join all) }
+    ensures next { (n : ℕ) → IfOk shapes (λ s. s.1 ≡ n) → IfOk result (λ r. r.1 ≡ n) }
+{
+    match shapes {
+        Ok((shapes, after)) => Ok((Shape::Union(shapes), after)),
+        Err(error) => Err(error),
+    }
+}
+
+#[tactic(auto, using(crate::proofs::Numbering::shape_views))]
+fn intersection_of(
+    shapes: Result<(Vec<Shape>, u32), AllocError>,
+) -> Result<(Shape, u32), AllocError>
+    ensures shape { (all : Numbereds) → IfOk shapes (λ s. shapes_onto s.0.items end ≡ all)
+        → IfOk result (λ r. numbered_of r.0 ≡ meet all) }
+    ensures next { (n : ℕ) → IfOk shapes (λ s. s.1 ≡ n) → IfOk result (λ r. r.1 ≡ n) }
+{
+    match shapes {
+        Ok((shapes, after)) => Ok((Shape::Inter(shapes), after)),
+        Err(error) => Err(error),
+    }
+}
+
+#[tactic(auto, using(crate::proofs::Numbering::shape_views))]
+fn difference_of(
+    alloc: Global,
+    base: Shape,
+    rest: Result<(Vec<Shape>, u32), AllocError>,
+) -> Result<(Shape, u32), AllocError>
+    ensures shape { (all : Numbereds) → IfOk rest (λ s. shapes_onto s.0.items end ≡ all)
+        → IfOk result (λ r. numbered_of r.0 ≡ minus (numbered_of base) all) }
+    ensures next { (n : ℕ) → IfOk rest (λ s. s.1 ≡ n) → IfOk result (λ r. r.1 ≡ n) }
+{
+    let base = Box::new(alloc, base)?;
+    match rest {
+        Ok((shapes, after)) => Ok((Shape::Diff(base, shapes), after)),
+        Err(error) => Err(error),
+    }
 }

@@ -35,30 +35,20 @@ fn push_node(out: &mut Vec<u8>, node: &Node, level: u32, leaf: u32) -> Result<u3
     ensures next { IfOk result (λ n. n ≡ leaf + leaves (solid_of node.now)) }
 {
     match node {
-        Node::Empty => {
-            push_empty(out, level)?;
-            Ok(leaf)
-        }
-        Node::Leaf(triangles) => {
-            push_leaf(out, level, leaf, triangles)?;
-            next(leaf)
-        }
+        Node::Empty => push_empty(out, level, leaf),
+        Node::Leaf(triangles) => push_leaf(out, level, leaf, triangles),
         Node::Union(members) => {
-            push_union(out, level)?;
-            let after = push_members(out, members, next(level)?, leaf)?;
-            Ok(after)
+            let inner = push_union(out, level)?;
+            push_members(out, members, inner, leaf)
         }
         Node::Inter(members) => {
-            push_intersection(out, level)?;
-            let after = push_members(out, members, next(level)?, leaf)?;
-            Ok(after)
+            let inner = push_intersection(out, level)?;
+            push_members(out, members, inner, leaf)
         }
         Node::Diff(first, rest) => {
-            push_difference(out, level)?;
-            let inner = next(level)?;
+            let inner = push_difference(out, level)?;
             let leaf = push_node(out, first, inner, leaf)?;
-            let after = push_members(out, rest, inner, leaf)?;
-            Ok(after)
+            push_members(out, rest, inner, leaf)
         }
     }
 }
@@ -77,32 +67,42 @@ fn push_members(out: &mut Vec<u8>, nodes: &[Node], level: u32, leaf: u32) -> Res
     Ok(leaf)
 }
 
+// The line of a node that has no leaf; gives the number of the next leaf.
 #[tactic(auto, unfolding(crate::specs::Text::empty_name))]
-fn push_empty(out: &mut Vec<u8>, level: u32) -> Result<(), AllocError>
-    ensures { OnOk result (out.new.items ≡ out.old.items ++ line level empty_name) }
+fn push_empty(out: &mut Vec<u8>, level: u32, leaf: u32) -> Result<u32, AllocError>
+    ensures text { OnOk result (out.new.items ≡ out.old.items ++ line level empty_name) }
+    ensures next { IfOk result (λ n. n ≡ leaf) }
 {
-    push_line(out, level, b"empty")
+    push_line(out, level, b"empty")?;
+    Ok(leaf)
 }
 
+// The line of an operation; gives the level of its members.
 #[tactic(auto, unfolding(crate::specs::Text::union_name))]
-fn push_union(out: &mut Vec<u8>, level: u32) -> Result<(), AllocError>
-    ensures { OnOk result (out.new.items ≡ out.old.items ++ line level union_name) }
+fn push_union(out: &mut Vec<u8>, level: u32) -> Result<u32, AllocError>
+    ensures text { OnOk result (out.new.items ≡ out.old.items ++ line level union_name) }
+    ensures inner { IfOk result (λ n. n ≡ level + 1) }
 {
-    push_line(out, level, b"union")
+    push_line(out, level, b"union")?;
+    next(level)
 }
 
 #[tactic(auto, unfolding(crate::specs::Text::intersection_name))]
-fn push_intersection(out: &mut Vec<u8>, level: u32) -> Result<(), AllocError>
-    ensures { OnOk result (out.new.items ≡ out.old.items ++ line level intersection_name) }
+fn push_intersection(out: &mut Vec<u8>, level: u32) -> Result<u32, AllocError>
+    ensures text { OnOk result (out.new.items ≡ out.old.items ++ line level intersection_name) }
+    ensures inner { IfOk result (λ n. n ≡ level + 1) }
 {
-    push_line(out, level, b"intersection")
+    push_line(out, level, b"intersection")?;
+    next(level)
 }
 
 #[tactic(auto, unfolding(crate::specs::Text::difference_name))]
-fn push_difference(out: &mut Vec<u8>, level: u32) -> Result<(), AllocError>
-    ensures { OnOk result (out.new.items ≡ out.old.items ++ line level difference_name) }
+fn push_difference(out: &mut Vec<u8>, level: u32) -> Result<u32, AllocError>
+    ensures text { OnOk result (out.new.items ≡ out.old.items ++ line level difference_name) }
+    ensures inner { IfOk result (λ n. n ≡ level + 1) }
 {
-    push_line(out, level, b"difference")
+    push_line(out, level, b"difference")?;
+    next(level)
 }
 
 fn push_line(out: &mut Vec<u8>, level: u32, text: &[u8]) -> Result<(), AllocError>
@@ -124,18 +124,20 @@ fn push_indent(out: &mut Vec<u8>, level: u32) -> Result<(), AllocError>
     Ok(())
 }
 
+// The line of a leaf; gives the number of the next one.
 fn push_leaf(
     out: &mut Vec<u8>,
     level: u32,
     leaf: u32,
     triangles: &Triangles,
-) -> Result<(), AllocError>
-    ensures { OnOk result (out.new.items ≡ out.old.items ++ line level (leaf_text leaf triangles.now)) }
+) -> Result<u32, AllocError>
+    ensures text { OnOk result (out.new.items ≡ out.old.items ++ line level (leaf_text leaf triangles.now)) }
+    ensures next { IfOk result (λ n. n ≡ leaf + 1) }
 {
     push_indent(out, level)?;
     push_leaf_text(out, leaf, triangles)?;
     out.push(b'\n')?;
-    Ok(())
+    next(leaf)
 }
 
 fn push_leaf_text(out: &mut Vec<u8>, leaf: u32, triangles: &Triangles) -> Result<(), AllocError>
