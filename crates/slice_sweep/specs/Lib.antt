@@ -5,3 +5,4 @@ pub mod Mending
 pub mod LowerEnds
 pub mod Front
 pub mod Rays
+pub mod Changes

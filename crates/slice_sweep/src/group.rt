@@ -1,5 +1,5 @@
 //! Strands that meet a height at one place.
-ghost use Rattle.std.specs.Prelude.{◌≡◌, ◌<◌, ◌≤◌, ◌+◌, ◌++◌, ◌*ℤ◌, int_le, ℕ, true, drop, length, IfOk, All};
+ghost use Rattle.std.specs.Prelude.{◌≡◌, ◌<◌, ◌≤◌, ◌+◌, ◌++◌, ◌*ℤ◌, int_le, ℕ, true, take, drop, length, IfOk, All};
 ghost use Rattle.std.specs.Ordering.{int_eq};
 ghost use Rattle.scad_geom.specs.Limits.{coordinate_limit};
 ghost use Rattle.scad_geom.specs.Line.{high, rise, x_at};
@@ -8,11 +8,13 @@ ghost use Rattle.scad_geom.specs.Level.{IsLevelWithin};
 ghost use Rattle.slice_slab.specs.Bundles.{edge_at};
 ghost use Rattle.slice_slab.specs.KeptOrder.{IsSamePlaceAt};
 ghost use Rattle.slice_sweep.specs.Strands.{head, numbers_in, AreThere, strand_at, IsTogether};
+ghost use Rattle.slice_sweep.specs.Changes.{has_started, older};
 
 use crate::step::Step;
 use crate::strand::Strand;
 use crate::wake::head;
-use scad_geom::line::ends_from;
+use scad_geom::line::{ends_from, low};
+use scad_geom::wide::times;
 use scad_geom::{LeafEdge, Level, cmp_x_at};
 use std::alloc::AllocError;
 use std::cmp::Ordering;
@@ -89,4 +91,29 @@ pub(crate) fn members(
         numbers.extend_from_slice(strands[i].bundle.as_slice())?;
     }
     Ok(numbers)
+}
+
+/// How many of the strands from one place to another were there below the height.
+pub(crate) fn older(step: &Step<'_>, strands: &[Strand], from: usize, to: usize) -> usize
+    requires strands { AreThere step.now.edges.now strands.now }
+    requires from { from ≤ to }
+    requires to { to ≤ length strands.now }
+    ensures { result ≡ older step.now.edges.now step.now.lower.now (drop from (take to strands.now)) }
+{
+    let mut count = 0;
+    'strands: for i in from..to {
+        if !has_started(step, &strands[i]) {
+            count += 1;
+        }
+    }
+    count
+}
+
+// Whether a strand's first edge starts at the lower height.
+fn has_started(step: &Step<'_>, s: &Strand) -> bool
+    requires { All (λ k. k < length step.now.edges.now) s.now.bundle }
+    ensures { result ≡ has_started step.now.edges.now step.now.lower.now s.now.bundle }
+{
+    let e = head(step.edges, &s.bundle);
+    times::<21, 44>(low(&e).y as i128, step.lower.d) == step.lower.n
 }

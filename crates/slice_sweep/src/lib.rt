@@ -4,6 +4,7 @@
 //! edges at once.
 #![tactic(auto, using(scad_geom::proofs::Casts::casts))]
 
+mod change;
 mod coinciding;
 mod front;
 mod group;
@@ -22,4 +23,5 @@ mod step;
 mod strand;
 mod wake;
 
+pub use change::Change;
 pub use front::Front;

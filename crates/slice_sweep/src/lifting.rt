@@ -8,6 +8,7 @@ ghost use Rattle.scad_geom.specs.Heights.{AreNeighbours};
 ghost use Rattle.slice_slab.specs.Bundles.{AreBundles};
 ghost use Rattle.slice_sweep.specs.Front.{bundles_in, IsReadyFor};
 
+use crate::change::Change;
 use crate::front::Front;
 use crate::key::key_of;
 use crate::lower_ends::{begin, lower_ends};
@@ -33,13 +34,13 @@ impl Front {
         })
     }
 
-    /// Lifts it from one height to the next, with the bundles between them.
+    /// Lifts it from one height to the next, with the bundles between them, and tells what changes.
     pub fn advance(
         &mut self,
         edges: &[LeafEdge],
         lower: &Level,
         upper: &Level,
-    ) -> Result<(), AllocError>
+    ) -> Result<Vec<Change>, AllocError>
         requires within { All (λ e. IsEdgeWithin coordinate_limit e.edge) edges.now }
         requires few { length edges.now < 2 ^ 32 }
         requires lower { IsLevelWithin coordinate_limit lower.now }
@@ -59,9 +60,10 @@ impl Front {
             upper,
             key: key_of(lower),
         };
-        mend(&step, &mut self.strands)?;
+        let mut changes = Vec::new(self.alloc);
+        mend(&step, &mut self.strands, &mut changes)?;
         wake_all(&step, &mut self.strands);
-        Ok(())
+        Ok(changes)
     }
 
     /// How many bundles there are.

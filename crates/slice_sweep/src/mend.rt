@@ -1,21 +1,27 @@
 //! The strands at a height, mended one place after another.
-ghost use Rattle.std.specs.Prelude.{◌≡◌, ◌<◌, ◌+◌, ◌-◌, ◌*ℤ◌, int_le, true, length, IfOk, OnOk, All};
+ghost use Rattle.std.specs.Prelude.{◌≡◌, ◌<◌, ◌+◌, ◌-◌, ◌*ℤ◌, ◌++◌, int_le, true, length, IfOk, OnOk, All};
 ghost use Rattle.scad_geom.specs.Line.{high};
 ghost use Rattle.scad_geom.specs.Heights.{AreNeighbours};
 ghost use Rattle.slice_slab.specs.Bundles.{edge_at};
 ghost use Rattle.slice_sweep.specs.Keys.{IsBelowKey};
 ghost use Rattle.slice_sweep.specs.Strands.{AreWaiting, AreThere, strand_at};
 ghost use Rattle.slice_sweep.specs.Mending.{AreOrdered, AreMendedTo, KeepTimes, IsGroup};
+ghost use Rattle.slice_sweep.specs.Changes.{started};
 
-use crate::group::{goes_on, group_end, members};
+use crate::change::Change;
+use crate::group::{goes_on, group_end, members, older};
 use crate::leave::leaving;
 use crate::replace::{replace, weaken, without_keys};
 use crate::step::Step;
 use crate::strand::Strand;
 use std::alloc::AllocError;
 
-/// Puts the strands at the lower height into the order that they have above it.
-pub(crate) fn mend(step: &Step<'_>, strands: &mut Vec<Strand>) -> Result<(), AllocError>
+/// Puts the strands at the lower height into the order that they have above it, and tells what changes.
+pub(crate) fn mend(
+    step: &Step<'_>,
+    strands: &mut Vec<Strand>,
+    changes: &mut Vec<Change>,
+) -> Result<(), AllocError>
     requires neighbours { AreNeighbours step.now.edges.now step.now.lower.now step.now.upper.now }
     requires waiting { AreWaiting step.now.edges.now step.now.lower.now strands.old.items }
     ensures ordered { OnOk result
@@ -25,13 +31,18 @@ pub(crate) fn mend(step: &Step<'_>, strands: &mut Vec<Strand>) -> Result<(), All
 {
     let mut place = 0;
     'places: while place < strands.len() {
-        place = mend_at(step, strands, place)?;
+        place = mend_at(step, strands, changes, place)?;
     }
     Ok(())
 }
 
 // Mends the strands that lie at one place with the first that isn't mended, and gives the place behind them.
-fn mend_at(step: &Step<'_>, strands: &mut Vec<Strand>, place: usize) -> Result<usize, AllocError>
+fn mend_at(
+    step: &Step<'_>,
+    strands: &mut Vec<Strand>,
+    changes: &mut Vec<Change>,
+    place: usize,
+) -> Result<usize, AllocError>
     requires neighbours { AreNeighbours step.now.edges.now step.now.lower.now step.now.upper.now }
     requires mended { AreMendedTo step.now.edges.now step.now.lower.now step.now.upper.now place strands.old.items }
     requires there { place < length strands.old.items }
@@ -44,10 +55,15 @@ fn mend_at(step: &Step<'_>, strands: &mut Vec<Strand>, place: usize) -> Result<u
     if is_asleep(step, strands, place) {
         return Ok(place + 1);
     }
-    mend_awake(step, strands, place)
+    mend_awake(step, strands, changes, place)
 }
 
-fn mend_awake(step: &Step<'_>, strands: &mut Vec<Strand>, place: usize) -> Result<usize, AllocError>
+fn mend_awake(
+    step: &Step<'_>,
+    strands: &mut Vec<Strand>,
+    changes: &mut Vec<Change>,
+    place: usize,
+) -> Result<usize, AllocError>
     requires neighbours { AreNeighbours step.now.edges.now step.now.lower.now step.now.upper.now }
     requires mended { AreMendedTo step.now.edges.now step.now.lower.now step.now.upper.now place strands.old.items }
     requires there { place < length strands.old.items }
@@ -58,10 +74,32 @@ fn mend_awake(step: &Step<'_>, strands: &mut Vec<Strand>, place: usize) -> Resul
     ensures fewer { IfOk result (λ n. length strands.new.items - n < length strands.old.items - place) }
 {
     let end = group_end(step, strands, place);
+    let gone = older(step, strands, place, end);
     if is_alone(step, strands, place, end) {
+        tell_start(changes, place, gone)?;
         return Ok(place + 1);
     }
-    regroup(step, strands, place, end)
+    let behind = regroup(step, strands, place, end)?;
+    changes.push(Change {
+        from: place,
+        gone,
+        come: behind - place,
+    })?;
+    Ok(behind)
+}
+
+// Tells of a strand that is alone at its place, if it has come.
+fn tell_start(changes: &mut Vec<Change>, place: usize, gone: usize) -> Result<(), AllocError>
+    ensures { OnOk result (changes.new.items ≡ changes.old.items ++ started place gone) }
+{
+    if gone == 0 {
+        changes.push(Change {
+            from: place,
+            gone: 0,
+            come: 1,
+        })?;
+    }
+    Ok(())
 }
 
 // Whether a group is one strand in which nothing ends.

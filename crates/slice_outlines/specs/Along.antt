@@ -1,0 +1,106 @@
+-- How far the code has come along a stretch of flat edges.
+use Rattle.std.specs.Prelude.{Bool, true, false, not, ◌≡◌, ⊤, ℕ, ℤ, int_le, nat_min, Option, None, Some, List, [], ◌∷◌, ◌++◌, take, drop, ◌*ℤ◌, pos}
+use Rattle.std.specs.List.{AllByRecursion}
+use Rattle.std.specs.List.Sorted.{IsPermutation}
+use Rattle.scad_geom.specs.declared.point.Pt.{Pt}
+use Rattle.slice_snap.specs.Rounding.{rounded_edges}
+use Rattle.slice_sweep.specs.Front.{bundles_in}
+use Rattle.slice_bool.specs.Pieces.{whole_spot, IsLeft}
+use Rattle.sweep_laws.specs.Ways.{Way, pieces_of}
+use Rattle.sweep_laws.specs.Fronts.{bundles_of}
+use Rattle.sweep_laws.specs.Crossing.{Place, all_below, all_above, all_closed, ArePassed}
+use Rattle.slice_outlines.specs.declared.mark.Mark.{Mark}
+use Rattle.slice_outlines.specs.declared.run.Run.{Run}
+use Rattle.slice_outlines.specs.declared.spot.Stop.{Stop}
+use Rattle.slice_outlines.specs.declared.flats.Flat.{Flat}
+use Rattle.slice_outlines.specs.declared.course.Course.{Course}
+use Rattle.slice_outlines.specs.declared.stretch.Along.{Along}
+use Rattle.slice_outlines.specs.declared.changing.Height.{Height}
+use Rattle.slice_outlines.specs.declared.changing.Open.{Open}
+use Rattle.slice_outlines.specs.Marks.{spot_at}
+use Rattle.slice_outlines.specs.Flats.{LiesOn, IsFlatOf}
+use Rattle.slice_outlines.specs.Passing.{IsCourseOf}
+use Rattle.slice_outlines.specs.Cursor.{StandsOn}
+use Rattle.slice_outlines.specs.Heights.{Onwards}
+
+-- ---- beside a stop
+abbrev pub LiesLeftOf : Height → Stop → Mark → Type 0
+LiesLeftOf h s m = IsLeft (spot_at h.edges.now h.at.now m) s.spot
+
+abbrev pub LiesRightOf : Height → Stop → Mark → Type 0
+LiesRightOf h s m = IsLeft s.spot (spot_at h.edges.now h.at.now m)
+
+-- of these marks those from one place to another lie between two xs, or there
+pub record LieBetween (h : Height) (left right : ℤ) (ms : List Mark) (from to : ℕ) : Type 0 where
+  pub before : AllByRecursion (λ m. IsLeft (spot_at h.edges.now h.at.now m) (whole_spot left h.at.now)) (take from ms)
+  pub inside : AllByRecursion (λ m. (IsLeft (spot_at h.edges.now h.at.now m) (whole_spot left h.at.now) → ⊥)
+      × (IsLeft (whole_spot right h.at.now) (spot_at h.edges.now h.at.now m) → ⊥)) (drop from (take to ms))
+  pub behind : AllByRecursion (λ m. IsLeft (whole_spot right h.at.now) (spot_at h.edges.now h.at.now m)) (drop to ms)
+
+-- ---- flat edges
+-- flat edges of a height, each of which lies within a part of it
+pub record AreFlatsOf (h : Height) (run : Run) (fs : List Flat) : Type 0 where
+  pub each : AllByRecursion (IsFlatOf h.edges.now) fs
+  pub on : AllByRecursion (LiesOn h.at.now) fs
+
+abbrev pub BeginsBy : Stop → Flat → Type 0
+BeginsBy s f = IsLeft s.spot (whole_spot f.left s.spot.at) → ⊥
+
+abbrev pub StartsAfter : Stop → List Flat → Type 0
+StartsAfter s [] = ⊤
+StartsAfter s (f ∷ fs) = IsLeft s.spot (whole_spot f.left s.spot.at)
+
+-- it goes on to the right of a stop
+abbrev pub goes_on : Stop → Flat → Bool
+goes_on s f = not (int_le (f.right *ℤ s.spot.at.d *ℤ pos s.spot.run) s.spot.x)
+
+-- ---- the piece along the height
+abbrev pub lesser : Option ℕ → ℕ → Option ℕ
+lesser None k = Some k
+lesser (Some j) k = Some (nat_min k j)
+
+abbrev pub least_from : Option ℕ → List Flat → Option ℕ
+least_from least [] = least
+least_from least (f ∷ fs) = least_from (lesser least f.number) fs
+
+abbrev pub least : List Flat → Option ℕ
+least fs = least_from None fs
+
+abbrev pub course_along : Option ℕ → Bool → Bool → Pt → Option Course
+course_along None above below at = None
+course_along (Some name) true true at = None
+course_along (Some name) true false at = Some (record { name = name; forward = true; from = at })
+course_along (Some name) false true at = Some (record { name = name; forward = false; from = at })
+course_along (Some name) false false at = None
+
+abbrev pub begun_at : Pt → Option Course → Option Course
+begun_at from None = None
+begun_at from (Some c) = Some (record c { from = from })
+
+-- a flat way as the code has it
+abbrev pub IsFlatCourse : List Way → Option Course → Type 0
+IsFlatCourse [] None = ⊤
+IsFlatCourse [] (Some c) = ⊥
+IsFlatCourse (w ∷ []) None = ⊥
+IsFlatCourse (w ∷ []) (Some c) = IsCourseOf w c
+IsFlatCourse (w ∷ (v ∷ ws)) c = ⊥
+
+-- ---- how far it has come
+-- the places that are passed, and the way along the height that leads on from the last
+pub record HasComeAlong (on : Onwards) (a : Along) (o : Open) : Type 0 where
+  pub places : List Place
+  pub flat : List Way
+  pub course : IsFlatCourse flat a.flat
+  pub lower : all_below places ≡ take a.below on.below
+  pub upper : bundles_of (all_above places) ≡ take a.above (bundles_in on.height.front.now)
+  pub passed : (later : List Place) → all_below later ≡ drop a.below on.below
+      → ArePassed on.height.edges.now on.height.at.now on.upper flat later
+      → ArePassed on.height.edges.now on.height.at.now on.upper [] (places ++ later)
+  pub given : IsPermutation (on.given ++ rounded_edges (pieces_of (all_closed places))) o.given.items
+  pub cursor : StandsOn on.height.edges.now on.shape (bundles_in on.height.front.now) o.cursor
+
+-- a stop to the right of all that is passed, and to the left of all that isn't, or there
+pub record IsNextStop (h : Height) (above : List Mark) (fs : List Flat) (a : Along) (s : Stop) : Type 0 where
+  pub below : AllByRecursion (λ m. LiesLeftOf h s m → ⊥) (drop a.below (take a.run.below_to h.below.now))
+  pub above : AllByRecursion (λ m. LiesLeftOf h s m → ⊥) (drop a.above (take a.run.above_to above))
+  pub flats : AllByRecursion (λ f. IsLeft (whole_spot f.left s.spot.at) s.spot → ⊥) (drop a.begun fs)

@@ -1,0 +1,39 @@
+-- A cursor: the headings of the strands from its place on, leaf by leaf.
+use Rattle.std.specs.Prelude.{◌≡◌, ◌≤◌, ◌<◌, ◌+◌, List, ◌++◌, ℕ, length, drop}
+use Rattle.std.specs.List.{concat}
+use Rattle.scad_geom.specs.declared.level.Level.{Level}
+use Rattle.scad_geom.specs.declared.level.LeafEdge.{LeafEdge}
+use Rattle.scad_geom.specs.declared.shape.Shape.{Shape}
+use Rattle.slice_slab.specs.Bundles.{edge_at}
+use Rattle.slice_slab.specs.KeptOrder.{IsSamePlaceAt}
+use Rattle.slice_sweep.specs.Changes.{Group, all_below, all_above}
+use Rattle.slice_outlines.specs.declared.mark.Mark.{Mark}
+use Rattle.slice_outlines.specs.declared.cursor.Cursor.{Cursor}
+use Rattle.slice_outlines.specs.Marks.{mark_at}
+use Rattle.slice_outlines.specs.Tallies.{Tells}
+
+-- a cursor on these bundles
+pub record StandsOn (es : List LeafEdge) (shape : Shape) (bundles : List (List ℕ)) (c : Cursor) : Type 0 where
+  pub there : c.at ≤ length bundles
+  pub tells : Tells es shape (concat (drop c.at bundles)) c.tally
+
+-- where one stood on these bundles, so does the other
+abbrev pub StaysOn : List LeafEdge → List (List ℕ) → Cursor → Cursor → Type 0
+StaysOn es bundles c d = (shape : Shape) → StandsOn es shape bundles c → StandsOn es shape bundles d
+
+-- the strands on both sides of a place don't meet at a height
+abbrev pub IsApartAt : List LeafEdge → Level → List Mark → ℕ → Type 0
+IsApartAt es l ms n = (i : ℕ) → i + 1 ≡ n → n < length ms
+    → IsSamePlaceAt l (edge_at es (mark_at ms i).name) (edge_at es (mark_at ms n).name) → ⊥
+
+-- a place among the strands below a height is between two groups of it, and the other is that place above it
+pub record IsShifted (gs : List Group) (below above : ℕ) : Type 0 where
+  pub left : List Group
+  pub right : List Group
+  pub groups : gs ≡ left ++ right
+  pub lower : length (all_below left) ≡ below
+  pub upper : length (all_above left) ≡ above
+
+-- a place is between two groups that changes tell of
+abbrev pub Fit : List Group → ℕ → Type 0
+Fit gs n = (left : List Group) × (right : List Group) × (gs ≡ left ++ right) × (length (all_below left) ≡ n)

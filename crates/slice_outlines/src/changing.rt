@@ -1,0 +1,69 @@
+//! What a height changes.
+ghost use Rattle.std.specs.Prelude.{◌≡◌, ◌<◌, ◌^◌, length, All};
+ghost use Rattle.scad_geom.specs.declared.shape.Shape.{Shape};
+ghost use Rattle.scad_geom.specs.Limits.{coordinate_limit};
+ghost use Rattle.scad_geom.specs.Within.{IsEdgeWithin};
+ghost use Rattle.scad_geom.specs.Level.{IsLevelWithin};
+ghost use Rattle.slice_sweep.specs.Front.{bundles_in};
+ghost use Rattle.slice_bool.specs.Beside.{AreMembers};
+ghost use Rattle.slice_outlines.specs.Cursor.{StandsOn, StaysOn};
+ghost use Rattle.slice_outlines.specs.Heights.{IsRunOf, IsBalancedBefore, AreValuedIn, KeepsMarks};
+
+use crate::cursor::Cursor;
+use crate::mark::{Mark, value_at};
+use crate::run::Run;
+use scad_geom::{Edge, LeafEdge, Level};
+use slice_sweep::Front;
+
+/// A height, the front above it, and the marks of the strands below it.
+#[derive(Clone, Copy)]
+pub(crate) struct Height<'a> {
+    pub(crate) edges: &'a [LeafEdge],
+    pub(crate) at: &'a Level,
+    pub(crate) front: &'a Front,
+    pub(crate) below: &'a [Mark],
+    ghost within: { All (λ e. IsEdgeWithin coordinate_limit e.edge) edges.now },
+    ghost few: { length edges.now < 2 ^ 32 },
+    ghost at_within: { IsLevelWithin coordinate_limit at.now },
+}
+
+/// The marks of the strands above a height, a cursor on their front, and the edges that ended pieces gave.
+#[derive(Drop)]
+pub(crate) struct Open {
+    pub(crate) marks: Vec<Mark>,
+    pub(crate) cursor: Cursor,
+    pub(crate) given: Vec<Edge>,
+}
+
+/// Finds the values to the left of the strands above a run. To the left of the first it's that below the height.
+pub(crate) fn find_values(height: &Height<'_>, kept: &mut Open, run: &Run)
+    requires members { AreMembers height.now.edges.now (bundles_in height.now.front.now) }
+    requires there { IsRunOf height.now.below.now kept.old.marks.items run.now }
+    ensures values { (shape : Shape) → IsBalancedBefore height.now shape run.now
+        → StandsOn height.now.edges.now shape (bundles_in height.now.front.now) kept.old.cursor
+        → AreValuedIn height.now shape run.now kept.new.marks.items }
+    ensures stands { StaysOn height.now.edges.now (bundles_in height.now.front.now) kept.old.cursor kept.new.cursor }
+    ensures rest { KeepsMarks run.now kept.old.marks.items kept.new.marks.items }
+    ensures given { kept.new.given ≡ kept.old.given }
+{
+    if run.above + 1 == run.above_to {
+        kept.marks[run.above].left = value_at(height.below, run.below);
+    } else {
+        ask_cursor(height, kept, run);
+    }
+}
+
+fn ask_cursor(height: &Height<'_>, kept: &mut Open, run: &Run)
+    requires members { AreMembers height.now.edges.now (bundles_in height.now.front.now) }
+    requires there { IsRunOf height.now.below.now kept.old.marks.items run.now }
+    ensures values { (shape : Shape)
+        → StandsOn height.now.edges.now shape (bundles_in height.now.front.now) kept.old.cursor
+        → AreValuedIn height.now shape run.now kept.new.marks.items }
+    ensures stands { StaysOn height.now.edges.now (bundles_in height.now.front.now) kept.old.cursor kept.new.cursor }
+    ensures rest { KeepsMarks run.now kept.old.marks.items kept.new.marks.items }
+    ensures given { kept.new.given ≡ kept.old.given }
+{
+    'strands: for i in run.above..run.above_to {
+        kept.marks[i].left = kept.cursor.value_at(height.edges, height.front, i);
+    }
+}

@@ -1,0 +1,146 @@
+//! The shape's value between strands.
+ghost use Rattle.std.specs.Prelude.{◌≡◌, ◌<◌, ◌≤◌, ◌↔◌, [], List, length, drop, false, nat_min, nat_max, IsTrue, IfOk, All, AllZip};
+ghost use Rattle.scad_geom.specs.declared.shape.Shape.{Shape};
+ghost use Rattle.scad_geom.specs.Limits.{coordinate_limit};
+ghost use Rattle.scad_geom.specs.Within.{IsEdgeWithin};
+ghost use Rattle.scad_geom.specs.Level.{IsLevelWithin};
+ghost use Rattle.slice_slab.specs.Bundles.{edge_at};
+ghost use Rattle.slice_slab.specs.KeptOrder.{IsSamePlaceAt};
+ghost use Rattle.slice_sweep.specs.Front.{bundles_in};
+ghost use Rattle.slice_sweep.specs.Changes.{Group, Tell};
+ghost use Rattle.slice_bool.specs.Beside.{AreMembers, left_value};
+ghost use Rattle.slice_outlines.specs.Marks.{AreThere, IsNamed};
+ghost use Rattle.slice_outlines.specs.Cursor.{StandsOn, StaysOn, IsApartAt, IsShifted, Fit};
+
+use crate::mark::Mark;
+use crate::run::{after, first};
+use crate::tally::{Tally, no_turns};
+use scad_geom::{LeafEdge, Level, Shape, cmp_x_at};
+use slice_sweep::{Change, Front};
+use std::alloc::{AllocError, Global};
+
+/// A place on the front, and the headings of the strands from there on.
+#[derive(Drop)]
+pub(crate) struct Cursor {
+    tally: Tally,
+    at: usize,
+}
+
+impl Cursor {
+    /// On a front without strands.
+    pub(crate) fn new(
+        alloc: Global,
+        edges: &[LeafEdge],
+        shape: &Shape,
+    ) -> Result<Cursor, AllocError>
+        ensures { IfOk result (StandsOn edges.now shape.now []) }
+    {
+        let tally = no_turns(alloc, edges, shape)?;
+        Ok(Cursor { tally, at: 0 })
+    }
+
+    /// The value to the left of the strand at a place, to which it goes.
+    pub(crate) fn value_at(&mut self, edges: &[LeafEdge], front: &Front, place: usize) -> bool
+        requires members { AreMembers edges.now (bundles_in front.now) }
+        requires there { place ≤ length (bundles_in front.now) }
+        ensures value { (shape : Shape) → StandsOn edges.now shape (bundles_in front.now) self.old
+            → result ≡ left_value edges.now shape (drop place (bundles_in front.now)) }
+        ensures stands { StaysOn edges.now (bundles_in front.now) self.old self.new }
+        ensures place { self.new.at ≡ place }
+    {
+        self.go_left(edges, front, place);
+        self.go_right(edges, front, place);
+        self.tally.value()
+    }
+
+    /// Goes to the right end.
+    pub(crate) fn rest(&mut self, edges: &[LeafEdge], front: &Front)
+        requires members { AreMembers edges.now (bundles_in front.now) }
+        requires there { self.old.at ≤ length (bundles_in front.now) }
+        ensures stands { StaysOn edges.now (bundles_in front.now) self.old self.new }
+        ensures place { self.new.at ≡ length (bundles_in front.now) }
+    {
+        self.go_right(edges, front, front.count());
+    }
+
+    fn go_left(&mut self, edges: &[LeafEdge], front: &Front, place: usize)
+        requires members { AreMembers edges.now (bundles_in front.now) }
+        requires there { self.old.at ≤ length (bundles_in front.now) }
+        ensures stands { StaysOn edges.now (bundles_in front.now) self.old self.new }
+        ensures place { self.new.at ≡ nat_min place self.old.at }
+    {
+        'strands: while self.at > place {
+            self.at -= 1;
+            self.tally.add(edges, front.bundle(self.at));
+        }
+    }
+
+    fn go_right(&mut self, edges: &[LeafEdge], front: &Front, place: usize)
+        requires members { AreMembers edges.now (bundles_in front.now) }
+        requires there { place ≤ length (bundles_in front.now) }
+        ensures stands { StaysOn edges.now (bundles_in front.now) self.old self.new }
+        ensures place { self.new.at ≡ nat_max place self.old.at }
+    {
+        'strands: while self.at < place {
+            self.tally.take(edges, front.bundle(self.at));
+            self.at += 1;
+        }
+    }
+
+    /// Goes to the right until it doesn't stand between strands that meet at a height.
+    pub(crate) fn leave(&mut self, edges: &[LeafEdge], front: &Front, marks: &[Mark], at: &Level)
+        requires within { All (λ e. IsEdgeWithin coordinate_limit e.edge) edges.now }
+        requires at { IsLevelWithin coordinate_limit at.now }
+        requires members { AreMembers edges.now (bundles_in front.now) }
+        requires named { AllZip (λ m b. IsNamed m.name b) marks.now (bundles_in front.now) }
+        ensures stands { StaysOn edges.now (bundles_in front.now) self.old self.new }
+        ensures apart { IsApartAt edges.now at.now marks.now self.new.at }
+    {
+        'strands: while self.is_within(edges, marks, at) {
+            self.go_right(edges, front, self.at + 1);
+        }
+    }
+
+    fn is_within(&self, edges: &[LeafEdge], marks: &[Mark], at: &Level) -> bool
+        requires within { All (λ e. IsEdgeWithin coordinate_limit e.edge) edges.now }
+        requires at { IsLevelWithin coordinate_limit at.now }
+        requires there { AreThere edges.now marks.now }
+        ensures { result ≡ false → IsApartAt edges.now at.now marks.now self.now.at }
+    {
+        0 < self.at
+            && self.at < marks.len()
+            && are_together(edges, &marks[self.at - 1], &marks[self.at], at)
+    }
+
+    /// Its place among the strands above a height, where it stands between places of that height.
+    pub(crate) fn shift(&mut self, changes: &[Change])
+        ensures tally { self.new.tally ≡ self.old.tally }
+        ensures place { (gs : List Group) → Tell 0 changes.now gs → Fit gs self.old.at
+            → IsShifted gs self.old.at self.new.at }
+    {
+        let mut done = first();
+        'changes: for change in changes {
+            let run = after(&done, change);
+            if run.below_to > self.at {
+                break;
+            }
+            done = run;
+        }
+        self.at = done.above_to + (self.at - done.below_to);
+    }
+}
+
+fn are_together(edges: &[LeafEdge], s: &Mark, t: &Mark, at: &Level) -> bool
+    requires within { All (λ e. IsEdgeWithin coordinate_limit e.edge) edges.now }
+    requires at { IsLevelWithin coordinate_limit at.now }
+    requires first { s.now.name < length edges.now }
+    requires second { t.now.name < length edges.now }
+    ensures { IsTrue result ↔ IsSamePlaceAt at.now (edge_at edges.now s.now.name) (edge_at edges.now t.now.name) }
+{
+    cmp_x_at(
+        &edges[s.name as usize].edge,
+        &edges[t.name as usize].edge,
+        at,
+    )
+    .is_eq()
+}

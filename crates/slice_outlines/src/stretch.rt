@@ -1,0 +1,268 @@
+//! A stretch of flat edges, from place to place.
+ghost use Rattle.std.specs.Prelude.{◌≡◌, ◌<◌, ◌≤◌, ◌+◌, ◌-◌, ◌++◌, pos, ◌<ℤ◌, false, if◌then◌else◌, nat_lt, filter, take, drop, length, unsigned_abs, IfOk, OnOk, All};
+ghost use Rattle.std.specs.List.Sorted.{IsPermutation, IsPartitionPoint};
+ghost use Rattle.scad_geom.specs.Limits.{coordinate_limit};
+ghost use Rattle.scad_geom.specs.Line.{rise};
+ghost use Rattle.scad_geom.specs.Within.{IsEdgeWithin};
+ghost use Rattle.scad_geom.specs.Level.{IsLevelWithin};
+ghost use Rattle.slice_slab.specs.Bundles.{edge_at};
+ghost use Rattle.slice_outlines.specs.Marks.{left_of_first, mark_at, spot_at};
+ghost use Rattle.slice_outlines.specs.Heights.{Onwards, IsOf, IsRunOf, AreInOrder, HasComeTo};
+ghost use Rattle.slice_outlines.specs.Along.{LieBetween, LiesLeftOf, LiesRightOf, AreFlatsOf, IsNextStop, HasComeAlong, BeginsBy, StartsAfter, goes_on, course_along, least, lesser, begun_at};
+
+use crate::changing::{Height, Open, find_values};
+use crate::course::Course;
+use crate::flats::Flat;
+use crate::mark::{Mark, begin, value_at};
+use crate::passing::{Beside, pass_strands};
+use crate::run::Run;
+use crate::spot::{Stop, compare, rounded, spot_on, whole_spot};
+use crate::stops::stops;
+use scad_geom::{LeafEdge, Level, Pt};
+use std::alloc::{AllocError, Global};
+
+/// The strands below a height and above it that lie from one x to another.
+pub(crate) fn run_between(height: &Height<'_>, above: &[Mark], left: i32, right: i32) -> Run
+    requires left { unsigned_abs left ≤ coordinate_limit }
+    requires right { unsigned_abs right ≤ coordinate_limit }
+    requires below { AreInOrder height.now height.now.below.now }
+    requires above { AreInOrder height.now above.now }
+    ensures run { IsRunOf height.now.below.now above.now result }
+    ensures below { LieBetween height.now left right height.now.below.now result.below result.below_to }
+    ensures above { LieBetween height.now left right above.now result.above result.above_to }
+{
+    let (left, right) = (whole_spot(left, height.at), whole_spot(right, height.at));
+    Run {
+        below: first_from(height, height.below, &left),
+        below_to: first_behind(height, height.below, &right),
+        above: first_from(height, above, &left),
+        above_to: first_behind(height, above, &right),
+    }
+}
+
+// How many strands lie to the left of a place.
+fn first_from(height: &Height<'_>, marks: &[Mark], s: &Stop) -> usize
+    requires { AreInOrder height.now marks.now }
+    ensures { IsPartitionPoint (λ m. LiesLeftOf height.now s.now m) (λ m. LiesLeftOf height.now s.now m → ⊥)
+        marks.now result }
+{
+    marks.partition_point(|m| compare(&stop_of(height.edges, m, height.at), s).is_lt())
+}
+
+// How many don't lie to the right of it.
+fn first_behind(height: &Height<'_>, marks: &[Mark], s: &Stop) -> usize
+    requires { AreInOrder height.now marks.now }
+    ensures { IsPartitionPoint (λ m. LiesRightOf height.now s.now m → ⊥) (λ m. LiesRightOf height.now s.now m)
+        marks.now result }
+{
+    marks.partition_point(|m| compare(&stop_of(height.edges, m, height.at), s).is_le())
+}
+
+fn stop_of(edges: &[LeafEdge], mark: &Mark, at: &Level) -> Stop
+    requires within { All (λ e. IsEdgeWithin coordinate_limit e.edge) edges.now }
+    requires at { IsLevelWithin coordinate_limit at.now }
+    requires rises { pos 0 <ℤ rise (edge_at edges.now mark.now.name) }
+    requires there { mark.now.name < length edges.now }
+    ensures { result.spot ≡ spot_at edges.now at.now mark.now }
+{
+    spot_on(&edges[mark.name as usize].edge, at)
+}
+
+/// Passes the places of a stretch, whose flat edges and whose strands are given.
+pub(crate) fn pass_stretch(
+    alloc: Global,
+    height: &Height<'_>,
+    kept: &mut Open,
+    run: &Run,
+    flats: &[Flat],
+) -> Result<(), AllocError>
+    requires flats { AreFlatsOf height.now run.now flats.now }
+    ensures passed { (on : Onwards) → IsOf height.now on → OnOk result (HasComeTo on run.now.below run.now.above kept.old
+        → HasComeTo on run.now.below_to run.now.above_to kept.new) }
+{
+    find_values(height, kept, run);
+    let stops = stops(
+        alloc,
+        height.edges,
+        height.at,
+        &height.below[run.below..run.below_to],
+        &kept.marks[run.above..run.above_to],
+        flats,
+    )?;
+    let mut along = Along {
+        run: *run,
+        below: run.below,
+        above: run.above,
+        begun: 0,
+        live: Vec::new(alloc),
+        flat: None,
+    };
+    'stops: for s in &stops {
+        pass_stop(height, kept, flats, &mut along, s)?;
+    }
+    Ok(())
+}
+
+/// How far a stretch is passed: up to which strands and flat edges, which flat edges go on to the right, and the piece
+/// along the height that comes in.
+#[derive(Drop)]
+struct Along {
+    run: Run,
+    below: usize,
+    above: usize,
+    begun: usize,
+    live: Vec<Flat>,
+    flat: Option<Course>,
+}
+
+fn pass_stop(
+    height: &Height<'_>,
+    kept: &mut Open,
+    flats: &[Flat],
+    along: &mut Along,
+    s: &Stop,
+) -> Result<(), AllocError>
+    requires next { IsNextStop height.now kept.old.marks.items flats.now along.old s.now }
+    ensures passed { (on : Onwards) → IsOf height.now on → OnOk result (HasComeAlong on along.old kept.old
+        → HasComeAlong on along.new kept.new) }
+{
+    let below_to = strands_to(height, height.below, along.below, along.run.below_to, s);
+    let above_to = strands_to(height, &kept.marks, along.above, along.run.above_to, s);
+    along.begun = begin_flats(&mut along.live, flats, along.begun, s)?;
+    end_flats(&mut along.live, s);
+    let run = Run {
+        below: along.below,
+        below_to,
+        above: along.above,
+        above_to,
+    };
+    let (below, above) = (
+        value_at(height.below, below_to),
+        value_above(height, kept, &along.run, above_to),
+    );
+    let at = rounded(s);
+    let flat = course_along(&along.live, above, below, at);
+    let beside = Beside {
+        below,
+        above,
+        flat_in: along.flat,
+        flat_out: flat,
+        at,
+    };
+    let from = pass_strands(&mut kept.given, height.below, &kept.marks, &run, &beside)?;
+    begin(&mut kept.marks, along.above, above_to, from);
+    along.flat = begun_at(flat, from);
+    along.below = below_to;
+    along.above = above_to;
+    Ok(())
+}
+
+// The place behind the strands of a stretch that don't lie to the right of a stop.
+fn strands_to(height: &Height<'_>, marks: &[Mark], from: usize, to: usize, s: &Stop) -> usize
+    requires from { from ≤ to }
+    requires to { to ≤ length marks.now }
+    ensures from { from ≤ result }
+    ensures to { result ≤ to }
+    ensures passed { All (λ m. LiesRightOf height.now s.now m → ⊥) (take (result - from) (drop from marks.now)) }
+    ensures next { result < to → LiesRightOf height.now s.now (mark_at marks.now result) }
+{
+    let mut i = from;
+    'strands: while i < to && compare(&stop_of(height.edges, &marks[i], height.at), s).is_le() {
+        i += 1;
+    }
+    i
+}
+
+// The value just above the height to the left of a strand, or to the right of the stretch, where it's that below.
+fn value_above(height: &Height<'_>, kept: &Open, run: &Run, i: usize) -> bool
+    requires { run.now.above_to ≤ length kept.now.marks.items }
+    ensures { result ≡ (if nat_lt i run.now.above_to then (mark_at kept.now.marks.items i).left
+        else left_of_first (drop run.now.below_to height.now.below.now) false) }
+{
+    if i < run.above_to {
+        kept.marks[i].left
+    } else {
+        value_at(height.below, run.below_to)
+    }
+}
+
+// Adds the flat edges that begin at a stop.
+fn begin_flats(
+    live: &mut Vec<Flat>,
+    flats: &[Flat],
+    from: usize,
+    s: &Stop,
+) -> Result<usize, AllocError>
+    requires { from ≤ length flats.now }
+    ensures live { IfOk result
+        (λ n. live.new.items ≡ live.old.items ++ take (n - from) (drop from flats.now)) }
+    ensures begun { IfOk result (λ n. All (BeginsBy s.now) (take (n - from) (drop from flats.now))) }
+    ensures later { IfOk result (λ n. StartsAfter s.now (drop n flats.now)) }
+{
+    let mut i = from;
+    'flats: while i < flats.len() && compare(&whole_spot(flats[i].left, &s.spot.at), s).is_le() {
+        live.push(flats[i])?;
+        i += 1;
+    }
+    Ok(i)
+}
+
+// Drops those that end there.
+fn end_flats(live: &mut Vec<Flat>, s: &Stop)
+    ensures { IsPermutation (filter (goes_on s.now) live.old.items) live.new.items }
+{
+    let mut i = 0;
+    'flats: while i < live.len() {
+        if compare(&whole_spot(live[i].right, &s.spot.at), s).is_le() {
+            live.swap_remove(i);
+        } else {
+            i += 1;
+        }
+    }
+}
+
+// The piece along the height to the right of a place.
+fn course_along(live: &[Flat], above: bool, below: bool, at: Pt) -> Option<Course>
+    ensures { result ≡ course_along (least live.now) above below at }
+{
+    if above == below {
+        return None;
+    }
+    match least(live) {
+        None => None,
+        Some(name) => Some(Course {
+            name,
+            forward: above,
+            from: at,
+        }),
+    }
+}
+
+// The least number of flat edges.
+fn least(live: &[Flat]) -> Option<u32>
+    ensures { result ≡ least live.now }
+{
+    let mut least = None;
+    'flats: for e in live {
+        least = lesser(least, e.number);
+    }
+    least
+}
+
+fn lesser(least: Option<u32>, k: u32) -> Option<u32>
+    ensures { result ≡ lesser least k }
+{
+    match least {
+        None => Some(k),
+        Some(j) => Some(if k < j { k } else { j }),
+    }
+}
+
+fn begun_at(flat: Option<Course>, from: Pt) -> Option<Course>
+    ensures { result ≡ begun_at from flat }
+{
+    match flat {
+        None => None,
+        Some(course) => Some(Course { from, ..course }),
+    }
+}
