@@ -12,11 +12,11 @@ use Rattle.sweep_laws.specs.Crossing.{Place, all_below, all_above, all_closed, A
 use Rattle.slice_outlines.specs.declared.mark.Mark.{Mark}
 use Rattle.slice_outlines.specs.declared.run.Run.{Run}
 use Rattle.slice_outlines.specs.declared.spot.Stop.{Stop}
-use Rattle.slice_outlines.specs.declared.flats.Flat.{Flat}
+use Rattle.slice_outlines.specs.declared.flat.Flat.{Flat}
 use Rattle.slice_outlines.specs.declared.course.Course.{Course}
 use Rattle.slice_outlines.specs.declared.stretch.Along.{Along}
-use Rattle.slice_outlines.specs.declared.changing.Height.{Height}
-use Rattle.slice_outlines.specs.declared.changing.Open.{Open}
+use Rattle.slice_outlines.specs.declared.height.Height.{Height}
+use Rattle.slice_outlines.specs.declared.height.Open.{Open}
 use Rattle.slice_outlines.specs.Marks.{spot_at}
 use Rattle.slice_outlines.specs.Flats.{LiesOn, IsFlatOf}
 use Rattle.slice_outlines.specs.Passing.{IsCourseOf}

@@ -1,12 +1,13 @@
 -- A cursor: the headings of the strands from its place on, leaf by leaf.
-use Rattle.std.specs.Prelude.{◌≡◌, ◌≤◌, ◌<◌, ◌+◌, List, ◌++◌, ℕ, length, drop}
+use Rattle.std.specs.Prelude.{◌≡◌, ◌≤◌, ◌<◌, ◌+◌, ◌^◌, List, ◌++◌, ℕ, length, drop}
 use Rattle.std.specs.List.{concat}
 use Rattle.scad_geom.specs.declared.level.Level.{Level}
 use Rattle.scad_geom.specs.declared.level.LeafEdge.{LeafEdge}
 use Rattle.scad_geom.specs.declared.shape.Shape.{Shape}
 use Rattle.slice_slab.specs.Bundles.{edge_at}
 use Rattle.slice_slab.specs.KeptOrder.{IsSamePlaceAt}
-use Rattle.slice_sweep.specs.Changes.{Group, all_below, all_above}
+use Rattle.slice_sweep.specs.declared.change.Change.{Change}
+use Rattle.slice_sweep.specs.Changes.{Group, Tell, all_below, all_above}
 use Rattle.slice_outlines.specs.declared.mark.Mark.{Mark}
 use Rattle.slice_outlines.specs.declared.cursor.Cursor.{Cursor}
 use Rattle.slice_outlines.specs.Marks.{mark_at}
@@ -16,6 +17,11 @@ use Rattle.slice_outlines.specs.Tallies.{Tells}
 pub record StandsOn (es : List LeafEdge) (shape : Shape) (bundles : List (List ℕ)) (c : Cursor) : Type 0 where
   pub there : c.at ≤ length bundles
   pub tells : Tells es shape (concat (drop c.at bundles)) c.tally
+
+-- it is one of some shape
+pub record Stands (es : List LeafEdge) (bundles : List (List ℕ)) (c : Cursor) : Type 0 where
+  pub shape : Shape
+  pub on : StandsOn es shape bundles c
 
 -- where one stood on these bundles, so does the other
 abbrev pub StaysOn : List LeafEdge → List (List ℕ) → Cursor → Cursor → Type 0
@@ -37,3 +43,11 @@ pub record IsShifted (gs : List Group) (below above : ℕ) : Type 0 where
 -- a place is between two groups that changes tell of
 abbrev pub Fit : List Group → ℕ → Type 0
 Fit gs n = (left : List Group) × (right : List Group) × (gs ≡ left ++ right) × (length (all_below left) ≡ n)
+
+-- the changes tell of groups, not too many to be counted, and a place is between two of them
+pub record CanShift (cs : List Change) (place : ℕ) : Type 0 where
+  pub groups : List Group
+  pub told : Tell 0 cs groups
+  pub fits : Fit groups place
+  pub few_below : length (all_below groups) < 2 ^ 32
+  pub few_above : length (all_above groups) < 2 ^ 32

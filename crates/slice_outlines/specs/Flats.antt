@@ -1,13 +1,15 @@
 -- Flat edges, by height and then from left to right.
-use Rattle.std.specs.Prelude.{◌≡◌, ◌⊎◌, ⊤, ℤ, int_max, ◌<ℤ◌, List, [], ◌∷◌, map, ℕ, ◌+◌, ◌<◌, ◌≤ℤ◌, length, if◌then◌else◌, ◌*ℤ◌}
-use Rattle.std.specs.Ordering.{Ordering, int_eq, int_cmp, ordering_then}
+use Rattle.std.specs.Prelude.{◌≡◌, ◌⊎◌, ⊤, ℤ, ◌<ℤ◌, List, [], ◌∷◌, map, ℕ, ◌+◌, ◌<◌, ◌≤ℤ◌, length, if◌then◌else◌, ◌*ℤ◌}
+use Rattle.std.specs.Int.{int_max}
+use Rattle.std.specs.Ordering.{int_eq, int_cmp, ordering_then}
+use Rattle.std.specs.declared.cmp.Ordering.{Ordering}
 use Rattle.std.specs.List.{AllByRecursion}
 use Rattle.std.specs.List.Sorted.{IsPermutation}
 use Rattle.scad_geom.specs.declared.point.Edge.{Edge}
 use Rattle.scad_geom.specs.declared.level.Level.{Level}
 use Rattle.scad_geom.specs.declared.level.LeafEdge.{LeafEdge}
 use Rattle.slice_slab.specs.Bundles.{edge_at}
-use Rattle.slice_outlines.specs.declared.flats.Flat.{Flat}
+use Rattle.slice_outlines.specs.declared.flat.Flat.{Flat}
 
 -- the flat edge of its number, its ends from left to right
 pub record IsFlatOf (es : List LeafEdge) (f : Flat) : Type 0 where

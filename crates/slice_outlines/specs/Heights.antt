@@ -17,19 +17,19 @@ use Rattle.sweep_laws.specs.Fronts.{Strand, bundles_of, value_before}
 use Rattle.sweep_laws.specs.Crossing.{Place, spots_of, all_below, all_above, all_closed, ArePassed}
 use Rattle.slice_outlines.specs.declared.mark.Mark.{Mark}
 use Rattle.slice_outlines.specs.declared.run.Run.{Run}
-use Rattle.slice_outlines.specs.declared.changing.Height.{Height}
-use Rattle.slice_outlines.specs.declared.changing.Open.{Open}
+use Rattle.slice_outlines.specs.declared.height.Height.{Height}
+use Rattle.slice_outlines.specs.declared.height.Open.{Open}
 use Rattle.slice_outlines.specs.declared.groups.Passed.{Passed}
 use Rattle.slice_outlines.specs.Marks.{mark_at, left_of_first, spot_at, AreKept}
 use Rattle.slice_outlines.specs.Runs.{first, after, run_of}
 use Rattle.slice_outlines.specs.Cursor.{StandsOn}
 
 -- the strands of a part are there
-pub record IsRunOf (below above : List Mark) (run : Run) : Type 0 where
+pub record IsRunOf (lower upper : List Mark) (run : Run) : Type 0 where
   pub below : run.below ≤ run.below_to
-  pub below_to : run.below_to ≤ length below
+  pub below_to : run.below_to ≤ length lower
   pub above : run.above ≤ run.above_to
-  pub above_to : run.above_to ≤ length above
+  pub above_to : run.above_to ≤ length upper
 
 -- ---- values
 -- to the left of a part the shape has one value below the height and above it
@@ -103,11 +103,11 @@ marks_of h ms run = take (run.below_to - run.below) (drop run.below h.below.now)
 abbrev pub MeetAt : Height → List Mark → Run → Spot → Type 0
 MeetAt h ms run s = AllByRecursion (λ m. IsSameAcross (spot_at h.edges.now h.at.now m) s) (marks_of h ms run)
 
-pub record IsGroupAt (h : Height) (ms : List Mark) (run : Run) : Type 0 where
-  pub run : IsRunOf h.below.now ms run
-  pub some : marks_of h ms run ≡ [] → ⊥
+pub record IsGroupAt (h : Height) (ms : List Mark) (r : Run) : Type 0 where
+  pub run : IsRunOf h.below.now ms r
+  pub some : marks_of h ms r ≡ [] → ⊥
   pub spot : Spot
-  pub meet : MeetAt h ms run spot
+  pub meet : MeetAt h ms r spot
 
 -- one spot doesn't lie to the right of another
 abbrev pub IsNotRightOf : Spot → Spot → Type 0

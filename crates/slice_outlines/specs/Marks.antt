@@ -51,7 +51,7 @@ spot_at es l m = spot_on (edge_at es m.name) l
 
 -- strands that begin at a point; those from one place to another
 abbrev pub begun : Pt → List Mark → List Mark
-begun at ms = map (λ m. record m { from = at }) ms
+begun at ms = map (λ (m : Mark). record m { from = at }) ms
 
 abbrev pub begun_in : ℕ → ℕ → Pt → List Mark → List Mark
 begun_in from to at ms = take from ms ++ (begun at (take (to - from) (drop from ms)) ++ drop to ms)

@@ -7,7 +7,7 @@ use Rattle.slice_slab.specs.Bundles.{edge_at}
 use Rattle.slice_snap.specs.declared.piece.Spot.{Spot}
 use Rattle.slice_bool.specs.Pieces.{whole_spot, passes_at, GoRight, IsOneOf, HasSpot}
 use Rattle.slice_outlines.specs.declared.mark.Mark.{Mark}
-use Rattle.slice_outlines.specs.declared.flats.Flat.{Flat}
+use Rattle.slice_outlines.specs.declared.flat.Flat.{Flat}
 use Rattle.slice_outlines.specs.declared.spot.Stop.{Stop}
 use Rattle.slice_outlines.specs.Marks.{spot_at}
 

@@ -11,7 +11,7 @@ use Rattle.sweep_laws.specs.Fronts.{Strand, bundles_of}
 use Rattle.sweep_laws.specs.Sweeps.{HasSweptTo}
 use Rattle.slice_outlines.specs.declared.sweep.Sweep.{Sweep}
 use Rattle.slice_outlines.specs.Marks.{AreKept}
-use Rattle.slice_outlines.specs.declared.changing.Open.{Open}
+use Rattle.slice_outlines.specs.declared.height.Open.{Open}
 use Rattle.slice_outlines.specs.Cursor.{StandsOn, IsApartAt}
 use Rattle.slice_outlines.specs.Flats.{AreFlats}
 

@@ -85,8 +85,14 @@ fn edge_to(course: &Course, at: Pt) -> Edge
 fn push_edge(given: &mut Vec<Edge>, edge: &Edge) -> Result<(), AllocError>
     ensures { OnOk result (given.new.items ≡ given.old.items ++ (if has_length edge.now then edge.now ∷ [] else [])) }
 {
-    if edge.a != edge.b {
+    if has_length(edge) {
         given.push(*edge)?;
     }
     Ok(())
+}
+
+fn has_length(e: &Edge) -> bool
+    ensures { result ≡ has_length e.now }
+{
+    e.a != e.b
 }

@@ -1,5 +1,5 @@
 //! The shape's value between strands.
-ghost use Rattle.std.specs.Prelude.{◌≡◌, ◌<◌, ◌≤◌, ◌↔◌, [], List, length, drop, false, nat_min, nat_max, IsTrue, IfOk, All, AllZip};
+ghost use Rattle.std.specs.Prelude.{◌≡◌, ◌<◌, ◌≤◌, ◌^◌, ◌↔◌, [], List, length, drop, true, false, nat_min, nat_max, IsTrue, IfOk, All, AllZip};
 ghost use Rattle.scad_geom.specs.declared.shape.Shape.{Shape};
 ghost use Rattle.scad_geom.specs.Limits.{coordinate_limit};
 ghost use Rattle.scad_geom.specs.Within.{IsEdgeWithin};
@@ -10,7 +10,7 @@ ghost use Rattle.slice_sweep.specs.Front.{bundles_in};
 ghost use Rattle.slice_sweep.specs.Changes.{Group, Tell};
 ghost use Rattle.slice_bool.specs.Beside.{AreMembers, left_value};
 ghost use Rattle.slice_outlines.specs.Marks.{AreThere, IsNamed};
-ghost use Rattle.slice_outlines.specs.Cursor.{StandsOn, StaysOn, IsApartAt, IsShifted, Fit};
+ghost use Rattle.slice_outlines.specs.Cursor.{StandsOn, Stands, StaysOn, IsApartAt, CanShift, IsShifted, Fit};
 
 use crate::mark::Mark;
 use crate::run::{after, first};
@@ -41,7 +41,9 @@ impl Cursor {
 
     /// The value to the left of the strand at a place, to which it goes.
     pub(crate) fn value_at(&mut self, edges: &[LeafEdge], front: &Front, place: usize) -> bool
+        requires few { length edges.now < 2 ^ 32 }
         requires members { AreMembers edges.now (bundles_in front.now) }
+        requires stands { Stands edges.now (bundles_in front.now) self.old }
         requires there { place ≤ length (bundles_in front.now) }
         ensures value { (shape : Shape) → StandsOn edges.now shape (bundles_in front.now) self.old
             → result ≡ left_value edges.now shape (drop place (bundles_in front.now)) }
@@ -55,8 +57,9 @@ impl Cursor {
 
     /// Goes to the right end.
     pub(crate) fn rest(&mut self, edges: &[LeafEdge], front: &Front)
+        requires few { length edges.now < 2 ^ 32 }
         requires members { AreMembers edges.now (bundles_in front.now) }
-        requires there { self.old.at ≤ length (bundles_in front.now) }
+        requires stands { Stands edges.now (bundles_in front.now) self.old }
         ensures stands { StaysOn edges.now (bundles_in front.now) self.old self.new }
         ensures place { self.new.at ≡ length (bundles_in front.now) }
     {
@@ -64,8 +67,9 @@ impl Cursor {
     }
 
     fn go_left(&mut self, edges: &[LeafEdge], front: &Front, place: usize)
+        requires few { length edges.now < 2 ^ 32 }
         requires members { AreMembers edges.now (bundles_in front.now) }
-        requires there { self.old.at ≤ length (bundles_in front.now) }
+        requires stands { Stands edges.now (bundles_in front.now) self.old }
         ensures stands { StaysOn edges.now (bundles_in front.now) self.old self.new }
         ensures place { self.new.at ≡ nat_min place self.old.at }
     {
@@ -76,7 +80,9 @@ impl Cursor {
     }
 
     fn go_right(&mut self, edges: &[LeafEdge], front: &Front, place: usize)
+        requires few { length edges.now < 2 ^ 32 }
         requires members { AreMembers edges.now (bundles_in front.now) }
+        requires stands { Stands edges.now (bundles_in front.now) self.old }
         requires there { place ≤ length (bundles_in front.now) }
         ensures stands { StaysOn edges.now (bundles_in front.now) self.old self.new }
         ensures place { self.new.at ≡ nat_max place self.old.at }
@@ -91,7 +97,9 @@ impl Cursor {
     pub(crate) fn leave(&mut self, edges: &[LeafEdge], front: &Front, marks: &[Mark], at: &Level)
         requires within { All (λ e. IsEdgeWithin coordinate_limit e.edge) edges.now }
         requires at { IsLevelWithin coordinate_limit at.now }
+        requires few { length edges.now < 2 ^ 32 }
         requires members { AreMembers edges.now (bundles_in front.now) }
+        requires stands { Stands edges.now (bundles_in front.now) self.old }
         requires named { AllZip (λ m b. IsNamed m.name b) marks.now (bundles_in front.now) }
         ensures stands { StaysOn edges.now (bundles_in front.now) self.old self.new }
         ensures apart { IsApartAt edges.now at.now marks.now self.new.at }
@@ -105,7 +113,8 @@ impl Cursor {
         requires within { All (λ e. IsEdgeWithin coordinate_limit e.edge) edges.now }
         requires at { IsLevelWithin coordinate_limit at.now }
         requires there { AreThere edges.now marks.now }
-        ensures { result ≡ false → IsApartAt edges.now at.now marks.now self.now.at }
+        ensures within { result ≡ true → self.now.at < length marks.now }
+        ensures apart { result ≡ false → IsApartAt edges.now at.now marks.now self.now.at }
     {
         0 < self.at
             && self.at < marks.len()
@@ -114,6 +123,7 @@ impl Cursor {
 
     /// Its place among the strands above a height, where it stands between places of that height.
     pub(crate) fn shift(&mut self, changes: &[Change])
+        requires told { CanShift changes.now self.old.at }
         ensures tally { self.new.tally ≡ self.old.tally }
         ensures place { (gs : List Group) → Tell 0 changes.now gs → Fit gs self.old.at
             → IsShifted gs self.old.at self.new.at }

@@ -1,5 +1,5 @@
 //! The flat edges of a list, by height and then from left to right.
-ghost use Rattle.std.specs.Prelude.{◌≡◌, ◌<◌, ◌≤◌, ◌-◌, ◌^◌, ◌↔◌, List, length, take, drop, unsigned_abs, IsTrue, IfOk, All};
+ghost use Rattle.std.specs.Prelude.{◌≡◌, ◌<◌, ◌≤◌, ◌-◌, ◌^◌, ◌↔◌, List, length, take, drop, IsTrue, IfOk, All};
 ghost use Rattle.scad_geom.specs.declared.level.LeafEdge.{LeafEdge};
 ghost use Rattle.scad_geom.specs.Limits.{coordinate_limit};
 ghost use Rattle.scad_geom.specs.Within.{IsEdgeWithin};
@@ -7,22 +7,11 @@ ghost use Rattle.scad_geom.specs.Level.{IsLevelWithin};
 ghost use Rattle.slice_slab.specs.Bundles.{edge_at};
 ghost use Rattle.slice_outlines.specs.Flats.{AreFlats, IsFlatOf, numbers_of, flat_numbers, flat_cmp, LiesOn, IsOff, AreJoined, StartsBehind};
 
+use crate::flat::Flat;
 use scad_geom::wide::times;
 use scad_geom::{Edge, LeafEdge, Level};
 use std::alloc::{AllocError, Global};
 use std::cmp::Ordering;
-
-/// A flat edge: its height, its ends, and its number.
-#[derive(Clone, Copy, Debug)]
-pub(crate) struct Flat {
-    pub(crate) y: i32,
-    pub(crate) left: i32,
-    pub(crate) right: i32,
-    pub(crate) number: u32,
-    ghost height: { unsigned_abs y ≤ coordinate_limit },
-    ghost left_size: { unsigned_abs left ≤ coordinate_limit },
-    ghost right_size: { unsigned_abs right ≤ coordinate_limit },
-}
 
 /// All flat edges.
 pub(crate) fn flats(alloc: Global, edges: &[LeafEdge]) -> Result<Vec<Flat>, AllocError>

@@ -5,7 +5,8 @@ ghost use Rattle.slice_snap.specs.Spots.{point_of};
 ghost use Rattle.slice_snap.specs.declared.piece.Spot.{Spot};
 ghost use Rattle.slice_outlines.specs.Heights.{Onwards, IsOf, HasCome, HasComeTo, IsGroupAt, MeetAt, IsCountOf, IsNotLeft, IsNotIn};
 
-use crate::changing::{Height, Open, find_values};
+use crate::changing::find_values;
+use crate::height::{Height, Open};
 use crate::mark::{begin, value_at};
 use crate::passing::{Beside, pass_strands};
 use crate::run::{Run, after, is_left};

@@ -1,7 +1,7 @@
 //! What passes at one place of a height.
 ghost use Rattle.std.specs.Prelude.{◌≡◌, ◌++◌, IfOk, OnOk};
 ghost use Rattle.slice_outlines.specs.Passing.{courses, edges_to, start_of, ended_at};
-ghost use Rattle.slice_outlines.specs.Places.{ins_at, outs_at};
+ghost use Rattle.slice_outlines.specs.Places.{ins_at, outs_at, ins_in, outs_in};
 ghost use Rattle.slice_outlines.specs.Heights.{IsRunOf};
 
 use crate::course::{Course, close, going_on, with};
@@ -82,6 +82,10 @@ pub(crate) fn pass_strands(
     beside: &Beside,
 ) -> Result<Pt, AllocError>
     requires { IsRunOf below.now above.now run.now }
+    ensures from { IfOk result (λ p. p ≡ start_of beside.now.at (ins_in below.now run.now beside.now)
+        (outs_in above.now run.now beside.now)) }
+    ensures given { OnOk result (given.new.items ≡ given.old.items
+        ++ ended_at beside.now.at (ins_in below.now run.now beside.now) (outs_in above.now run.now beside.now)) }
 {
     let place = Place {
         below: Side {

@@ -42,6 +42,7 @@ pub(crate) fn course_of(side: &Side<'_>, i: usize) -> Option<Course>
 }
 
 fn value_right(side: &Side<'_>, i: usize) -> bool
+    requires { i < length side.now.marks.now }
     ensures { result ≡ left_of_first (drop (i + 1) side.now.marks.now) side.now.right }
 {
     if i + 1 < side.marks.len() {

@@ -7,7 +7,7 @@ ghost use Rattle.slice_events.specs.Distinct.{distinct_by, stays_by};
 ghost use Rattle.slice_bool.specs.Stops.{is_left};
 ghost use Rattle.slice_outlines.specs.Stops.{spots_in, mark_spots, flat_spots, AllPass, AreStopsOf};
 
-use crate::flats::Flat;
+use crate::flat::Flat;
 use crate::mark::Mark;
 use crate::spot::{Stop, compare, spot_on, whole_spot};
 use scad_geom::{LeafEdge, Level};

@@ -10,9 +10,10 @@ ghost use Rattle.slice_outlines.specs.Marks.{left_of_first, mark_at, spot_at};
 ghost use Rattle.slice_outlines.specs.Heights.{Onwards, IsOf, IsRunOf, AreInOrder, HasComeTo};
 ghost use Rattle.slice_outlines.specs.Along.{LieBetween, LiesLeftOf, LiesRightOf, AreFlatsOf, IsNextStop, HasComeAlong, BeginsBy, StartsAfter, goes_on, course_along, least, lesser, begun_at};
 
-use crate::changing::{Height, Open, find_values};
+use crate::changing::find_values;
 use crate::course::Course;
-use crate::flats::Flat;
+use crate::flat::Flat;
+use crate::height::{Height, Open};
 use crate::mark::{Mark, begin, value_at};
 use crate::passing::{Beside, pass_strands};
 use crate::run::Run;

@@ -13,9 +13,10 @@ ghost use Rattle.slice_outlines.specs.Sweep.{HasSwept, IsClear};
 ghost use Rattle.slice_outlines.specs.Heights.{Onwards, IsOf, HasComeTo};
 
 use crate::above::marks_above;
-use crate::changing::{Height, Open};
+use crate::height::{Height, Open};
 use crate::cursor::Cursor;
-use crate::flats::{Flat, flats, flats_to, joined_from};
+use crate::flat::Flat;
+use crate::flats::{flats, flats_to, joined_from};
 use crate::groups::{Passed, pass_groups, skip_groups};
 use crate::mark::Mark;
 use crate::run::{Run, first};

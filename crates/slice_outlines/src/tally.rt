@@ -1,10 +1,10 @@
 //! Winding numbers of leaves, by leaf, and a shape over them.
-ghost use Rattle.std.specs.Prelude.{◌≡◌, ◌<◌, ◌≤◌, ◌==◌, ◌^◌, ◌++◌, [], ◌+ℤ◌, pos, ℕ, List, length, slice_index_or, vec_len, unsigned_abs, if◌then◌else◌, IfOk, All};
+ghost use Rattle.std.specs.Prelude.{◌≡◌, ◌<◌, ◌≤◌, ◌==◌, ◌^◌, ◌++◌, [], ◌+ℤ◌, ◌-ℤ◌, pos, ℕ, List, length, slice_index_or, vec_len, unsigned_abs, if◌then◌else◌, IfOk, All};
 ghost use Rattle.scad_geom.specs.declared.level.LeafEdge.{LeafEdge};
 ghost use Rattle.scad_geom.specs.declared.shape.Shape.{Shape};
 ghost use Rattle.slice_held.specs.Held.{IsReady, leaf_count};
 ghost use Rattle.slice_bool.specs.Tally.{IsTally, is_held, heading_of, headings};
-ghost use Rattle.slice_bool.specs.Keeping.{KeepsUp};
+ghost use Rattle.slice_bool.specs.Keeping.{in_by, KeepsUp};
 ghost use Rattle.slice_outlines.specs.Tallies.{Tells, AreSmall};
 
 use scad_geom::whole::plus;
@@ -27,9 +27,17 @@ pub(crate) fn no_turns(
 ) -> Result<Tally, AllocError>
     ensures { IfOk result (Tells edges.now shape.now []) }
 {
-    let turns = vec![in alloc; 0; leaf_count(edges)]?;
+    let turns = zeros(alloc, edges)?;
     let held = Held::new(alloc, shape, turns.len())?;
     Ok(Tally { turns, held })
+}
+
+// 0 for each leaf of the list.
+fn zeros(alloc: Global, edges: &[LeafEdge]) -> Result<Vec<i64>, AllocError>
+    ensures leaves { IfOk result (λ v. All (λ e. e.leaf < vec_len v) edges.now) }
+    ensures zeros { IfOk result (λ v. IsTally v.items (λ leaf. pos 0)) }
+{
+    vec![in alloc; 0; leaf_count(edges)]
 }
 
 // A number above those of all leaves.
@@ -54,8 +62,7 @@ impl Tally {
             → Tells edges.now shape (numbers.now ++ ks) self.new }
     {
         'numbers: for k in numbers {
-            let e = &edges[*k as usize];
-            self.turn(e.leaf, heading(&e.edge));
+            add_edge(&mut self.turns, &mut self.held, &edges[*k as usize]);
         }
     }
 
@@ -67,28 +74,7 @@ impl Tally {
             → Tells edges.now shape ks self.new }
     {
         'numbers: for k in numbers {
-            let e = &edges[*k as usize];
-            self.turn(e.leaf, -heading(&e.edge));
-        }
-    }
-
-    // Adds to a leaf's number, and puts the leaf in or out where the number becomes or leaves 0.
-    fn turn(&mut self, leaf: u32, by: i64)
-        requires there { leaf < vec_len self.old.turns }
-        requires small { unsigned_abs (slice_index_or self.old.turns.items leaf (pos 0)) ≤ 2 ^ 62 }
-        requires by { unsigned_abs by ≤ 1 }
-        requires ready { IsReady self.old.held }
-        requires size { leaf_count self.old.held ≡ vec_len self.old.turns }
-        ensures turns { IsTally self.new.turns.items
-            (λ k. slice_index_or self.old.turns.items k (pos 0) +ℤ (if leaf == k then by else pos 0)) }
-        ensures len { vec_len self.new.turns ≡ vec_len self.old.turns }
-        ensures held { KeepsUp self.old.turns.items self.new.turns.items self.old.held self.new.held }
-    {
-        let before = self.turns[leaf as usize];
-        let after = plus(before, by);
-        self.turns[leaf as usize] = after;
-        if (before != 0) != (after != 0) {
-            self.held.set(leaf, after != 0);
+            take_edge(&mut self.turns, &mut self.held, &edges[*k as usize]);
         }
     }
 
@@ -100,6 +86,74 @@ impl Tally {
     {
         self.held.value()
     }
+}
+
+// Adds an edge's heading.
+fn add_edge(turns: &mut Vec<i64>, held: &mut Held, e: &LeafEdge)
+    requires there { e.now.leaf < vec_len turns.old }
+    requires small { unsigned_abs (slice_index_or turns.old.items e.now.leaf (pos 0)) ≤ 2 ^ 62 }
+    requires ready { IsReady held.old }
+    requires size { leaf_count held.old ≡ vec_len turns.old }
+    ensures turns { IsTally turns.new.items (λ k. slice_index_or turns.old.items k (pos 0)
+        +ℤ (if e.now.leaf == k then heading_of e.now.edge else pos 0)) }
+    ensures len { vec_len turns.new ≡ vec_len turns.old }
+    ensures held { KeepsUp turns.old.items turns.new.items held.old held.new }
+{
+    turn(turns, held, e.leaf, heading(&e.edge));
+}
+
+// Takes it away.
+fn take_edge(turns: &mut Vec<i64>, held: &mut Held, e: &LeafEdge)
+    requires there { e.now.leaf < vec_len turns.old }
+    requires small { unsigned_abs (slice_index_or turns.old.items e.now.leaf (pos 0)) ≤ 2 ^ 62 }
+    requires ready { IsReady held.old }
+    requires size { leaf_count held.old ≡ vec_len turns.old }
+    ensures turns { IsTally turns.new.items (λ k. slice_index_or turns.old.items k (pos 0)
+        -ℤ (if e.now.leaf == k then heading_of e.now.edge else pos 0)) }
+    ensures len { vec_len turns.new ≡ vec_len turns.old }
+    ensures held { KeepsUp turns.old.items turns.new.items held.old held.new }
+{
+    turn(turns, held, e.leaf, -heading(&e.edge));
+}
+
+// Adds to a leaf's number, and puts the leaf in or out where the number becomes or leaves 0.
+fn turn(turns: &mut Vec<i64>, held: &mut Held, leaf: u32, by: i64)
+    requires there { leaf < vec_len turns.old }
+    requires small { unsigned_abs (slice_index_or turns.old.items leaf (pos 0)) ≤ 2 ^ 62 }
+    requires by { unsigned_abs by ≤ 1 }
+    requires ready { IsReady held.old }
+    requires size { leaf_count held.old ≡ vec_len turns.old }
+    ensures turns { IsTally turns.new.items
+        (λ k. slice_index_or turns.old.items k (pos 0) +ℤ (if leaf == k then by else pos 0)) }
+    ensures len { vec_len turns.new ≡ vec_len turns.old }
+    ensures held { KeepsUp turns.old.items turns.new.items held.old held.new }
+{
+    let before = is_inside(turns, leaf);
+    add(turns, leaf, by);
+    let inside = is_inside(turns, leaf);
+    if inside != before {
+        held.set(leaf, inside);
+    }
+}
+
+// Adds to a leaf's number.
+fn add(turns: &mut Vec<i64>, leaf: u32, by: i64)
+    requires there { leaf < vec_len turns.old }
+    requires small { unsigned_abs (slice_index_or turns.old.items leaf (pos 0)) ≤ 2 ^ 62 }
+    requires by { unsigned_abs by ≤ 1 }
+    ensures turns { IsTally turns.new.items
+        (λ k. slice_index_or turns.old.items k (pos 0) +ℤ (if leaf == k then by else pos 0)) }
+    ensures len { vec_len turns.new ≡ vec_len turns.old }
+{
+    turns[leaf as usize] = plus(turns[leaf as usize], by);
+}
+
+// Whether a leaf is in by its number.
+fn is_inside(turns: &[i64], leaf: u32) -> bool
+    requires { leaf < length turns.now }
+    ensures { result ≡ in_by turns.now leaf }
+{
+    turns[leaf as usize] != 0
 }
 
 fn heading(e: &Edge) -> i64

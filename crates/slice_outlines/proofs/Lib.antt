@@ -1,0 +1,5 @@
+mod Begun
+mod Ending
+mod EndPoints
+mod Tallying
+mod Standing
