@@ -1,9 +1,10 @@
 -- Strands that begin at a point, one after another.
 use Rattle.std.proofs.Common.{◌≡◌, ℕ, ◌+◌, ◌-◌, ◌<◌, ◌≤◌, List, [], ◌∷◌, ◌++◌, length, get_or, set, take, drop, map, refl, sym, ap, ◌∙◌, arith, append_assoc, length-append}
-use Rattle.std.proofs.lemmas.List.{drop_more, take_more, get_or-drop, get_or_at, set_at, map_push, length-map, length-take, length-drop, take-append-drop}
+use Rattle.std.proofs.lemmas.List.{drop_more, get_or_at, set_at, map_push, length-map, length-take, length-drop, take-append-drop}
 use Rattle.scad_geom.specs.declared.point.Pt.{Pt}
 use Rattle.slice_outlines.specs.declared.mark.Mark.{Mark}
 use Rattle.slice_outlines.specs.Marks.{begun_in}
+use Rattle.slice_outlines.proofs.Parts.{part_more}
 
 pub begun_none : (from : ℕ) (at : Pt) (ms : List Mark) → begun_in from from at ms ≡ ms
 begun_none from at ms =
@@ -26,12 +27,7 @@ begun_more from i at ms now d h l e =
     ∙ sym (append_assoc (take from ms) (map b q) (y ∷ ys)) in
     let place : length p ≡ i = omega (arith, length-append (take from ms) (map b q), length-take from ms,
     length-map q b, length-take (i - from) (drop from ms), length-drop from ms) in
-    let step : i + 1 - from ≡ (i - from) + 1 = omega arith in
-    let there : i - from < length (drop from ms) = omega (arith, length-drop from ms) in
-    let back : from + (i - from) ≡ i = omega arith in
-    let longer : take (i + 1 - from) (drop from ms) ≡ q ++ (y ∷ []) =
-    ap (λ (n : ℕ). take n (drop from ms)) step ∙ take_more (drop from ms) (i - from) d there
-    ∙ ap (λ (x : Mark). q ++ (x ∷ [])) (get_or-drop from ms (i - from) d ∙ ap (λ (n : ℕ). get_or ms n d) back) in
+    let longer : take (i + 1 - from) (drop from ms) ≡ q ++ (y ∷ []) = part_more ms from i d h l in
     ap (λ (xs : List Mark). set xs i (record (get_or xs i d) { from = at })) (e ∙ split)
     ∙ ap (λ (m : Mark). set (p ++ (y ∷ ys)) i (b m)) (get_or_at p y ys d i place)
     ∙ set_at p y ys (b y) i place
@@ -39,12 +35,3 @@ begun_more from i at ms now d h l e =
     ∙ ap (λ (r : List Mark). take from ms ++ r)
     (sym (ap (λ (r : List Mark). map b r ++ ys) longer ∙ ap (λ (r : List Mark). r ++ ys) (map_push b q y)
     ∙ append_assoc (map b q) (b y ∷ []) ys))
-
-pub begun_size : (from to : ℕ) (at : Pt) (ms : List Mark) → from ≤ to → to ≤ length ms
-    → length (begun_in from to at ms) ≡ length ms
-begun_size from to at ms h k =
-    let b : Mark → Mark = λ m. record m { from = at } in
-    let q : List Mark = take (to - from) (drop from ms) in
-    omega (arith, length-append (take from ms) (map b q ++ drop to ms), length-append (map b q) (drop to ms),
-    length-take from ms, length-map q b, length-take (to - from) (drop from ms), length-drop from ms,
-    length-drop to ms)

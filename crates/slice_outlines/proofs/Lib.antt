@@ -1,5 +1,9 @@
+mod Parts
 mod Begun
 mod Ending
 mod EndPoints
 mod Tallying
 mod Standing
+mod Joining
+mod Stopping
+mod Shifting

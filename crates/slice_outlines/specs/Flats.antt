@@ -4,7 +4,7 @@ use Rattle.std.specs.Int.{int_max}
 use Rattle.std.specs.Ordering.{int_eq, int_cmp, ordering_then}
 use Rattle.std.specs.declared.cmp.Ordering.{Ordering}
 use Rattle.std.specs.List.{AllByRecursion}
-use Rattle.std.specs.List.Sorted.{IsPermutation}
+use Rattle.std.specs.List.Sorted.{IsPermutation, IsSorted}
 use Rattle.scad_geom.specs.declared.point.Edge.{Edge}
 use Rattle.scad_geom.specs.declared.level.Level.{Level}
 use Rattle.scad_geom.specs.declared.level.LeafEdge.{LeafEdge}
@@ -32,14 +32,15 @@ numbers_of fs = map (λ f. f.number) fs
 abbrev pub LiesOn : Level → Flat → Type 0
 LiesOn l f = f.y *ℤ l.d ≡ l.n
 
--- all flat edges of a list
-pub record AreFlats (es : List LeafEdge) (fs : List Flat) : Type 0 where
-  pub all : IsPermutation (flat_numbers 0 es) (numbers_of fs)
-  pub each : AllByRecursion (IsFlatOf es) fs
-
 -- by height, then from left to right
 abbrev pub flat_cmp : Flat → Flat → Ordering
 flat_cmp e f = ordering_then (int_cmp e.y f.y) (int_cmp e.left f.left)
+
+-- all flat edges of a list, in order
+pub record AreFlats (es : List LeafEdge) (fs : List Flat) : Type 0 where
+  pub all : IsPermutation (flat_numbers 0 es) (numbers_of fs)
+  pub each : AllByRecursion (IsFlatOf es) fs
+  pub sorted : IsSorted flat_cmp fs
 
 -- the first of these doesn't lie on a height
 abbrev pub IsOff : Level → List Flat → Type 0

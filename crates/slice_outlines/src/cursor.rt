@@ -1,5 +1,5 @@
 //! The shape's value between strands.
-ghost use Rattle.std.specs.Prelude.{◌≡◌, ◌<◌, ◌≤◌, ◌^◌, ◌↔◌, [], List, length, drop, true, false, nat_min, nat_max, IsTrue, IfOk, All, AllZip};
+ghost use Rattle.std.specs.Prelude.{◌≡◌, ◌<◌, ◌≤◌, ◌+◌, ◌-◌, ◌^◌, ◌↔◌, [], List, length, drop, true, false, nat_min, nat_max, IsTrue, IfOk, All, AllZip};
 ghost use Rattle.scad_geom.specs.declared.shape.Shape.{Shape};
 ghost use Rattle.scad_geom.specs.Limits.{coordinate_limit};
 ghost use Rattle.scad_geom.specs.Within.{IsEdgeWithin};
@@ -13,7 +13,7 @@ ghost use Rattle.slice_outlines.specs.Marks.{AreThere, IsNamed};
 ghost use Rattle.slice_outlines.specs.Cursor.{StandsOn, Stands, StaysOn, IsApartAt, CanShift, IsShifted, Fit};
 
 use crate::mark::Mark;
-use crate::run::{after, first};
+use crate::run::{Run, after, first};
 use crate::tally::{Tally, no_turns};
 use scad_geom::{LeafEdge, Level, Shape, cmp_x_at};
 use slice_sweep::{Change, Front};
@@ -128,16 +128,28 @@ impl Cursor {
         ensures place { (gs : List Group) → Tell 0 changes.now gs → Fit gs self.old.at
             → IsShifted gs self.old.at self.new.at }
     {
-        let mut done = first();
-        'changes: for change in changes {
-            let run = after(&done, change);
-            if run.below_to > self.at {
-                break;
-            }
-            done = run;
-        }
+        let done = run_before(changes, self.at);
         self.at = done.above_to + (self.at - done.below_to);
     }
+}
+
+// The strands of the last change to the left of a place below the height.
+fn run_before(changes: &[Change], at: usize) -> Run
+    requires told { CanShift changes.now at }
+    ensures below { result.below_to ≤ at }
+    ensures fits { result.above_to + at < 2 ^ 64 }
+    ensures place { (gs : List Group) → Tell 0 changes.now gs → Fit gs at
+        → IsShifted gs at (result.above_to + (at - result.below_to)) }
+{
+    let mut done = first();
+    'changes: for change in changes {
+        let run = after(&done, change);
+        if run.below_to > at {
+            return done;
+        }
+        done = run;
+    }
+    done
 }
 
 fn are_together(edges: &[LeafEdge], s: &Mark, t: &Mark, at: &Level) -> bool

@@ -44,11 +44,20 @@ fn flat_of(e: &Edge, number: u32) -> Flat
     requires flat { e.now.a.y ≡ e.now.b.y }
     ensures { (edges : List LeafEdge) → number < length edges → edge_at edges number ≡ e.now → IsFlatOf edges result }
 {
-    Flat {
-        y: e.a.y,
-        left: e.a.x.min(e.b.x),
-        right: e.a.x.max(e.b.x),
-        number,
+    if e.b.x < e.a.x {
+        Flat {
+            y: e.a.y,
+            left: e.b.x,
+            right: e.a.x,
+            number,
+        }
+    } else {
+        Flat {
+            y: e.a.y,
+            left: e.a.x,
+            right: e.b.x,
+            number,
+        }
     }
 }
 

@@ -1,10 +1,11 @@
 //! The distinct places of a stretch of a height, from left to right.
 ghost use Rattle.std.specs.Prelude.{◌≡◌, ◌<◌, ◌++◌, length, IfOk, OnOk, All};
+ghost use Rattle.std.specs.List.Sorted.{IsPermutation};
 ghost use Rattle.scad_geom.specs.Limits.{coordinate_limit};
 ghost use Rattle.scad_geom.specs.Within.{IsEdgeWithin};
 ghost use Rattle.scad_geom.specs.Level.{IsLevelWithin};
 ghost use Rattle.slice_events.specs.Distinct.{distinct_by, stays_by};
-ghost use Rattle.slice_bool.specs.Stops.{is_left};
+ghost use Rattle.slice_bool.specs.Stops.{is_left, AreSorted};
 ghost use Rattle.slice_outlines.specs.Stops.{spots_in, mark_spots, flat_spots, AllPass, AreStopsOf};
 
 use crate::flat::Flat;
@@ -33,7 +34,7 @@ pub(crate) fn stops(
     push_strands(&mut all, edges, at, below)?;
     push_strands(&mut all, edges, at, above)?;
     push_flats(&mut all, at, flats)?;
-    all.sort_by(compare)?;
+    sort(&mut all)?;
     distinct(alloc, &all)
 }
 
@@ -64,6 +65,13 @@ fn push_flats(out: &mut Vec<Stop>, at: &Level, flats: &[Flat]) -> Result<(), All
         out.push(whole_spot(e.right, at))?;
     }
     Ok(())
+}
+
+fn sort(stops: &mut Vec<Stop>) -> Result<(), AllocError>
+    ensures permutation { IsPermutation stops.old.items stops.new.items }
+    ensures sorted { OnOk result (AreSorted (spots_in stops.new.items)) }
+{
+    stops.sort_by(compare)
 }
 
 fn distinct(alloc: Global, stops: &[Stop]) -> Result<Vec<Stop>, AllocError>

@@ -1,0 +1,61 @@
+-- Flat edges in order, and those that are joined.
+use Rattle.std.proofs.Common.{◌≡◌, ℕ, ◌+◌, ◌<◌, ◌≤◌, ⊥, true, Bool, List, [], ◌∷◌, ◌++◌, length, get_or, drop, refl, sym, ap, ◌∙◌, arith, subst}
+use lib.IntN.{ℤ}
+use lib.Signed.{◌<ℤ◌, ◌≤ℤ◌}
+use Rattle.std.specs.Prelude.{if◌then◌else◌}
+use Rattle.std.specs.Int.{int_max}
+use Rattle.std.specs.Ordering.{int_cmp, int_eq, is_lt}
+use Rattle.std.specs.Cmp.{IsTotalOrder, IsStrictWeakOrder}
+use Rattle.std.proofs.lemmas.Cmp.{int_cmp_total, then_total, on_total}
+use Rattle.std.proofs.lemmas.List.{at_drop_more, drop_more, drop_all}
+use Rattle.std.proofs.lemmas.List.Sorted.{ranks_by}
+use Rattle.scad_geom.specs.declared.level.Level.{Level}
+use Rattle.scad_geom.specs.declared.level.LeafEdge.{LeafEdge}
+use Rattle.slice_slab.specs.Bundles.{no_edge}
+use Rattle.slice_outlines.specs.declared.flat.Flat.{Flat}
+use Rattle.slice_outlines.specs.Flats.{flat_numbers, flat_cmp, LiesOn, IsOff, JoinOn, AreJoined, StartsBehind}
+
+-- ---- the order
+flat_total : IsTotalOrder flat_cmp
+flat_total = then_total (on_total (λ (f : Flat). f.y) int_cmp_total) (on_total (λ (f : Flat). f.left) int_cmp_total)
+
+abbrev pub comes_before : Flat → Flat → Bool
+comes_before e f = is_lt (flat_cmp e f)
+
+pub flat_order : IsStrictWeakOrder comes_before
+flat_order = ranks_by flat_total (λ (f : Flat). f)
+
+-- ---- numbers of flat edges
+pub flat_here : (es : List LeafEdge) (i : ℕ) → i < length es
+    → int_eq (get_or es i no_edge).edge.a.y (get_or es i no_edge).edge.b.y ≡ true
+    → flat_numbers i (drop i es) ≡ i ∷ flat_numbers (i + 1) (drop (i + 1) es)
+flat_here es i l h = at_drop_more (flat_numbers i) es i no_edge l
+    ∙ ap (λ (t : Bool). if t then i ∷ flat_numbers (i + 1) (drop (i + 1) es) else flat_numbers (i + 1) (drop (i + 1) es))
+    h
+
+-- ---- the first of the rest
+pub off_none : (l : Level) (fs : List Flat) (n : ℕ) → length fs ≤ n → IsOff l (drop n fs)
+off_none l fs n h = subst (IsOff l) (sym (drop_all n fs h)) tt
+
+pub off_at : (l : Level) (fs : List Flat) (n : ℕ) (d : Flat) → n < length fs → (LiesOn l (get_or fs n d) → ⊥)
+    → IsOff l (drop n fs)
+off_at l fs n d h off = subst (IsOff l) (sym (drop_more fs n d h)) off
+
+pub behind_none : (right : ℤ) (fs : List Flat) (n : ℕ) → length fs ≤ n → StartsBehind right (drop n fs)
+behind_none right fs n h = subst (StartsBehind right) (sym (drop_all n fs h)) tt
+
+pub behind_at : (right : ℤ) (fs : List Flat) (n : ℕ) (d : Flat) → n < length fs → right <ℤ (get_or fs n d).left
+    → StartsBehind right (drop n fs)
+behind_at right fs n d h b = subst (StartsBehind right) (sym (drop_more fs n d h)) b
+
+-- ---- one more that is joined
+join_on : (most : ℤ) (fs : List Flat) (right : ℤ) (f : Flat) → JoinOn most fs right → f.left ≤ℤ right
+    → JoinOn most (fs ++ (f ∷ [])) (int_max right f.right)
+join_on most [] right f h k =
+    (subst (λ (z : ℤ). f.left ≤ℤ z) (sym h) k, ap (λ (z : ℤ). int_max z f.right) h)
+join_on most (g ∷ fs) right f h k = (h.0, join_on (int_max most g.right) fs right f h.1 k)
+
+pub joined_more : (fs : List Flat) (right : ℤ) (f : Flat) → AreJoined fs right → f.left ≤ℤ right
+    → AreJoined (fs ++ (f ∷ [])) (int_max right f.right)
+joined_more [] right f h k = absurd h
+joined_more (g ∷ fs) right f h k = join_on g.right fs right f h k
