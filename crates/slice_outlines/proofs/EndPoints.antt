@@ -1,16 +1,19 @@
 -- Where an edge passes a height is within the limit, and at an end of the edge it rounds to that end.
-use Rattle.std.proofs.Common.{◌≡◌, ℕ, ◌+◌, ◌*◌, ◌<◌, ◌≤◌, true, [], ◌∷◌, refl, sym, ap, ap₂, ◌∙◌, arith, subst}
+use Rattle.std.proofs.Common.{◌≡◌, ℕ, ◌+◌, ◌*◌, ◌<◌, ◌≤◌, ⊥, Bool, true, List, [], ◌∷◌, length, inl, inr, refl, sym, ap, ap₂, ◌∙◌, arith, subst}
 use lib.IntN.{ℤ, pos, ◌+ℤ◌, ◌-ℤ◌, ◌*ℤ◌}
 use lib.Signed.{◌<ℤ◌, ◌≤ℤ◌}
 use Rattle.std.specs.Prelude.{unsigned_abs}
 use Rattle.std.specs.Ordering.{int_eq}
+use Rattle.std.specs.Cmp.{signed_Decides}
 use Rattle.std.proofs.lemmas.Int.{ints, unsigned_abs-mul}
 use Rattle.std.proofs.lemmas.Nat.{mul-le}
-use Rattle.std.proofs.lemmas.Bool.{and_from}
+use Rattle.std.proofs.lemmas.Bool.{and_from, cases_lt}
+use Rattle.std.proofs.lemmas.List.{get_or_past}
 use Rattle.scad_base.proofs.Integers.{gap_of_at_most}
 use Rattle.scad_geom.specs.declared.point.Pt.{Pt}
 use Rattle.scad_geom.specs.declared.point.Edge.{Edge}
 use Rattle.scad_geom.specs.declared.level.Level.{Level}
+use Rattle.scad_geom.specs.declared.level.LeafEdge.{LeafEdge}
 use Rattle.scad_geom.specs.Point.{Point, whole, is_same_point}
 use Rattle.scad_geom.specs.Within.{IsEdgeWithin}
 use Rattle.scad_geom.specs.Level.{IsLevelWithin}
@@ -23,7 +26,7 @@ use Rattle.scad_geom.proofs.Ring.{ring, num, ◌⊕◌, ◌⊖◌, ◌⊗◌, v0
 use Rattle.scad_base.proofs.Products.{positive_product}
 use Rattle.winding_laws.specs.Edges.{rounded}
 use Rattle.winding_laws.proofs.Rounding.{rounded_same}
-use Rattle.slice_slab.specs.Bundles.{reaches}
+use Rattle.slice_slab.specs.Bundles.{no_edge, edge_at, reaches}
 use Rattle.slice_slab.proofs.Live.{reaches_is}
 use Rattle.slice_snap.specs.Spots.{point_of, IsSpotWithin}
 use Rattle.slice_snap.proofs.SameSpots.{to_eq}
@@ -78,6 +81,17 @@ pub passes_then_rises : (e : Edge) (l : Level) → passes_at e l ≡ true → po
 unfolding reaches
 passes_then_rises e l h = (reaches_is e l l h).rises
 
+no_rise : pos 0 <ℤ rise (record { a = record { x = pos 0; y = pos 0 }; b = record { x = pos 0; y = pos 0 } }) → ⊥
+unfolding rise low high
+no_rise h = omega (arith, ints)
+
+pub passes_there : (es : List LeafEdge) (k : ℕ) (l : Level) → passes_at (edge_at es k) l ≡ true → k < length es
+passes_there es k l h = elim (cases_lt k (length es)) [
+  | inl a ↦ a
+  | inr b ↦ absurd (no_rise (subst (λ (e : LeafEdge). pos 0 <ℤ rise e.edge) (get_or_past es k no_edge b)
+      (passes_then_rises (edge_at es k) l h)))
+]
+
 pub passing_within : (limit : ℕ) (e : Edge) (l : Level) → IsEdgeWithin limit e → IsLevelWithin limit l
     → passes_at e l ≡ true → IsSpotWithin limit (spot_on e l)
 unfolding reaches
@@ -93,6 +107,10 @@ passing_within limit e l w v h =
     }
 
 -- ---- at an end
+pub lies_at : (p q : Pt) (l : Level) (t : Bool) → p ≡ q → t ≡ int_eq (p.y *ℤ l.d) l.n → t ≡ true
+    → q.y *ℤ l.d ≡ l.n
+lies_at p q l t e f g = ap (λ (p : Pt). p.y *ℤ l.d) (sym e) ∙ (signed_Decides (p.y *ℤ l.d) l.n).0 (sym f ∙ g)
+
 whole_half : (n : ℤ) → half_down n (pos 1) ≡ n
 whole_half n =
     let h : IsNearest n (pos 1) (half_down n (pos 1)) = IsNearest-half_down n 1 (omega arith) in

@@ -1,5 +1,5 @@
 -- Flat edges in order, and those that are joined.
-use Rattle.std.proofs.Common.{◌≡◌, ℕ, ◌+◌, ◌<◌, ◌≤◌, ⊥, true, Bool, List, [], ◌∷◌, ◌++◌, length, get_or, drop, refl, sym, ap, ◌∙◌, arith, subst}
+use Rattle.std.proofs.Common.{◌≡◌, ℕ, ◌+◌, ◌<◌, ◌≤◌, ⊥, true, false, Bool, List, [], ◌∷◌, ◌++◌, length, get_or, drop, refl, sym, ap, ◌∙◌, arith, subst}
 use lib.IntN.{ℤ}
 use lib.Signed.{◌<ℤ◌, ◌≤ℤ◌}
 use Rattle.std.specs.Prelude.{if◌then◌else◌}
@@ -26,12 +26,17 @@ pub flat_order : IsStrictWeakOrder comes_before
 flat_order = ranks_by flat_total (λ (f : Flat). f)
 
 -- ---- numbers of flat edges
-pub flat_here : (es : List LeafEdge) (i : ℕ) → i < length es
-    → int_eq (get_or es i no_edge).edge.a.y (get_or es i no_edge).edge.b.y ≡ true
-    → flat_numbers i (drop i es) ≡ i ∷ flat_numbers (i + 1) (drop (i + 1) es)
-flat_here es i l h = at_drop_more (flat_numbers i) es i no_edge l
-    ∙ ap (λ (t : Bool). if t then i ∷ flat_numbers (i + 1) (drop (i + 1) es) else flat_numbers (i + 1) (drop (i + 1) es))
-    h
+by_test : (t : Bool) (k : ℕ) (rest : List ℕ) → (if t then k ∷ [] else []) ++ rest ≡ (if t then k ∷ rest else rest)
+by_test true k rest = refl
+by_test false k rest = refl
+
+pub numbers_step : (es : List LeafEdge) (i : ℕ) → i < length es
+    → (if int_eq (get_or es i no_edge).edge.a.y (get_or es i no_edge).edge.b.y then i ∷ [] else [])
+    ++ flat_numbers (i + 1) (drop (i + 1) es) ≡ flat_numbers i (drop i es)
+numbers_step es i l =
+    by_test (int_eq (get_or es i no_edge).edge.a.y (get_or es i no_edge).edge.b.y) i
+    (flat_numbers (i + 1) (drop (i + 1) es))
+    ∙ sym (at_drop_more (flat_numbers i) es i no_edge l)
 
 -- ---- the first of the rest
 pub off_none : (l : Level) (fs : List Flat) (n : ℕ) → length fs ≤ n → IsOff l (drop n fs)

@@ -7,3 +7,4 @@ mod Standing
 mod Joining
 mod Stopping
 mod Shifting
+mod Sought

@@ -25,7 +25,10 @@ pub part_one : {X : Type 0} (xs : List X) (from : ℕ) (d : X) → from < length
 part_one {X} xs from d l =
     part_more xs from from d (omega arith) l ∙ ap (λ (ys : List X). ys ++ (get_or xs from d ∷ [])) (part_none xs from)
 
-pub part_all : {X : Type 0} (P : X → Type 0) (xs : List X) (from i : ℕ) (d : X) → from ≤ i → i < length xs
-    → All P (take (i - from) (drop from xs)) → P (get_or xs i d) → All P (take (i + 1 - from) (drop from xs))
-part_all P xs from i d h l a p =
-    subst (All P) (sym (part_more xs from i d h l)) (All-push P (take (i - from) (drop from xs)) (get_or xs i d) a p)
+pub all_part_more : {X : Type 0} (P : X → Type 0) (xs : List X) (from i : ℕ) → from ≤ i → i < length xs
+    → All P (take (i - from) (drop from xs)) → ((d : X) → P (get_or xs i d))
+    → All P (take (i + 1 - from) (drop from xs))
+all_part_more P [] from i h l a p = absurd (omega arith)
+all_part_more P (x ∷ xs) from i h l a p =
+    subst (All P) (sym (part_more (x ∷ xs) from i x h l))
+    (All-push P (take (i - from) (drop from (x ∷ xs))) (get_or (x ∷ xs) i x) a (p x))

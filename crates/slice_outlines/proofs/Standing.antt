@@ -81,3 +81,10 @@ names_in es (m ∷ ms) ((k ∷ ks) ∷ bs) z h =
 pub names_there : (es : List LeafEdge) (ms : List Mark) (bs : List (List ℕ)) → AllZip (λ m b. IsNamed m.name b) ms bs
     → AreMembers es bs → AreThere es ms
 names_there es ms bs z m = All-from_recursion (λ m. m.name < length es) ms (names_in es ms bs z m.there)
+
+pub named_size : (ms : List Mark) (bs : List (List ℕ)) → AllZip (λ m b. IsNamed m.name b) ms bs
+    → length ms ≡ length bs
+named_size [] [] z = refl
+named_size [] (b ∷ bs) z = absurd z
+named_size (m ∷ ms) [] z = absurd z
+named_size (m ∷ ms) (b ∷ bs) z = ap suc (named_size ms bs z.1)

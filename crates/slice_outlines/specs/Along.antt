@@ -1,11 +1,12 @@
 -- How far the code has come along a stretch of flat edges.
-use Rattle.std.specs.Prelude.{Bool, true, false, not, ◌≡◌, ⊤, ℕ, ℤ, int_le, nat_min, Option, None, Some, List, [], ◌∷◌, ◌++◌, take, drop, ◌*ℤ◌, pos}
+use Rattle.std.specs.Prelude.{Bool, true, false, ◌≡◌, ⊤, ℕ, ℤ, nat_lt, if◌then◌else◌, Option, None, Some, List, [], ◌∷◌, ◌++◌, take, drop}
 use Rattle.std.specs.List.{AllByRecursion}
 use Rattle.std.specs.List.Sorted.{IsPermutation}
 use Rattle.scad_geom.specs.declared.point.Pt.{Pt}
 use Rattle.slice_snap.specs.Rounding.{rounded_edges}
 use Rattle.slice_sweep.specs.Front.{bundles_in}
 use Rattle.slice_bool.specs.Pieces.{whole_spot, IsLeft}
+use Rattle.slice_bool.specs.Stops.{is_left}
 use Rattle.sweep_laws.specs.Ways.{Way, pieces_of}
 use Rattle.sweep_laws.specs.Fronts.{bundles_of}
 use Rattle.sweep_laws.specs.Crossing.{Place, all_below, all_above, all_closed, ArePassed}
@@ -52,12 +53,12 @@ StartsAfter s (f ∷ fs) = IsLeft s.spot (whole_spot f.left s.spot.at)
 
 -- it goes on to the right of a stop
 abbrev pub goes_on : Stop → Flat → Bool
-goes_on s f = not (int_le (f.right *ℤ s.spot.at.d *ℤ pos s.spot.run) s.spot.x)
+goes_on s f = is_left s.spot (whole_spot f.right s.spot.at)
 
 -- ---- the piece along the height
 abbrev pub lesser : Option ℕ → ℕ → Option ℕ
 lesser None k = Some k
-lesser (Some j) k = Some (nat_min k j)
+lesser (Some j) k = Some (if nat_lt k j then k else j)
 
 abbrev pub least_from : Option ℕ → List Flat → Option ℕ
 least_from least [] = least

@@ -1,5 +1,5 @@
 //! The shape's value between strands.
-ghost use Rattle.std.specs.Prelude.{◌≡◌, ◌<◌, ◌≤◌, ◌+◌, ◌-◌, ◌^◌, ◌↔◌, [], List, length, drop, true, false, nat_min, nat_max, IsTrue, IfOk, All, AllZip};
+ghost use Rattle.std.specs.Prelude.{◌≡◌, ◌<◌, ◌≤◌, ◌+◌, ◌-◌, ◌^◌, ◌↔◌, [], List, length, drop, true, false, IsTrue, IfOk, All, AllZip};
 ghost use Rattle.scad_geom.specs.declared.shape.Shape.{Shape};
 ghost use Rattle.scad_geom.specs.Limits.{coordinate_limit};
 ghost use Rattle.scad_geom.specs.Within.{IsEdgeWithin};
@@ -71,7 +71,8 @@ impl Cursor {
         requires members { AreMembers edges.now (bundles_in front.now) }
         requires stands { Stands edges.now (bundles_in front.now) self.old }
         ensures stands { StaysOn edges.now (bundles_in front.now) self.old self.new }
-        ensures place { self.new.at ≡ nat_min place self.old.at }
+        ensures stays { self.old.at ≤ place → self.new.at ≡ self.old.at }
+        ensures goes { place ≤ self.old.at → self.new.at ≡ place }
     {
         'strands: while self.at > place {
             self.at -= 1;
@@ -85,7 +86,8 @@ impl Cursor {
         requires stands { Stands edges.now (bundles_in front.now) self.old }
         requires there { place ≤ length (bundles_in front.now) }
         ensures stands { StaysOn edges.now (bundles_in front.now) self.old self.new }
-        ensures place { self.new.at ≡ nat_max place self.old.at }
+        ensures stays { place ≤ self.old.at → self.new.at ≡ self.old.at }
+        ensures goes { self.old.at ≤ place → self.new.at ≡ place }
     {
         'strands: while self.at < place {
             self.tally.take(edges, front.bundle(self.at));

@@ -1,5 +1,8 @@
 //! The flat edges of a list, by height and then from left to right.
-ghost use Rattle.std.specs.Prelude.{◌≡◌, ◌<◌, ◌≤◌, ◌-◌, ◌^◌, ◌↔◌, List, length, take, drop, IsTrue, IfOk, All};
+ghost use Rattle.std.specs.Prelude.{◌≡◌, ◌<◌, ◌≤◌, ◌-◌, ◌^◌, ◌++◌, ◌∷◌, [], ◌*ℤ◌, ◌≤ℤ◌, true, false, List, length, take, drop, slice_index_or, if◌then◌else◌, IfOk, OnOk, All};
+ghost use Rattle.std.specs.List.Sorted.{IsPermutation, IsSorted};
+ghost use Rattle.std.specs.Ordering.{int_eq};
+ghost use Rattle.slice_outlines.specs.declared.flat.Flat.{Flat};
 ghost use Rattle.scad_geom.specs.declared.level.LeafEdge.{LeafEdge};
 ghost use Rattle.scad_geom.specs.Limits.{coordinate_limit};
 ghost use Rattle.scad_geom.specs.Within.{IsEdgeWithin};
@@ -20,8 +23,15 @@ pub(crate) fn flats(alloc: Global, edges: &[LeafEdge]) -> Result<Vec<Flat>, Allo
     ensures { IfOk result (λ v. AreFlats edges.now v.items) }
 {
     let mut out = unsorted(alloc, edges)?;
-    out.sort_by(compare)?;
+    sort(&mut out)?;
     Ok(out)
+}
+
+fn sort(flats: &mut Vec<Flat>) -> Result<(), AllocError>
+    ensures permutation { IsPermutation flats.old.items flats.new.items }
+    ensures sorted { OnOk result (IsSorted flat_cmp flats.new.items) }
+{
+    flats.sort_by(compare)
 }
 
 fn unsorted(alloc: Global, edges: &[LeafEdge]) -> Result<Vec<Flat>, AllocError>
@@ -32,11 +42,22 @@ fn unsorted(alloc: Global, edges: &[LeafEdge]) -> Result<Vec<Flat>, AllocError>
 {
     let mut out = Vec::new(alloc);
     'edges: for i in 0..edges.len() {
-        if edges[i].edge.a.y == edges[i].edge.b.y {
-            out.push(flat_of(&edges[i].edge, i as u32))?;
-        }
+        push_flat(&mut out, &edges[i].edge, i as u32)?;
     }
     Ok(out)
+}
+
+fn push_flat(out: &mut Vec<Flat>, e: &Edge, number: u32) -> Result<(), AllocError>
+    requires within { IsEdgeWithin coordinate_limit e.now }
+    ensures numbers { OnOk result (numbers_of out.new.items ≡ numbers_of out.old.items
+        ++ (if int_eq e.now.a.y e.now.b.y then number ∷ [] else [])) }
+    ensures each { (edges : List LeafEdge) → number < length edges → edge_at edges number ≡ e.now
+        → All (IsFlatOf edges) out.old.items → OnOk result (All (IsFlatOf edges) out.new.items) }
+{
+    if e.a.y == e.b.y {
+        out.push(flat_of(e, number))?;
+    }
+    Ok(())
 }
 
 fn flat_of(e: &Edge, number: u32) -> Flat
@@ -77,15 +98,25 @@ pub(crate) fn flats_to(flats: &[Flat], from: usize, at: &Level) -> usize
     ensures off { IsOff at.now (drop result flats.now) }
 {
     let mut to = from;
-    'flats: while to < flats.len() && lies_on(&flats[to], at) {
+    'flats: while is_on(flats, to, at) {
         to += 1;
     }
     to
 }
 
+// Whether there is one at a place, and it lies on a height.
+fn is_on(flats: &[Flat], i: usize, at: &Level) -> bool
+    requires { IsLevelWithin coordinate_limit at.now }
+    ensures there { result ≡ true → i < length flats.now }
+    ensures on { result ≡ true → (f : Flat) → LiesOn at.now (slice_index_or flats.now i f) }
+    ensures off { result ≡ false → IsOff at.now (drop i flats.now) }
+{
+    i < flats.len() && lies_on(&flats[i], at)
+}
+
 fn lies_on(e: &Flat, at: &Level) -> bool
     requires { IsLevelWithin coordinate_limit at.now }
-    ensures { IsTrue result ↔ LiesOn at.now e.now }
+    ensures { result ≡ int_eq (e.now.y *ℤ at.now.d) at.now.n }
 {
     times::<21, 44>(e.y as i128, at.d) == at.n
 }
@@ -109,11 +140,20 @@ pub(crate) fn joined_from(flats: &[Flat], from: usize) -> Joined
         to: from + 1,
         right: flats[from].right,
     };
-    'flats: while joined.to < flats.len() && flats[joined.to].left <= joined.right {
+    'flats: while is_joined(flats, joined.to, joined.right) {
         joined = Joined {
             to: joined.to + 1,
             right: joined.right.max(flats[joined.to].right),
         };
     }
     joined
+}
+
+// Whether there is one at a place, and it starts no farther to the right than an end.
+fn is_joined(flats: &[Flat], i: usize, right: i32) -> bool
+    ensures there { result ≡ true → i < length flats.now }
+    ensures by { result ≡ true → (f : Flat) → (slice_index_or flats.now i f).left ≤ℤ right }
+    ensures behind { result ≡ false → StartsBehind right (drop i flats.now) }
+{
+    i < flats.len() && flats[i].left <= right
 }

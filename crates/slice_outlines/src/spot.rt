@@ -1,5 +1,5 @@
 //! Where edges meet a height.
-ghost use Rattle.std.specs.Prelude.{◌≡◌, ◌<◌, ◌≤◌, ◌^◌, pos, ◌*ℤ◌, ◌<ℤ◌, true, unsigned_abs};
+ghost use Rattle.std.specs.Prelude.{◌≡◌, ◌<◌, ◌≤◌, ◌*◌, ◌^◌, pos, ◌*ℤ◌, ◌<ℤ◌, true, unsigned_abs};
 ghost use Rattle.std.specs.Ordering.{int_cmp, int_eq};
 ghost use Rattle.scad_geom.specs.Limits.{coordinate_limit};
 ghost use Rattle.scad_geom.specs.Line.{rise};
@@ -75,8 +75,16 @@ pub(crate) fn rounded(s: &Stop) -> Pt
     let d = times::<44, 22>(s.spot.at.d, s.spot.run as i128);
     Pt {
         x: round_half_down(s.spot.x, d),
-        y: round_half_down(times::<64, 22>(s.spot.at.n, s.spot.run as i128), d),
+        y: round_half_down(height(s), d),
     }
+}
+
+fn height(s: &Stop) -> i128
+    requires { IsSpotWithin coordinate_limit s.now.spot }
+    ensures value { result ≡ s.now.spot.at.n *ℤ pos s.now.spot.run }
+    ensures size { unsigned_abs result ≤ coordinate_limit * unsigned_abs (s.now.spot.at.d *ℤ pos s.now.spot.run) }
+{
+    times::<64, 22>(s.spot.at.n, s.spot.run as i128)
 }
 
 /// Where an edge that isn't flat passes a height, rounded: at an end the end itself.

@@ -1,12 +1,12 @@
 //! A stretch of flat edges, from place to place.
-ghost use Rattle.std.specs.Prelude.{◌≡◌, ◌<◌, ◌≤◌, ◌+◌, ◌-◌, ◌++◌, pos, ◌<ℤ◌, false, if◌then◌else◌, nat_lt, filter, take, drop, length, unsigned_abs, IfOk, OnOk, All};
-ghost use Rattle.std.specs.List.Sorted.{IsPermutation, IsPartitionPoint};
+ghost use Rattle.std.specs.Prelude.{◌≡◌, ◌<◌, ◌≤◌, ◌-◌, ◌++◌, ◌≤ℤ◌, true, false, if◌then◌else◌, nat_lt, filter, take, drop, length, unsigned_abs, IfOk, OnOk, All};
+ghost use Rattle.std.specs.List.Sorted.{IsPartitionPoint};
 ghost use Rattle.scad_geom.specs.Limits.{coordinate_limit};
-ghost use Rattle.scad_geom.specs.Line.{rise};
-ghost use Rattle.scad_geom.specs.Within.{IsEdgeWithin};
-ghost use Rattle.scad_geom.specs.Level.{IsLevelWithin};
 ghost use Rattle.slice_slab.specs.Bundles.{edge_at};
+ghost use Rattle.slice_bool.specs.Pieces.{whole_spot, passes_at};
+ghost use Rattle.slice_bool.specs.Stops.{is_left};
 ghost use Rattle.slice_outlines.specs.Marks.{left_of_first, mark_at, spot_at};
+ghost use Rattle.slice_outlines.specs.Stops.{AllPass};
 ghost use Rattle.slice_outlines.specs.Heights.{Onwards, IsOf, IsRunOf, AreInOrder, HasComeTo};
 ghost use Rattle.slice_outlines.specs.Along.{LieBetween, LiesLeftOf, LiesRightOf, AreFlatsOf, IsNextStop, HasComeAlong, BeginsBy, StartsAfter, goes_on, course_along, least, lesser, begun_at};
 
@@ -17,56 +17,90 @@ use crate::height::{Height, Open};
 use crate::mark::{Mark, begin, value_at};
 use crate::passing::{Beside, pass_strands};
 use crate::run::Run;
-use crate::spot::{Stop, compare, rounded, spot_on, whole_spot};
-use crate::stops::stops;
-use scad_geom::{LeafEdge, Level, Pt};
+use crate::spot::{Stop, compare, rounded, whole_spot};
+use crate::stops::{stop_of, stops};
+use scad_geom::Pt;
 use std::alloc::{AllocError, Global};
 
 /// The strands below a height and above it that lie from one x to another.
 pub(crate) fn run_between(height: &Height<'_>, above: &[Mark], left: i32, right: i32) -> Run
     requires left { unsigned_abs left ≤ coordinate_limit }
     requires right { unsigned_abs right ≤ coordinate_limit }
+    requires ends { left ≤ℤ right }
     requires below { AreInOrder height.now height.now.below.now }
     requires above { AreInOrder height.now above.now }
+    requires below_pass { AllPass height.now.edges.now height.now.at.now height.now.below.now }
+    requires above_pass { AllPass height.now.edges.now height.now.at.now above.now }
     ensures run { IsRunOf height.now.below.now above.now result }
     ensures below { LieBetween height.now left right height.now.below.now result.below result.below_to }
     ensures above { LieBetween height.now left right above.now result.above result.above_to }
 {
-    let (left, right) = (whole_spot(left, height.at), whole_spot(right, height.at));
+    let from = whole_spot(left, height.at);
+    let to = whole_spot(right, height.at);
     Run {
-        below: first_from(height, height.below, &left),
-        below_to: first_behind(height, height.below, &right),
-        above: first_from(height, above, &left),
-        above_to: first_behind(height, above, &right),
+        below: first_from(height, height.below, &from),
+        below_to: first_behind(height, height.below, &to),
+        above: first_from(height, above, &from),
+        above_to: first_behind(height, above, &to),
     }
 }
 
 // How many strands lie to the left of a place.
 fn first_from(height: &Height<'_>, marks: &[Mark], s: &Stop) -> usize
-    requires { AreInOrder height.now marks.now }
-    ensures { IsPartitionPoint (λ m. LiesLeftOf height.now s.now m) (λ m. LiesLeftOf height.now s.now m → ⊥)
+    requires order { AreInOrder height.now marks.now }
+    requires pass { AllPass height.now.edges.now height.now.at.now marks.now }
+    ensures bound { result ≤ length marks.now }
+    ensures point { IsPartitionPoint (λ m. LiesLeftOf height.now s.now m) (λ m. LiesLeftOf height.now s.now m → ⊥)
         marks.now result }
 {
-    marks.partition_point(|m| compare(&stop_of(height.edges, m, height.at), s).is_lt())
+    let mut from = 0;
+    let mut to = marks.len();
+    'marks: while from < to {
+        let middle = from + (to - from) / 2;
+        if is_before(height, &marks[middle], s) {
+            from = middle + 1;
+        } else {
+            to = middle;
+        }
+    }
+    from
 }
 
 // How many don't lie to the right of it.
 fn first_behind(height: &Height<'_>, marks: &[Mark], s: &Stop) -> usize
-    requires { AreInOrder height.now marks.now }
-    ensures { IsPartitionPoint (λ m. LiesRightOf height.now s.now m → ⊥) (λ m. LiesRightOf height.now s.now m)
+    requires order { AreInOrder height.now marks.now }
+    requires pass { AllPass height.now.edges.now height.now.at.now marks.now }
+    ensures bound { result ≤ length marks.now }
+    ensures point { IsPartitionPoint (λ m. LiesRightOf height.now s.now m → ⊥) (λ m. LiesRightOf height.now s.now m)
         marks.now result }
 {
-    marks.partition_point(|m| compare(&stop_of(height.edges, m, height.at), s).is_le())
+    let mut from = 0;
+    let mut to = marks.len();
+    'marks: while from < to {
+        let middle = from + (to - from) / 2;
+        if is_behind(height, &marks[middle], s) {
+            to = middle;
+        } else {
+            from = middle + 1;
+        }
+    }
+    from
 }
 
-fn stop_of(edges: &[LeafEdge], mark: &Mark, at: &Level) -> Stop
-    requires within { All (λ e. IsEdgeWithin coordinate_limit e.edge) edges.now }
-    requires at { IsLevelWithin coordinate_limit at.now }
-    requires rises { pos 0 <ℤ rise (edge_at edges.now mark.now.name) }
-    requires there { mark.now.name < length edges.now }
-    ensures { result.spot ≡ spot_at edges.now at.now mark.now }
+// Whether a strand passes the height to the left of a place.
+fn is_before(height: &Height<'_>, mark: &Mark, s: &Stop) -> bool
+    requires { passes_at (edge_at height.now.edges.now mark.now.name) height.now.at.now ≡ true }
+    ensures { result ≡ is_left (spot_at height.now.edges.now height.now.at.now mark.now) s.now.spot }
 {
-    spot_on(&edges[mark.name as usize].edge, at)
+    compare(&stop_of(height.edges, mark, height.at), s).is_lt()
+}
+
+// Whether it passes it to the right of the place.
+fn is_behind(height: &Height<'_>, mark: &Mark, s: &Stop) -> bool
+    requires { passes_at (edge_at height.now.edges.now mark.now.name) height.now.at.now ≡ true }
+    ensures { result ≡ is_left s.now.spot (spot_at height.now.edges.now height.now.at.now mark.now) }
+{
+    compare(s, &stop_of(height.edges, mark, height.at)).is_lt()
 }
 
 /// Passes the places of a stretch, whose flat edges and whose strands are given.
@@ -162,13 +196,17 @@ fn pass_stop(
 fn strands_to(height: &Height<'_>, marks: &[Mark], from: usize, to: usize, s: &Stop) -> usize
     requires from { from ≤ to }
     requires to { to ≤ length marks.now }
+    requires pass { AllPass height.now.edges.now height.now.at.now marks.now }
     ensures from { from ≤ result }
     ensures to { result ≤ to }
     ensures passed { All (λ m. LiesRightOf height.now s.now m → ⊥) (take (result - from) (drop from marks.now)) }
     ensures next { result < to → LiesRightOf height.now s.now (mark_at marks.now result) }
 {
     let mut i = from;
-    'strands: while i < to && compare(&stop_of(height.edges, &marks[i], height.at), s).is_le() {
+    'strands: while i < to {
+        if is_behind(height, &marks[i], s) {
+            return i;
+        }
         i += 1;
     }
     i
@@ -195,31 +233,53 @@ fn begin_flats(
     s: &Stop,
 ) -> Result<usize, AllocError>
     requires { from ≤ length flats.now }
+    ensures from { IfOk result (λ n. from ≤ n) }
+    ensures to { IfOk result (λ n. n ≤ length flats.now) }
     ensures live { IfOk result
         (λ n. live.new.items ≡ live.old.items ++ take (n - from) (drop from flats.now)) }
     ensures begun { IfOk result (λ n. All (BeginsBy s.now) (take (n - from) (drop from flats.now))) }
     ensures later { IfOk result (λ n. StartsAfter s.now (drop n flats.now)) }
 {
+    let to = begun_to(flats, from, s);
+    live.extend_from_slice(&flats[from..to])?;
+    Ok(to)
+}
+
+// The place behind those that begin at a stop or to its left.
+fn begun_to(flats: &[Flat], from: usize, s: &Stop) -> usize
+    requires { from ≤ length flats.now }
+    ensures from { from ≤ result }
+    ensures to { result ≤ length flats.now }
+    ensures begun { All (BeginsBy s.now) (take (result - from) (drop from flats.now)) }
+    ensures later { StartsAfter s.now (drop result flats.now) }
+{
     let mut i = from;
-    'flats: while i < flats.len() && compare(&whole_spot(flats[i].left, &s.spot.at), s).is_le() {
-        live.push(flats[i])?;
+    'flats: while i < flats.len() {
+        if starts_after(&flats[i], s) {
+            return i;
+        }
         i += 1;
     }
-    Ok(i)
+    i
+}
+
+fn starts_after(e: &Flat, s: &Stop) -> bool
+    ensures { result ≡ is_left s.now.spot (whole_spot e.now.left s.now.spot.at) }
+{
+    compare(s, &whole_spot(e.left, &s.spot.at)).is_lt()
 }
 
 // Drops those that end there.
 fn end_flats(live: &mut Vec<Flat>, s: &Stop)
-    ensures { IsPermutation (filter (goes_on s.now) live.old.items) live.new.items }
+    ensures { live.new.items ≡ filter (goes_on s.now) live.old.items }
 {
-    let mut i = 0;
-    'flats: while i < live.len() {
-        if compare(&whole_spot(live[i].right, &s.spot.at), s).is_le() {
-            live.swap_remove(i);
-        } else {
-            i += 1;
-        }
-    }
+    live.retain(|e| goes_on(e, s));
+}
+
+fn goes_on(e: &Flat, s: &Stop) -> bool
+    ensures { result ≡ goes_on s.now e.now }
+{
+    compare(s, &whole_spot(e.right, &s.spot.at)).is_lt()
 }
 
 // The piece along the height to the right of a place.

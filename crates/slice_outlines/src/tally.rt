@@ -1,5 +1,5 @@
 //! Winding numbers of leaves, by leaf, and a shape over them.
-ghost use Rattle.std.specs.Prelude.{◌≡◌, ◌<◌, ◌≤◌, ◌==◌, ◌^◌, ◌++◌, [], ◌+ℤ◌, ◌-ℤ◌, pos, ℕ, List, length, slice_index_or, vec_len, unsigned_abs, if◌then◌else◌, IfOk, All};
+ghost use Rattle.std.specs.Prelude.{◌≡◌, ◌<◌, ◌≤◌, ◌==◌, ◌^◌, ◌++◌, [], ◌+ℤ◌, ◌-ℤ◌, neg_ℤ, pos, ℕ, List, length, slice_index_or, vec_len, unsigned_abs, if◌then◌else◌, IfOk, All};
 ghost use Rattle.scad_geom.specs.declared.level.LeafEdge.{LeafEdge};
 ghost use Rattle.scad_geom.specs.declared.shape.Shape.{Shape};
 ghost use Rattle.slice_held.specs.Held.{IsReady, leaf_count};
@@ -113,7 +113,7 @@ fn take_edge(turns: &mut Vec<i64>, held: &mut Held, e: &LeafEdge)
     ensures len { vec_len turns.new ≡ vec_len turns.old }
     ensures held { KeepsUp turns.old.items turns.new.items held.old held.new }
 {
-    turn(turns, held, e.leaf, -heading(&e.edge));
+    turn(turns, held, e.leaf, heading_back(&e.edge));
 }
 
 // Adds to a leaf's number, and puts the leaf in or out where the number becomes or leaves 0.
@@ -161,4 +161,11 @@ fn heading(e: &Edge) -> i64
     ensures size { unsigned_abs result ≤ 1 }
 {
     if e.b.y < e.a.y { -1 } else { 1 }
+}
+
+fn heading_back(e: &Edge) -> i64
+    ensures value { result ≡ neg_ℤ (heading_of e.now) }
+    ensures size { unsigned_abs result ≤ 1 }
+{
+    if e.b.y < e.a.y { 1 } else { -1 }
 }

@@ -1,5 +1,4 @@
-use Rattle.std.proofs.Common.{◌≤◌, ◌-◌}
-use Rattle.std.specs.Prelude.{nat_max}
+use Rattle.std.proofs.Common.{◌≡◌, ◌≤◌, ◌-◌}
 use Rattle.slice_sweep.specs.Front.{bundles_in}
 use Rattle.slice_outlines.specs.Cursor.{StaysOn}
 use Rattle.slice_outlines.proofs.cursor.Cursor.go_right.Given as goal
@@ -7,8 +6,9 @@ use Rattle.slice_outlines.proofs.cursor.Cursor.go_right.Given as goal
 abbrev pub invariant-strands : goal.invariant-strands
 invariant-strands l = record {
   from : l.fn.self.at ≤ l.self.at;
-  to : l.self.at ≤ nat_max l.place l.fn.self.at;
-  stays : StaysOn l.edges (bundles_in l.front) l.fn.self l.self;
+  stays : l.place ≤ l.fn.self.at → l.self.at ≡ l.fn.self.at;
+  goes : l.fn.self.at ≤ l.place → l.self.at ≤ l.place;
+  stands : StaysOn l.edges (bundles_in l.front) l.fn.self l.self;
 }
 
 abbrev pub decreases-strands : goal.decreases-strands

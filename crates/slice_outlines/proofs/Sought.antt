@@ -1,0 +1,128 @@
+-- Strands in order along a height, sought by their places.
+use Rattle.std.proofs.Common.{◌≡◌, ⊥, ℕ, zero, suc, ◌+◌, ◌-◌, ◌<◌, ◌≤◌, Bool, true, false, List, [], ◌∷◌, length, get_or, take, drop, refl, sym, ap, ◌∙◌, arith, subst, inl, inr}
+use lib.IntN.{ℤ, pos, ◌*ℤ◌}
+use lib.Signed.{◌<ℤ◌, ◌≤ℤ◌}
+use Rattle.std.specs.List.{AllByRecursion, All, AllWithin}
+use Rattle.std.proofs.lemmas.Int.{ints}
+use Rattle.std.proofs.lemmas.Bool.{cases_lt}
+use Rattle.std.proofs.lemmas.List.{get_or-take, get_or-drop, length-take, length-drop, get_or_default}
+use Rattle.std.proofs.lemmas.List.Elements.{All-get_or, recursion_from_All}
+use Rattle.scad_geom.specs.declared.level.Level.{Level}
+use Rattle.scad_geom.specs.declared.level.LeafEdge.{LeafEdge}
+use Rattle.scad_geom.specs.Line.{rise}
+use Rattle.scad_geom.specs.Level.{IsAtMost, IsLower}
+use Rattle.scad_geom.proofs.Heights.{at_most_chain, at_most_then_lower, lower_then_at_most}
+use Rattle.slice_slab.specs.Bundles.{edge_at}
+use Rattle.slice_snap.specs.declared.piece.Spot.{Spot}
+use Rattle.slice_bool.specs.Pieces.{across, passes_at, whole_spot, IsLeft}
+use Rattle.slice_bool.specs.Stops.{is_left}
+use Rattle.slice_bool.proofs.Within.{size_above}
+use Rattle.slice_outlines.specs.declared.mark.Mark.{Mark}
+use Rattle.slice_outlines.specs.declared.height.Height.{Height}
+use Rattle.slice_outlines.specs.Marks.{spot_at}
+use Rattle.slice_outlines.specs.Stops.{AllPass}
+use Rattle.slice_outlines.specs.Heights.{AreInOrder, IsNotRightOf}
+use Rattle.slice_outlines.proofs.EndPoints.{passes_then_rises}
+
+abbrev Runs : Spot → Type 0
+Runs s = pos 0 <ℤ pos s.run
+
+-- ---- tests of places
+pub left_true : (s t : Spot) → is_left s t ≡ true → IsLeft s t
+left_true s t h = omega (arith, ints)
+
+pub left_false : (s t : Spot) → is_left s t ≡ false → IsLeft s t → ⊥
+left_false s t h k = omega (arith, ints)
+
+not_left : (s t : Spot) → (IsLeft s t → ⊥) → IsAtMost (across t) (across s)
+not_left s t h = omega (arith, ints)
+
+at_most_not : (s t : Spot) → IsAtMost (across t) (across s) → IsLeft s t → ⊥
+at_most_not s t h k = omega (arith, ints)
+
+-- ---- in order
+pub runs_at : (es : List LeafEdge) (l : Level) (ms : List Mark) (i : ℕ) (d : Mark) → i < length ms → AllPass es l ms
+    → Runs (spot_at es l (get_or ms i d))
+runs_at es l ms i d h a =
+    let p : passes_at (edge_at es (get_or ms i d).name) l ≡ true =
+    All-get_or (λ m. passes_at (edge_at es m.name) l ≡ true) ms i d h a in
+    let r : 0 < (spot_at es l (get_or ms i d)).run = size_above (rise (edge_at es (get_or ms i d).name))
+    (passes_then_rises (edge_at es (get_or ms i d).name) l p) in
+    omega (arith, ints, r)
+
+module _ (h : Height) where
+  tail_in_order : (m : Mark) (ms : List Mark) → AreInOrder h (m ∷ ms) → AreInOrder h ms
+  tail_in_order m [] o = tt
+  tail_in_order m (n ∷ ms) o = o.1
+
+  all_run : (ms : List Mark) → Type 0
+  all_run ms = AllByRecursion (λ m. Runs (spot_at h.edges.now h.at.now m)) ms
+
+  run_there : (ms : List Mark) (i : ℕ) (d : Mark) → i < length ms
+      → AllByRecursion (λ m. Runs (spot_at h.edges.now h.at.now m)) ms → Runs (spot_at h.edges.now h.at.now (get_or ms i d))
+  run_there [] i d l a = absurd (omega arith)
+  run_there (m ∷ ms) zero d l a = a.0
+  run_there (m ∷ ms) (suc i) d l a = run_there ms i d (omega arith) a.1
+
+  far : (ms : List Mark) → AreInOrder h ms → AllByRecursion (λ m. Runs (spot_at h.edges.now h.at.now m)) ms
+      → (i j : ℕ) (d e : Mark) → i ≤ j → j < length ms
+      → IsNotRightOf (spot_at h.edges.now h.at.now (get_or ms i d)) (spot_at h.edges.now h.at.now (get_or ms j e))
+  far [] o a i j d e k l = absurd (omega arith)
+  far (m ∷ ms) o a (suc i) zero d e k l = absurd (omega arith)
+  far (m ∷ ms) o a (suc i) (suc j) d e k l = far ms (tail_in_order m ms o) a.1 i j d e (omega arith) (omega arith)
+  far (m ∷ ms) o a zero zero d e k l = omega (arith, ints)
+  far (m ∷ []) o a zero (suc j) d e k l = absurd (omega arith)
+  far (m ∷ (n ∷ ms)) o a zero (suc j) d e k l =
+      at_most_chain (across (spot_at h.edges.now h.at.now m)) (across (spot_at h.edges.now h.at.now n))
+      (across (spot_at h.edges.now h.at.now (get_or (n ∷ ms) j e))) a.0 a.1.0
+      (run_there (n ∷ ms) j e (omega arith) a.1) o.0
+      (far (n ∷ ms) o.1 a.1 zero j n e (omega arith) (omega arith))
+
+  passing_runs : (ms : List Mark) → AllByRecursion (λ m. passes_at (edge_at h.edges.now m.name) h.at.now ≡ true) ms
+      → AllByRecursion (λ m. Runs (spot_at h.edges.now h.at.now m)) ms
+  passing_runs [] a = tt
+  passing_runs (m ∷ ms) a =
+      let r : 0 < (spot_at h.edges.now h.at.now m).run = size_above (rise (edge_at h.edges.now m.name))
+      (passes_then_rises (edge_at h.edges.now m.name) h.at.now a.0) in
+      (omega (arith, ints, r), passing_runs ms a.1)
+
+  runs_of : (ms : List Mark) → AllPass h.edges.now h.at.now ms → AllByRecursion (λ m. Runs (spot_at h.edges.now h.at.now m)) ms
+  runs_of ms a = passing_runs ms
+      (recursion_from_All (λ m. passes_at (edge_at h.edges.now m.name) h.at.now ≡ true) ms a)
+
+  -- those to the left of one that lies left of a place, and those to the right of one that lies right of it
+  pub left_before : (s : Spot) (ms : List Mark) → 0 < s.run → AreInOrder h ms → AllPass h.edges.now h.at.now ms
+      → (i j : ℕ) (d e : Mark) → i ≤ j → j < length ms → IsLeft (spot_at h.edges.now h.at.now (get_or ms j e)) s
+      → IsLeft (spot_at h.edges.now h.at.now (get_or ms i d)) s
+  left_before s ms p o a i j d e k l left =
+      let runs = runs_of ms a in
+      at_most_then_lower (across (spot_at h.edges.now h.at.now (get_or ms i d)))
+      (across (spot_at h.edges.now h.at.now (get_or ms j e))) (across s)
+      (run_there ms i d (omega (arith, k, l)) runs) (run_there ms j e l runs) (omega (arith, ints, p))
+      (far ms o runs i j d e k l) left
+
+  pub right_behind : (s : Spot) (ms : List Mark) → 0 < s.run → AreInOrder h ms → AllPass h.edges.now h.at.now ms
+      → (i j : ℕ) (d e : Mark) → i ≤ j → j < length ms → IsLeft s (spot_at h.edges.now h.at.now (get_or ms i d))
+      → IsLeft s (spot_at h.edges.now h.at.now (get_or ms j e))
+  right_behind s ms p o a i j d e k l right =
+      let runs = runs_of ms a in
+      lower_then_at_most (across s) (across (spot_at h.edges.now h.at.now (get_or ms i d)))
+      (across (spot_at h.edges.now h.at.now (get_or ms j e))) (omega (arith, ints, p))
+      (run_there ms i d (omega (arith, k, l)) runs) (run_there ms j e l runs) right (far ms o runs i j d e k l)
+
+-- ---- parts of a list
+pub by_places : {X : Type 0} (P : X → Type 0) (xs : List X) → ((k : ℕ) (d : X) → k < length xs → P (get_or xs k d))
+    → AllByRecursion P xs
+by_places P [] h = tt
+by_places P (x ∷ xs) h = (h zero x (omega arith), by_places P xs (λ k d l. h (suc k) d (omega arith)))
+
+pub front_by : {X : Type 0} (P : X → Type 0) (xs : List X) (n : ℕ) → n ≤ length xs
+    → ((k : ℕ) (d : X) → k < n → P (get_or xs k d)) → AllByRecursion P (take n xs)
+front_by P xs n l h = by_places P (take n xs) (λ k d q.
+    let there : k < n = omega (arith, length-take n xs, q, l) in
+    subst P (sym (get_or-take n xs k d there)) (h k d there))
+
+pub rest_by : {X : Type 0} (P : X → Type 0) (xs : List X) (n : ℕ) → n ≤ length xs
+    → ((k : ℕ) (d : X) → n ≤ k → k < length xs → P (get_or xs k d)) → AllByRecursion P (drop n xs)
+rest_by P xs n l h = by_places P (drop n xs) (λ k d q.
+    subst P (sym (get_or-drop n xs k d)) (h (n + k) d (omega arith) (omega (arith, length-drop n xs, q))))
