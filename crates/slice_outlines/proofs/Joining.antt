@@ -1,8 +1,12 @@
 -- Flat edges in order, and those that are joined.
-use Rattle.std.proofs.Common.{◌≡◌, ℕ, ◌+◌, ◌<◌, ◌≤◌, ⊥, true, false, Bool, List, [], ◌∷◌, ◌++◌, length, get_or, drop, refl, sym, ap, ◌∙◌, arith, subst}
+use Rattle.std.proofs.Common.{◌≡◌, ℕ, ◌+◌, ◌<◌, ◌≤◌, true, false, Bool, cond, List, [], ◌∷◌, ◌++◌, length, get_or, drop, refl, sym, ap, ◌∙◌, arith, subst}
 use lib.IntN.{ℤ}
-use lib.Signed.{◌<ℤ◌, ◌≤ℤ◌}
-use Rattle.std.specs.Prelude.{if◌then◌else◌}
+use lib.Signed.{◌<ℤ◌, ◌≤ℤ◌, le_z}
+use mir.Syntax.{w32}
+use mir.Val.{to_z, of_z}
+use Rattle.std.specs.Prelude.{if◌then◌else◌, int_lt, unsigned_abs}
+use Rattle.std.proofs.lemmas.Int.{ints}
+use Rattle.scad_geom.specs.Limits.{coordinate_limit}
 use Rattle.std.specs.Int.{int_max}
 use Rattle.std.specs.Ordering.{int_cmp, int_eq, is_lt}
 use Rattle.std.specs.Cmp.{IsTotalOrder, IsStrictWeakOrder}
@@ -52,6 +56,23 @@ behind_none right fs n h = subst (StartsBehind right) (sym (drop_all n fs h)) tt
 pub behind_at : (right : ℤ) (fs : List Flat) (n : ℕ) (d : Flat) → n < length fs → right <ℤ (get_or fs n d).left
     → StartsBehind right (drop n fs)
 behind_at right fs n d h b = subst (StartsBehind right) (sym (drop_more fs n d h)) b
+
+-- ---- ends in 32 bits
+pub whole_cast : (z : ℤ) → unsigned_abs z ≤ coordinate_limit → to_z w32 (of_z w32 z) ≡ z
+whole_cast z h = omega (arith, ints)
+
+pub le_true : (a b : ℤ) → le_z a b ≡ true → a ≤ℤ b
+le_true a b h = omega (arith, ints)
+
+pub le_false : (a b : ℤ) → le_z a b ≡ false → b <ℤ a
+le_false a b h = omega (arith, ints)
+
+pub max_size : (a b : ℤ) (n : ℕ) → unsigned_abs a ≤ n → unsigned_abs b ≤ n → unsigned_abs (int_max a b) ≤ n
+max_size a b n h k = by_test (int_lt b a)
+  where
+    by_test : (t : Bool) → unsigned_abs (cond t a b) ≤ n
+    by_test true = h
+    by_test false = k
 
 -- ---- one more that is joined
 join_on : (most : ℤ) (fs : List Flat) (right : ℤ) (f : Flat) → JoinOn most fs right → f.left ≤ℤ right

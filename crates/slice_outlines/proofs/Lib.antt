@@ -8,3 +8,4 @@ mod Joining
 mod Stopping
 mod Shifting
 mod Sought
+mod Placing

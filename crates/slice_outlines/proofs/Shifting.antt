@@ -1,5 +1,5 @@
 -- A place between groups below a height, and that above it.
-use Rattle.std.proofs.Common.{◌≡◌, ⊥, ℕ, zero, suc, ◌+◌, ◌-◌, ◌^◌, ◌<◌, ◌≤◌, List, [], ◌∷◌, ◌++◌, length, get_or, drop, refl, sym, ap, ◌∙◌, arith, subst, append_assoc, length-append}
+use Rattle.std.proofs.Common.{◌≡◌, ℕ, zero, suc, ◌+◌, ◌-◌, ◌^◌, ◌<◌, ◌≤◌, List, [], ◌∷◌, ◌++◌, length, get_or, drop, refl, sym, ap, ◌∙◌, arith, subst, append_assoc, length-append}
 use Rattle.std.proofs.lemmas.List.{drop_more, drop_all}
 use Rattle.slice_sweep.specs.declared.change.Change.{Change}
 use Rattle.slice_sweep.specs.Changes.{Group, all_below, all_above, staying, Tell}
@@ -195,6 +195,9 @@ shifted_by gs cs done at p next =
     }
 
 -- ---- sizes
+abbrev pub no_change : Change
+no_change = record { from = 0; gone = 0; come = 0 }
+
 pub none_next : (cs : List Change) (n : ℕ) → length cs ≤ n → (c : Change) (later : List Change)
     → drop n cs ≡ c ∷ later → ⊥
 none_next cs n h c later e =

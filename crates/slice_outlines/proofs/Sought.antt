@@ -1,8 +1,9 @@
 -- Strands in order along a height, sought by their places.
-use Rattle.std.proofs.Common.{◌≡◌, ⊥, ℕ, zero, suc, ◌+◌, ◌-◌, ◌<◌, ◌≤◌, Bool, true, false, List, [], ◌∷◌, length, get_or, take, drop, refl, sym, ap, ◌∙◌, arith, subst, inl, inr}
-use lib.IntN.{ℤ, pos, ◌*ℤ◌}
+use Rattle.std.proofs.Common.{◌≡◌, ℕ, zero, suc, ◌+◌, ◌-◌, ◌<◌, ◌≤◌, Bool, true, false, List, [], ◌∷◌, length, get_or, take, drop, refl, sym, ap, ◌∙◌, arith, subst, inl, inr}
+use lib.IntN.{ℤ, pos, ◌*ℤ◌, ◌-ℤ◌}
 use lib.Signed.{◌<ℤ◌, ◌≤ℤ◌}
 use Rattle.std.specs.List.{AllByRecursion, All, AllWithin}
+use Rattle.std.specs.List.Sorted.{IsPartitionPoint}
 use Rattle.std.proofs.lemmas.Int.{ints}
 use Rattle.std.proofs.lemmas.Bool.{cases_lt}
 use Rattle.std.proofs.lemmas.List.{get_or-take, get_or-drop, length-take, length-drop, get_or_default}
@@ -11,7 +12,10 @@ use Rattle.scad_geom.specs.declared.level.Level.{Level}
 use Rattle.scad_geom.specs.declared.level.LeafEdge.{LeafEdge}
 use Rattle.scad_geom.specs.Line.{rise}
 use Rattle.scad_geom.specs.Level.{IsAtMost, IsLower}
-use Rattle.scad_geom.proofs.Heights.{at_most_chain, at_most_then_lower, lower_then_at_most}
+use Rattle.scad_base.proofs.Integers.{gap_of_at_most, at_most_of_less}
+use Rattle.scad_geom.proofs.Heights.{at_most_chain, at_most_then_lower, lower_then_at_most, lower_chain}
+use Rattle.scad_geom.proofs.Ring.{ring, ◌⊖◌, ◌⊗◌, v0, v1, v2}
+use Rattle.scad_geom.proofs.Signs.{at_least_mul}
 use Rattle.slice_slab.specs.Bundles.{edge_at}
 use Rattle.slice_snap.specs.declared.piece.Spot.{Spot}
 use Rattle.slice_bool.specs.Pieces.{across, passes_at, whole_spot, IsLeft}
@@ -19,9 +23,11 @@ use Rattle.slice_bool.specs.Stops.{is_left}
 use Rattle.slice_bool.proofs.Within.{size_above}
 use Rattle.slice_outlines.specs.declared.mark.Mark.{Mark}
 use Rattle.slice_outlines.specs.declared.height.Height.{Height}
-use Rattle.slice_outlines.specs.Marks.{spot_at}
+use Rattle.slice_outlines.specs.declared.spot.Stop.{Stop}
+use Rattle.slice_outlines.specs.Marks.{spot_at, no_mark}
 use Rattle.slice_outlines.specs.Stops.{AllPass}
 use Rattle.slice_outlines.specs.Heights.{AreInOrder, IsNotRightOf}
+use Rattle.slice_outlines.specs.Along.{LieBetween, LiesLeftOf, LiesRightOf}
 use Rattle.slice_outlines.proofs.EndPoints.{passes_then_rises}
 
 abbrev Runs : Spot → Type 0
@@ -54,9 +60,6 @@ module _ (h : Height) where
   tail_in_order : (m : Mark) (ms : List Mark) → AreInOrder h (m ∷ ms) → AreInOrder h ms
   tail_in_order m [] o = tt
   tail_in_order m (n ∷ ms) o = o.1
-
-  all_run : (ms : List Mark) → Type 0
-  all_run ms = AllByRecursion (λ m. Runs (spot_at h.edges.now h.at.now m)) ms
 
   run_there : (ms : List Mark) (i : ℕ) (d : Mark) → i < length ms
       → AllByRecursion (λ m. Runs (spot_at h.edges.now h.at.now m)) ms → Runs (spot_at h.edges.now h.at.now (get_or ms i d))
@@ -126,3 +129,69 @@ pub rest_by : {X : Type 0} (P : X → Type 0) (xs : List X) (n : ℕ) → n ≤ 
     → ((k : ℕ) (d : X) → n ≤ k → k < length xs → P (get_or xs k d)) → AllByRecursion P (drop n xs)
 rest_by P xs n l h = by_places P (drop n xs) (λ k d q.
     subst P (sym (get_or-drop n xs k d)) (h (n + k) d (omega arith) (omega (arith, length-drop n xs, q))))
+
+-- ---- the strands between two places
+scaled_order : (left right d : ℤ) → left ≤ℤ right → pos 0 <ℤ d → (left *ℤ d) ≤ℤ (right *ℤ d)
+scaled_order left right d h p =
+    let gap : pos 0 ≤ℤ ((right -ℤ left) *ℤ d) = at_least_mul (right -ℤ left) d (gap_of_at_most left right h)
+    (at_most_of_less (pos 0) d p) in
+    let spread : (right -ℤ left) *ℤ d ≡ right *ℤ d -ℤ left *ℤ d =
+    ring (left ∷ right ∷ d ∷ []) ((v1 ⊖ v0) ⊗ v2) (v1 ⊗ v2 ⊖ v0 ⊗ v2) refl in
+    omega (arith, ints, gap, spread)
+
+module _ (h : Height) (left right : ℤ) (s t : Stop) (ms : List Mark) (n m : ℕ)
+    (from : s.spot ≡ whole_spot left h.at.now) (to : t.spot ≡ whole_spot right h.at.now)
+    (there : n ≤ length ms) (behind : m ≤ length ms)
+    (lefts : IsPartitionPoint (λ m. LiesLeftOf h s m) (λ m. LiesLeftOf h s m → ⊥) ms n)
+    (rights : IsPartitionPoint (λ m. LiesRightOf h t m → ⊥) (λ m. LiesRightOf h t m) ms m) where
+  inside_at : (k : ℕ) (d : Mark) → k < length (drop n (take m ms))
+      → (IsLeft (spot_at h.edges.now h.at.now (get_or (drop n (take m ms)) k d)) (whole_spot left h.at.now) → ⊥)
+      × (IsLeft (whole_spot right h.at.now) (spot_at h.edges.now h.at.now (get_or (drop n (take m ms)) k d)) → ⊥)
+  inside_at k d l =
+      let low : n + k < m = omega (arith, l, length-drop n (take m ms), length-take m ms) in
+      let is : get_or (drop n (take m ms)) k d ≡ get_or ms (n + k) d =
+      get_or-drop n (take m ms) k d ∙ get_or-take m ms (n + k) d low in
+      (
+        λ a. lefts.1 (n + k) d (omega arith) (omega (arith, low, behind))
+            (subst (λ (u : Spot). IsLeft (spot_at h.edges.now h.at.now (get_or ms (n + k) d)) u) (sym from)
+            (subst (λ (x : Mark). IsLeft (spot_at h.edges.now h.at.now x) (whole_spot left h.at.now)) is a)),
+        λ a. rights.0 (n + k) d (omega arith) low
+            (subst (λ (u : Spot). IsLeft u (spot_at h.edges.now h.at.now (get_or ms (n + k) d))) (sym to)
+            (subst (λ (x : Mark). IsLeft (whole_spot right h.at.now) (spot_at h.edges.now h.at.now x)) is a)),
+      )
+
+  pub lie_between : LieBetween h left right ms n m
+  lie_between = record {
+    before = front_by (λ x. IsLeft (spot_at h.edges.now h.at.now x) (whole_spot left h.at.now)) ms n there
+        (λ k d l. subst (λ (u : Spot). IsLeft (spot_at h.edges.now h.at.now (get_or ms k d)) u) from
+        (lefts.0 k d (omega arith) l));
+    inside = by_places (λ x. (IsLeft (spot_at h.edges.now h.at.now x) (whole_spot left h.at.now) → ⊥)
+        × (IsLeft (whole_spot right h.at.now) (spot_at h.edges.now h.at.now x) → ⊥)) (drop n (take m ms)) inside_at;
+    behind = rest_by (λ x. IsLeft (whole_spot right h.at.now) (spot_at h.edges.now h.at.now x)) ms m behind
+        (λ k d l q. subst (λ (u : Spot). IsLeft u (spot_at h.edges.now h.at.now (get_or ms k d))) to
+        (rights.1 k d l q));
+  }
+
+  -- of a place that doesn't lie to the right of another
+  pub from_then_to : left ≤ℤ right → pos 0 <ℤ h.at.now.d → AllPass h.edges.now h.at.now ms → n ≤ m
+  from_then_to o p a = elim (cases_lt m n) [
+    | inl l ↦ absurd (apart l)
+    | inr l ↦ l
+  ]
+    where
+      apart : m < n → ⊥
+      apart l =
+          let d : Mark = no_mark in
+          let at : Spot = spot_at h.edges.now h.at.now (get_or ms m d) in
+          let here : m < length ms = omega (arith, l, there) in
+          let runs : Runs at = runs_at h.edges.now h.at.now ms m d here a in
+          let one : IsLeft at (whole_spot left h.at.now) = subst (λ (u : Spot). IsLeft at u) from
+          (lefts.0 m d (omega arith) l) in
+          let two : IsLeft (whole_spot right h.at.now) at = subst (λ (u : Spot). IsLeft u at) to
+          (rights.1 m d (omega arith) here) in
+          let unit : pos 0 <ℤ pos 1 = omega (arith, ints) in
+          let both : IsLower (across (whole_spot right h.at.now)) (across (whole_spot left h.at.now)) =
+          lower_chain (across (whole_spot right h.at.now)) (across at) (across (whole_spot left h.at.now)) unit runs unit
+          two one in
+          let less : (left *ℤ h.at.now.d) ≤ℤ (right *ℤ h.at.now.d) = scaled_order left right h.at.now.d o p in
+          omega (arith, ints, both, less)

@@ -1,9 +1,12 @@
 -- A cursor: the headings of the strands from its place on, leaf by leaf.
-use Rattle.std.specs.Prelude.{◌≡◌, ◌≤◌, ◌<◌, ◌+◌, ◌^◌, List, ◌++◌, ℕ, length, drop}
+use Rattle.std.specs.Prelude.{Bool, ◌≡◌, ◌≤◌, ◌<◌, ◌+◌, ◌^◌, ◌*ℤ◌, List, ◌++◌, ℕ, length, drop}
 use Rattle.std.specs.List.{concat}
+use Rattle.std.specs.Ordering.{int_eq}
+use Rattle.scad_geom.specs.declared.point.Edge.{Edge}
 use Rattle.scad_geom.specs.declared.level.Level.{Level}
 use Rattle.scad_geom.specs.declared.level.LeafEdge.{LeafEdge}
 use Rattle.scad_geom.specs.declared.shape.Shape.{Shape}
+use Rattle.scad_geom.specs.Line.{rise, x_at}
 use Rattle.slice_slab.specs.Bundles.{edge_at}
 use Rattle.slice_slab.specs.KeptOrder.{IsSamePlaceAt}
 use Rattle.slice_sweep.specs.declared.change.Change.{Change}
@@ -26,6 +29,10 @@ pub record Stands (es : List LeafEdge) (bundles : List (List ℕ)) (c : Cursor) 
 -- where one stood on these bundles, so does the other
 abbrev pub StaysOn : List LeafEdge → List (List ℕ) → Cursor → Cursor → Type 0
 StaysOn es bundles c d = (shape : Shape) → StandsOn es shape bundles c → StandsOn es shape bundles d
+
+-- whether two edges pass a height at one place
+abbrev pub is_same_place : Level → Edge → Edge → Bool
+is_same_place at e f = int_eq (x_at e at.n at.d *ℤ rise f) (x_at f at.n at.d *ℤ rise e)
 
 -- the strands on both sides of a place don't meet at a height
 abbrev pub IsApartAt : List LeafEdge → Level → List Mark → ℕ → Type 0

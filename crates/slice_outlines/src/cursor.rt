@@ -1,16 +1,16 @@
 //! The shape's value between strands.
-ghost use Rattle.std.specs.Prelude.{◌≡◌, ◌<◌, ◌≤◌, ◌+◌, ◌-◌, ◌^◌, ◌↔◌, [], List, length, drop, true, false, IsTrue, IfOk, All, AllZip};
+ghost use Rattle.std.specs.Prelude.{◌≡◌, ◌<◌, ◌≤◌, ◌+◌, ◌-◌, ◌^◌, [], List, length, drop, true, false, IfOk, All};
+ghost use Rattle.std.specs.List.{AllZip};
 ghost use Rattle.scad_geom.specs.declared.shape.Shape.{Shape};
 ghost use Rattle.scad_geom.specs.Limits.{coordinate_limit};
 ghost use Rattle.scad_geom.specs.Within.{IsEdgeWithin};
 ghost use Rattle.scad_geom.specs.Level.{IsLevelWithin};
 ghost use Rattle.slice_slab.specs.Bundles.{edge_at};
-ghost use Rattle.slice_slab.specs.KeptOrder.{IsSamePlaceAt};
 ghost use Rattle.slice_sweep.specs.Front.{bundles_in};
 ghost use Rattle.slice_sweep.specs.Changes.{Group, Tell};
 ghost use Rattle.slice_bool.specs.Beside.{AreMembers, left_value};
 ghost use Rattle.slice_outlines.specs.Marks.{AreThere, IsNamed};
-ghost use Rattle.slice_outlines.specs.Cursor.{StandsOn, Stands, StaysOn, IsApartAt, CanShift, IsShifted, Fit};
+ghost use Rattle.slice_outlines.specs.Cursor.{is_same_place, StandsOn, Stands, StaysOn, IsApartAt, CanShift, IsShifted, Fit};
 
 use crate::mark::Mark;
 use crate::run::{Run, after, first};
@@ -159,7 +159,7 @@ fn are_together(edges: &[LeafEdge], s: &Mark, t: &Mark, at: &Level) -> bool
     requires at { IsLevelWithin coordinate_limit at.now }
     requires first { s.now.name < length edges.now }
     requires second { t.now.name < length edges.now }
-    ensures { IsTrue result ↔ IsSamePlaceAt at.now (edge_at edges.now s.now.name) (edge_at edges.now t.now.name) }
+    ensures { result ≡ is_same_place at.now (edge_at edges.now s.now.name) (edge_at edges.now t.now.name) }
 {
     cmp_x_at(
         &edges[s.name as usize].edge,

@@ -1,5 +1,5 @@
 //! The flat edges of a list, by height and then from left to right.
-ghost use Rattle.std.specs.Prelude.{◌≡◌, ◌<◌, ◌≤◌, ◌-◌, ◌^◌, ◌++◌, ◌∷◌, [], ◌*ℤ◌, ◌≤ℤ◌, true, false, List, length, take, drop, slice_index_or, if◌then◌else◌, IfOk, OnOk, All};
+ghost use Rattle.std.specs.Prelude.{◌≡◌, ◌<◌, ◌≤◌, ◌-◌, ◌^◌, ◌++◌, ◌∷◌, [], ◌*ℤ◌, ◌≤ℤ◌, true, false, List, length, take, drop, slice_index_or, if◌then◌else◌, unsigned_abs, IfOk, OnOk, All};
 ghost use Rattle.std.specs.List.Sorted.{IsPermutation, IsSorted};
 ghost use Rattle.std.specs.Ordering.{int_eq};
 ghost use Rattle.slice_outlines.specs.declared.flat.Flat.{Flat};
@@ -54,16 +54,23 @@ fn push_flat(out: &mut Vec<Flat>, e: &Edge, number: u32) -> Result<(), AllocErro
     ensures each { (edges : List LeafEdge) → number < length edges → edge_at edges number ≡ e.now
         → All (IsFlatOf edges) out.old.items → OnOk result (All (IsFlatOf edges) out.new.items) }
 {
-    if e.a.y == e.b.y {
+    if is_flat(e) {
         out.push(flat_of(e, number))?;
     }
     Ok(())
 }
 
+fn is_flat(e: &Edge) -> bool
+    ensures { result ≡ int_eq e.now.a.y e.now.b.y }
+{
+    e.a.y == e.b.y
+}
+
 fn flat_of(e: &Edge, number: u32) -> Flat
     requires within { IsEdgeWithin coordinate_limit e.now }
     requires flat { e.now.a.y ≡ e.now.b.y }
-    ensures { (edges : List LeafEdge) → number < length edges → edge_at edges number ≡ e.now → IsFlatOf edges result }
+    ensures number { result.number ≡ number }
+    ensures is { (edges : List LeafEdge) → number < length edges → edge_at edges number ≡ e.now → IsFlatOf edges result }
 {
     if e.b.x < e.a.x {
         Flat {
@@ -134,6 +141,7 @@ pub(crate) fn joined_from(flats: &[Flat], from: usize) -> Joined
     ensures from { from < result.to }
     ensures to { result.to ≤ length flats.now }
     ensures joined { AreJoined (take (result.to - from) (drop from flats.now)) result.right }
+    ensures size { unsigned_abs result.right ≤ coordinate_limit }
     ensures next { StartsBehind result.right (drop result.to flats.now) }
 {
     let mut joined = Joined {

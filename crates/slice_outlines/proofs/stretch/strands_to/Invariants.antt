@@ -1,4 +1,4 @@
-use Rattle.std.proofs.Common.{◌≤◌, ◌-◌, ⊥, take, drop, All}
+use Rattle.std.proofs.Common.{◌≤◌, ◌-◌, take, drop, All}
 use Rattle.slice_outlines.specs.Along.{LiesRightOf}
 use Rattle.slice_outlines.proofs.stretch.strands_to.Given as goal
 
