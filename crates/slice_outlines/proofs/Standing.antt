@@ -1,6 +1,7 @@
 -- A cursor goes from bundle to bundle.
-use Rattle.std.proofs.Common.{◌≡◌, ℕ, zero, suc, ◌+◌, ◌^◌, ◌<◌, ◌≤◌, List, [], ◌∷◌, ◌++◌, length, get_or, drop, refl, sym, ap, ◌∙◌, arith, subst, length-append}
+use Rattle.std.proofs.Common.{◌≡◌, ℕ, zero, suc, ◌+◌, ◌^◌, ◌<◌, ◌≤◌, List, [], ◌∷◌, ◌++◌, length, get_or, drop, inl, inr, refl, sym, ap, ◌∙◌, arith, subst, length-append}
 use Rattle.std.specs.List.{AllByRecursion, All, AllZip, concat}
+use Rattle.std.proofs.lemmas.Bool.{cases_lt}
 use Rattle.std.proofs.lemmas.List.{at_drop_more}
 use Rattle.std.proofs.lemmas.List.Elements.{All-from_recursion}
 use Rattle.scad_geom.specs.declared.level.LeafEdge.{LeafEdge}
@@ -88,3 +89,15 @@ named_size [] [] z = refl
 named_size [] (b ∷ bs) z = absurd z
 named_size (m ∷ ms) [] z = absurd z
 named_size (m ∷ ms) (b ∷ bs) z = ap suc (named_size ms bs z.1)
+
+-- to the left, then to the right, each as far as a place
+pub arrives : (place from mid to : ℕ) → (from ≤ place → mid ≡ from) → (place ≤ from → mid ≡ place)
+    → (place ≤ mid → to ≡ mid) → (mid ≤ place → to ≡ place) → to ≡ place
+arrives place from mid to a b c d = elim (cases_lt from place) [
+  | inl h ↦
+      let e : mid ≡ from = a (omega (arith, h)) in
+      d (omega (arith, e, h))
+  | inr h ↦
+      let e : mid ≡ place = b h in
+      d (omega (arith, e))
+]

@@ -8,7 +8,8 @@ use Rattle.slice_outlines.proofs.Shifting.{no_change, ArePassedBy, Fits, none_pa
 use Rattle.slice_outlines.proofs.cursor.run_before.Goals as goal
 
 pub changes-init : goal.changes-init
-changes-init c = λ gs t f. none_passed gs c.args.changes.now c.args.at t f
+changes-init c = λ gs t f. subst (λ (r : Run). ArePassedBy gs c.args.changes.now r c.args.at) (sym c.first-done.ensures)
+    (none_passed gs c.args.changes.now c.args.at t f)
 
 pub after-run-requires-clause-later : goal.after-run-requires-clause-later
 after-run-requires-clause-later c =
