@@ -40,12 +40,6 @@ left_true s t h = omega (arith, ints)
 pub left_false : (s t : Spot) → is_left s t ≡ false → IsLeft s t → ⊥
 left_false s t h k = omega (arith, ints)
 
-not_left : (s t : Spot) → (IsLeft s t → ⊥) → IsAtMost (across t) (across s)
-not_left s t h = omega (arith, ints)
-
-at_most_not : (s t : Spot) → IsAtMost (across t) (across s) → IsLeft s t → ⊥
-at_most_not s t h k = omega (arith, ints)
-
 -- ---- in order
 pub runs_at : (es : List LeafEdge) (l : Level) (ms : List Mark) (i : ℕ) (d : Mark) → i < length ms → AllPass es l ms
     → Runs (spot_at es l (get_or ms i d))

@@ -101,7 +101,7 @@ pub record HasComeAlong (on : Onwards) (a : Along) (o : Open) : Type 0 where
   pub cursor : StandsOn on.height.edges.now on.shape (bundles_in on.height.front.now) o.cursor
 
 -- a stop to the right of all that is passed, and to the left of all that isn't, or there
-pub record IsNextStop (h : Height) (above : List Mark) (fs : List Flat) (a : Along) (s : Stop) : Type 0 where
+pub record IsNextStop (h : Height) (upper : List Mark) (fs : List Flat) (a : Along) (s : Stop) : Type 0 where
   pub below : AllByRecursion (λ m. LiesLeftOf h s m → ⊥) (drop a.below (take a.run.below_to h.below.now))
-  pub above : AllByRecursion (λ m. LiesLeftOf h s m → ⊥) (drop a.above (take a.run.above_to above))
+  pub above : AllByRecursion (λ m. LiesLeftOf h s m → ⊥) (drop a.above (take a.run.above_to upper))
   pub flats : AllByRecursion (λ f. IsLeft (whole_spot f.left s.spot.at) s.spot → ⊥) (drop a.begun fs)
