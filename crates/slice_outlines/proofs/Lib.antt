@@ -9,3 +9,4 @@ mod Stopping
 mod Shifting
 mod Sought
 mod Placing
+mod Onward

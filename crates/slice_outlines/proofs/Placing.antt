@@ -39,14 +39,14 @@ EndsAt p w = rounded (point_of w.far) ≡ p
 abbrev pub RoundsTo : List LeafEdge → Level → Pt → List ℕ → Type 0
 RoundsTo es l p b = rounded (point_of (spot_of es l b)) ≡ p
 
-zip_append : {A B : Type 0} (R : A → B → Type 0) (xs : List A) (ys : List B) (us : List A) (vs : List B)
+pub zip_append : {A B : Type 0} (R : A → B → Type 0) (xs : List A) (ys : List B) (us : List A) (vs : List B)
     → AllZip R xs ys → AllZip R us vs → AllZip R (xs ++ us) (ys ++ vs)
 zip_append R [] [] us vs a b = b
 zip_append R [] (y ∷ ys) us vs a b = absurd a
 zip_append R (x ∷ xs) [] us vs a b = absurd a
 zip_append R (x ∷ xs) (y ∷ ys) us vs a b = (a.0, zip_append R xs ys us vs a.1 b)
 
-all_append : {A : Type 0} (P : A → Type 0) (xs ys : List A) → AllByRecursion P xs → AllByRecursion P ys
+pub all_append : {A : Type 0} (P : A → Type 0) (xs ys : List A) → AllByRecursion P xs → AllByRecursion P ys
     → AllByRecursion P (xs ++ ys)
 all_append P [] ys a b = b
 all_append P (x ∷ xs) ys a b = (a.0, all_append P xs ys a.1 b)
@@ -66,7 +66,7 @@ one_up : (es : List LeafEdge) (l : Level) (b : List ℕ) (a r : Bool) (start : S
 one_up es l [] a r start m n f = absurd n
 one_up es l (k ∷ ks) a r start m n f = one_way a r start (spot_on (edge_at es k) l) k m n f
 
-first_kept : (v : Bool) (ms : List Mark) (ss : List Strand) → AreKept v ms ss → left_of_first ms v ≡ value_before ss v
+pub first_kept : (v : Bool) (ms : List Mark) (ss : List Strand) → AreKept v ms ss → left_of_first ms v ≡ value_before ss v
 first_kept v [] [] k = refl
 first_kept v [] (s ∷ ss) k = absurd k
 first_kept v (m ∷ ms) [] k = absurd k
@@ -320,7 +320,7 @@ ended_edges (w ∷ ws) (c ∷ cs) p z h =
     (ended_edges ws cs p z.1 h.1)
 
 -- ---- a place
-same_pass : (ins ins' outs outs' opens opens' closed : List Way) → ins ≡ ins' → outs ≡ outs' → opens ≡ opens'
+pub same_pass : (ins ins' outs outs' opens opens' closed : List Way) → ins ≡ ins' → outs ≡ outs' → opens ≡ opens'
     → Pass ins outs opens closed → Pass ins' outs' opens' closed
 same_pass ins ins' outs outs' opens opens' closed a b c p =
     subst (λ (ws : List Way). Pass ws outs' opens' closed) a

@@ -1,26 +1,30 @@
 -- How far the code has come along a stretch of flat edges.
 use Rattle.std.specs.Prelude.{Bool, true, false, ◌≡◌, ⊤, ℕ, ℤ, nat_lt, if◌then◌else◌, Option, None, Some, List, [], ◌∷◌, ◌++◌, take, drop}
-use Rattle.std.specs.List.{AllByRecursion}
+use Rattle.std.specs.List.{AllByRecursion, AllZip, position}
 use Rattle.std.specs.List.Sorted.{IsPermutation}
 use Rattle.scad_geom.specs.declared.point.Pt.{Pt}
+use Rattle.scad_geom.specs.declared.point.Edge.{Edge}
+use Rattle.scad_geom.specs.declared.level.LeafEdge.{LeafEdge}
+use Rattle.slice_snap.specs.declared.piece.Spot.{Spot}
 use Rattle.slice_snap.specs.Rounding.{rounded_edges}
 use Rattle.slice_sweep.specs.Front.{bundles_in}
-use Rattle.slice_bool.specs.Pieces.{whole_spot, IsLeft}
+use Rattle.slice_bool.specs.Pieces.{whole_spot, IsLeft, covers}
 use Rattle.slice_bool.specs.Stops.{is_left}
 use Rattle.sweep_laws.specs.Ways.{Way, pieces_of}
-use Rattle.sweep_laws.specs.Fronts.{bundles_of}
-use Rattle.sweep_laws.specs.Crossing.{Place, all_below, all_above, all_closed, ArePassed}
+use Rattle.sweep_laws.specs.Fronts.{bundles_of, value_before}
+use Rattle.sweep_laws.specs.Crossing.{Place, spots_of, all_below, all_above, all_closed, ArePassed}
 use Rattle.slice_outlines.specs.declared.mark.Mark.{Mark}
 use Rattle.slice_outlines.specs.declared.run.Run.{Run}
 use Rattle.slice_outlines.specs.declared.spot.Stop.{Stop}
 use Rattle.slice_outlines.specs.declared.flat.Flat.{Flat}
 use Rattle.slice_outlines.specs.declared.course.Course.{Course}
+use Rattle.slice_outlines.specs.declared.cursor.Cursor.{Cursor}
 use Rattle.slice_outlines.specs.declared.stretch.Along.{Along}
 use Rattle.slice_outlines.specs.declared.height.Height.{Height}
 use Rattle.slice_outlines.specs.declared.height.Open.{Open}
-use Rattle.slice_outlines.specs.Marks.{spot_at}
+use Rattle.slice_outlines.specs.Marks.{spot_at, mark_at, left_of_first, IsNamed, AreKept}
 use Rattle.slice_outlines.specs.Flats.{LiesOn, IsFlatOf}
-use Rattle.slice_outlines.specs.Passing.{IsCourseOf}
+use Rattle.slice_outlines.specs.Passing.{IsCourseOf, or_none}
 use Rattle.slice_outlines.specs.Cursor.{StandsOn}
 use Rattle.slice_outlines.specs.Heights.{Onwards}
 
@@ -78,27 +82,57 @@ abbrev pub begun_at : Pt → Option Course → Option Course
 begun_at from None = None
 begun_at from (Some c) = Some (record c { from = from })
 
--- a flat way as the code has it
-abbrev pub IsFlatCourse : List Way → Option Course → Type 0
-IsFlatCourse [] None = ⊤
-IsFlatCourse [] (Some c) = ⊥
-IsFlatCourse (w ∷ []) None = ⊥
-IsFlatCourse (w ∷ []) (Some c) = IsCourseOf w c
-IsFlatCourse (w ∷ (v ∷ ws)) c = ⊥
-
 -- ---- how far it has come
--- the places that are passed, and the way along the height that leads on from the last
-pub record HasComeAlong (on : Onwards) (a : Along) (o : Open) : Type 0 where
+-- the value just above the height to the left of a strand, or to the right of the stretch, where it's that below
+abbrev pub value_over : Height → Run → List Mark → ℕ → Bool
+value_over h run ms i = if nat_lt i run.above_to then (mark_at ms i).left
+    else left_of_first (drop run.below_to h.below.now) false
+
+-- ways that end at the first of some spots
+abbrev pub LeadTo : List Spot → List Way → Type 0
+LeadTo [] ws = ws ≡ []
+LeadTo (t ∷ ts) ws = AllByRecursion (λ w. w.far ≡ t) ws
+
+-- places of which the first is at the first of some spots
+abbrev pub BeginAt : List Spot → List Place → Type 0
+BeginAt [] ps = ⊤
+BeginAt (t ∷ ts) [] = ⊥
+BeginAt (t ∷ ts) (p ∷ ps) = p.at ≡ t
+
+-- places to come, behind so many strands below the height, with a value above it to their left
+pub record ArePlacesFrom (on : Onwards) (n : ℕ) (left : Bool) (spots : List Spot) (later : List Place) : Type 0 where
+  pub below : all_below later ≡ drop n on.below
+  pub value : value_before (all_above later) false ≡ left
+  pub first : BeginAt spots later
+
+-- the places that are passed have some spots, and so many strands below the height and above it; a way along the height
+-- may lead to the first of the spots to come
+pub record HasComeOver (on : Onwards) (passed spots : List Spot) (run : Run) (n m : ℕ) (course : Option Course)
+    (marks : List Mark) (given : List Edge) (cursor : Cursor) : Type 0 where
   pub places : List Place
   pub flat : List Way
-  pub course : IsFlatCourse flat a.flat
-  pub lower : all_below places ≡ take a.below on.below
-  pub upper : bundles_of (all_above places) ≡ take a.above (bundles_in on.height.front.now)
-  pub passed : (later : List Place) → all_below later ≡ drop a.below on.below
+  pub at : spots_of places ≡ passed
+  pub along : AllZip IsCourseOf flat (or_none course)
+  pub leads : LeadTo spots flat
+  pub lower : all_below places ≡ take n on.below
+  pub upper : bundles_of (all_above places) ≡ take m (bundles_in on.height.front.now)
+  pub goes_on : (later : List Place) → ArePlacesFrom on n (value_over on.height run marks m) spots later
       → ArePassed on.height.edges.now on.height.at.now on.upper flat later
       → ArePassed on.height.edges.now on.height.at.now on.upper [] (places ++ later)
-  pub given : IsPermutation (on.given ++ rounded_edges (pieces_of (all_closed places))) o.given.items
-  pub cursor : StandsOn on.height.edges.now on.shape (bundles_in on.height.front.now) o.cursor
+  pub kept : AreKept (value_over on.height run marks m) (take m marks) (all_above places)
+  pub named : AllZip (λ x b. IsNamed x.name b) marks (bundles_in on.height.front.now)
+  pub edges : IsPermutation (on.given ++ rounded_edges (pieces_of (all_closed places))) given
+  pub stands : StandsOn on.height.edges.now on.shape (bundles_in on.height.front.now) cursor
+
+abbrev pub HasComeAlong : Onwards → List Spot → List Spot → Along → Open → Type 0
+HasComeAlong on passed spots a o = HasComeOver on passed spots a.run a.below a.above a.flat o.marks.items o.given.items
+    o.cursor
+
+-- the flat edges that go on from a stop are told by the least that covers the way to the next; behind the last stop
+-- there is one value below the height and above it
+abbrev pub IsNameTo : List LeafEdge → Spot → List Spot → List Flat → Bool → Bool → Type 0
+IsNameTo es s [] live above below = above ≡ below
+IsNameTo es s (t ∷ ts) live above below = least live ≡ position (covers s t) es
 
 -- a stop to the right of all that is passed, and to the left of all that isn't, or there
 pub record IsNextStop (h : Height) (upper : List Mark) (fs : List Flat) (a : Along) (s : Stop) : Type 0 where

@@ -23,8 +23,8 @@ marks-preserved-then-is_behind c =
       behind = λ k d a b. right_behind h s.spot ms s.runs c.requires.order c.requires.pass mid k no_mark d a b right;
     }
 
-pub marks-preserved-else-is_behind : goal.marks-preserved-else-is_behind
-marks-preserved-else-is_behind c =
+pub marks-preserved : goal.marks-preserved
+marks-preserved c =
     let h = c.args.height.now in
     let ms : List Mark = c.args.marks.now in
     let s = c.args.s.now in

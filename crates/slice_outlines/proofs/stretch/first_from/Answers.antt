@@ -24,8 +24,8 @@ marks-preserved-then-is_before c =
       behind = c.marks.invariant.behind;
     }
 
-pub marks-preserved-else-is_before : goal.marks-preserved-else-is_before
-marks-preserved-else-is_before c =
+pub marks-preserved : goal.marks-preserved
+marks-preserved c =
     let h = c.args.height.now in
     let ms : List Mark = c.args.marks.now in
     let s = c.args.s.now in
