@@ -1,14 +1,17 @@
 -- What the code finds of the strands at a place.
-use Rattle.std.proofs.Common.{◌≡◌, ℕ, zero, suc, ◌+◌, ◌-◌, ◌<◌, ◌≤◌, ◌⊎◌, inl, inr, Bool, true, false, cond, List, [], ◌∷◌, ◌++◌, length, get_or, take, drop, filter, refl, sym, ap, ap₂, ◌∙◌, arith, subst, append_assoc, IsPermutation, All}
+use Rattle.std.proofs.Common.{◌≡◌, ℕ, zero, suc, ◌+◌, ◌-◌, ◌<◌, ◌≤◌, ◌⊎◌, inl, inr, Bool, true, false, cond, List, [], ◌∷◌, ◌++◌, map, length, get_or, take, drop, filter, refl, sym, ap, ap₂, ◌∙◌, arith, subst, append_assoc, IsPermutation, All}
 use lib.IntN.{pos, ◌*ℤ◌}
+use lib.Signed.{◌<ℤ◌}
 use Rattle.std.specs.Prelude.{int_lt, int_le, nat_lt, ◌&&◌}
 use Rattle.std.specs.Ordering.{int_eq}
 use Rattle.std.specs.Cmp.{signed_Decides}
 use Rattle.std.specs.List.{AllByRecursion, concat}
 use Rattle.std.proofs.lemmas.Bool.{and_parts}
 use Rattle.std.proofs.lemmas.Int.{ints}
-use Rattle.std.proofs.lemmas.List.{append-nil, length-append, length-drop, take-append-drop, get_or-take, get_or-drop, get_or_read, length-take-le, take_at, drop_at, drop-drop, append_cancel_right}
+use Rattle.std.proofs.lemmas.List.{append-nil, length-append, length-drop, take-append-drop, get_or-take, get_or-drop, get_or_read, length-take-le, take_at, drop_at, drop-drop, drop-take, nil_from_length, append_cancel_right}
 use Rattle.std.proofs.lemmas.List.Elements.{All-from_recursion, recursion_from_All}
+use Rattle.std.proofs.lemmas.List.Sorted.{length_permutation}
+use Rattle.scad_base.proofs.Lists.{AllByRecursion-append}
 use Rattle.scad_geom.specs.Limits.{coordinate_limit}
 use Rattle.scad_geom.specs.declared.point.Edge.{Edge}
 use Rattle.scad_geom.specs.declared.level.Level.{Level}
@@ -16,18 +19,26 @@ use Rattle.scad_geom.specs.declared.level.LeafEdge.{LeafEdge}
 use Rattle.scad_geom.specs.Line.{low, high, rise, x_at}
 use Rattle.scad_geom.specs.Level.{level_of, IsLower, IsAtMost, IsLevelWithin}
 use Rattle.scad_geom.specs.Heights.{heights, AreNeighbours}
+use Rattle.scad_geom.proofs.Heights.{at_most_then_lower}
 use Rattle.scad_geom.proofs.Order.{front, back, all_ends}
-use Rattle.slice_slab.specs.Bundles.{no_edge, edge_at, reaches, AreRanked}
+use Rattle.slice_slab.specs.Bundles.{no_edge, edge_at, reaches, IsBundle, AreRanked}
+use Rattle.slice_slab.proofs.Live.{reaches_is}
 use Rattle.slice_slab.specs.KeptOrder.{IsSamePlaceAt, AllStand}
 use Rattle.slice_sweep.specs.declared.strand.Strand.{Strand}
 use Rattle.slice_sweep.specs.Keys.{IsBelowKey}
 use Rattle.slice_sweep.specs.Chains.{Chain, Joins}
-use Rattle.slice_sweep.specs.Strands.{head, numbers_in, LiesLeft, IsTogether, IsReaching, IsHeld, AreHeld, AreApart, AreWaiting, EndAbove, AreThere, weakened, fresh, no_strand, strand_at}
+use Rattle.slice_sweep.specs.Strands.{bundles_of, head, numbers_in, LiesLeft, IsTogether, IsReaching, IsHeld, AreHeld, AreApart, AreWaiting, EndAbove, AreThere, weakened, fresh, no_strand, strand_at}
+use Rattle.slice_sweep.specs.declared.change.Change.{Change}
+use Rattle.slice_sweep.specs.Changes.{all_at, has_started, older}
+use Rattle.slice_sweep.specs.Changes.Tell.{none, changes}
+use Rattle.slice_sweep.specs.Places.{came_from_below, group_of, LiesBefore, place_of, StartsKeyless, ArePlacedTo}
 use Rattle.slice_sweep.specs.Mending.{AreMended, AreOrdered, AreMendedTo, KeepTimes, IsGroup}
 use Rattle.slice_sweep.proofs.Lists.{chain_from, joins_from, chain_at, weaker}
 use Rattle.slice_sweep.proofs.Starting.{put_between}
-use Rattle.slice_sweep.proofs.Weakening.{length_weakened, length_fresh}
-use Rattle.slice_sweep.proofs.Mending.{as_it_is, strict_heads, members_there, stand_together, regrouped, regrouped_times}
+use Rattle.slice_sweep.proofs.Telling.{older_is}
+use Rattle.slice_sweep.proofs.Placing.{bundles_append, placed_more}
+use Rattle.slice_sweep.proofs.Weakening.{bundles_weakened, bundles_fresh, length_weakened, length_fresh, all_weakened}
+use Rattle.slice_sweep.proofs.Mending.{as_it_is, strict_heads, members_there, stand_together, group_is_place, group_before, regrouped, regrouped_times}
 
 -- ---- edges that go on
 reaches_up : (e : Edge) (l u : Level) → reaches e l l ≡ true → int_le u.n ((high e).y *ℤ u.d) ≡ true
@@ -60,6 +71,20 @@ ends_up es l u n k o h =
       | inl c ↦ absurd (omega (arith, ints))
       | inr c ↦ sym (omega (arith, ints))
     ]
+
+-- so does one that starts at the lower one and isn't flat
+pub starts_up : (es : List LeafEdge) (l u : Level) → AreNeighbours es l u → (k : ℕ) → IsReaching es l l k
+    → int_eq ((low (edge_at es k)).y *ℤ l.d) l.n ≡ true → reaches (edge_at es k) l u ≡ true
+unfolding rise
+starts_up es l u n k r s =
+    let e : Edge = edge_at es k in
+    let rises = (reaches_is e l l r.reaches).rises in
+    let one : pos 0 <ℤ pos 1 = omega (arith, ints) in
+    let same = (signed_Decides ((low e).y *ℤ l.d) l.n).0 s in
+    let at : IsAtMost l (level_of (low e).y) = omega (arith, ints) in
+    let above : IsLower (level_of (low e).y) (level_of (high e).y) = omega (arith, ints) in
+    reaches_up e l u r.reaches (ends_up es l u n k r.there
+    (at_most_then_lower l (level_of (low e).y) (level_of (high e).y) n.lower_divisor one one at above))
 
 pub reach_above : (es : List LeafEdge) (l u : Level) → AreNeighbours es l u → (b : List ℕ)
     → AllByRecursion (IsReaching es l l) b → EndAbove es l b → AllByRecursion (IsReaching es l u) b
@@ -275,7 +300,126 @@ module _ (es : List LeafEdge) (l u : Level) (w : IsLevelWithin coordinate_limit 
     pub put_group : AreMendedTo es l u (from + length bs) put × KeepTimes es l u L put
     put_group = by_group (take count R) refl
 
+    -- some of the strands were there below the height, or some go on above it
+    some_at : (g : Strand) (G : List Strand) → take count R ≡ g ∷ G → IsHeld es l g
+        → all_at (group_of es l (record { waiting = bundles_of (g ∷ G); leaving = bs })) ≡ [] → ⊥
+    some_at g G e h none_at =
+        let parts = ap length none_at in
+        let sizes = length-append (came_from_below es l (bundles_of (g ∷ G))) bs in
+        by_test (has_started es l g.bundle) refl (omega (arith, parts, sizes)) (omega (arith, parts, sizes))
+      where
+        goes : (b : List ℕ) → b ≡ g.bundle → has_started es l b ≡ true → length bs ≡ 0 → ⊥
+        goes [] m s z = absurd (subst (IsBundle es l) (sym m) h.bundle)
+        goes (k ∷ ks) m s z =
+            let r = subst (AllByRecursion (IsReaching es l l)) (sym m) h.reach in
+            let up = starts_up es l u n k r.0 s in
+            let is : numbers ≡ k ∷ (ks ++ numbers_in G) = numbers_are ∙ ap numbers_in e
+            ∙ ap (λ (js : List ℕ). js ++ numbers_in G) (sym m) in
+            let one = length_permutation (filter (λ j. reaches (edge_at es j) l u) numbers) (concat bs) same in
+            let kept : filter (λ j. reaches (edge_at es j) l u) numbers
+            ≡ cond (reaches (edge_at es k) l u) (k ∷ filter (λ j. reaches (edge_at es j) l u) (ks ++ numbers_in G))
+            (filter (λ j. reaches (edge_at es j) l u) (ks ++ numbers_in G))
+            = ap (filter (λ j. reaches (edge_at es j) l u)) is in
+            let first : filter (λ j. reaches (edge_at es j) l u) numbers
+            ≡ k ∷ filter (λ j. reaches (edge_at es j) l u) (ks ++ numbers_in G) = rw up at kept in
+            let empty : concat bs ≡ [] = ap concat (nil_from_length bs z) in
+            omega (arith, one, ap length first, ap length empty)
+
+        by_test : (t : Bool) → has_started es l g.bundle ≡ t
+            → length (came_from_below es l (bundles_of (g ∷ G))) ≡ 0 → length bs ≡ 0 → ⊥
+        by_test true s c z = goes g.bundle refl s z
+        by_test false s c z =
+            let first : came_from_below es l (bundles_of (g ∷ G)) ≡ g.bundle ∷ came_from_below es l (bundles_of G)
+            = rw s refl in
+            omega (arith, c, ap length first)
+
+    placed_group : (old : List Strand) (X : List Strand) → take count R ≡ X → (cs : List Change) (gone : ℕ)
+        → gone ≡ older es l (take count R) → ArePlacedTo es l from old L cs
+        → ArePlacedTo es l (from + length bs) old put
+        (cs ++ record { from = from; gone = gone; come = length bs } ∷ [])
+    placed_group old [] e cs gone o a = absurd (omega (arith, ap length e, size, some))
+    placed_group old (g ∷ G) e cs gone o a =
+        let L_as : L ≡ m.done ++ ((g ∷ G) ++ O) = L_is ∙ ap (λ (xs : List Strand). m.done ++ (xs ++ O)) e in
+        let rest : m.rest ≡ (g ∷ G) ++ O = rest_as ∙ ap (λ (xs : List Strand). xs ++ O) e in
+        let R_as : R ≡ g ∷ (G ++ O) = sym R_is ∙ ap (λ (xs : List Strand). xs ++ O) e in
+        let held = subst (AllByRecursion (IsHeld es l)) L_as m.held in
+        let ordered = subst (Chain (AreHeld es l)) L_as m.ordered in
+        let beside = subst (Joins (LiesLeft es l) m.done) rest m.beside in
+        let apart = subst (Chain (AreApart es l)) rest m.apart in
+        let tied = subst (Chain (IsTogether es l)) e together in
+        let cut = subst (λ (xs : List Strand). Joins (λ s t. IsTogether es l s t → ⊥) xs O) e parted in
+        let perm = subst (λ (ks : List ℕ). IsPermutation (filter (λ k. reaches (edge_at es k) l u) ks) (concat bs))
+        (numbers_are ∙ ap numbers_in e) same in
+        let front_is : take (from + length bs) put ≡ weakened (take from L) ++ fresh bs = front_put in
+        let back_is : drop (from + length bs) put ≡ O = back_put in
+        let held_g = (front (IsHeld es l) (g ∷ G) O (back (IsHeld es l) m.done ((g ∷ G) ++ O) held)).0 in
+        placed_more es l from (from + length bs) old L put (record { waiting = bundles_of (g ∷ G); leaving = bs }) g (G ++ O)
+        (group_is_place es l u w n.lower_divisor n.upper_divisor n.in_order m.done O g G held ordered m.mended beside
+        apart tied cut bs ranks perm (some_at g G e held_g)) R_as refl
+        (ap bundles_of R_as ∙ bundles_append (g ∷ G) O
+        ∙ ap (λ (xs : List Strand). bundles_of (g ∷ G) ++ bundles_of xs) (sym back_is))
+        (ap bundles_of front_is ∙ bundles_append (weakened (take from L)) (fresh bs)
+        ∙ ap₂ (λ (xs ys : List (List ℕ)). xs ++ ys) (bundles_weakened (take from L)) (bundles_fresh bs))
+        (subst (λ (xs : List Strand). Joins (LiesBefore es l) (record { waiting = bundles_of (g ∷ G); leaving = bs } ∷ [])
+        (map place_of xs)) (sym back_is)
+        (group_before es l u w n.lower_divisor n.upper_divisor n.in_order m.done O g G held ordered m.mended beside apart
+        tied cut bs ranks perm)) here cs (record { from = from; gone = gone; come = length bs } ∷ []) a
+        (changes (record { from = from; gone = gone; come = length bs }) []
+        (group_of es l (record { waiting = bundles_of (g ∷ G); leaving = bs })) []
+        (sym (o ∙ older_is es l (take count R)
+        ∙ ap (λ (xs : List Strand). length (came_from_below es l (bundles_of xs))) e)) refl (none (from + length bs)))
+        (AllByRecursion-append (StartsKeyless es l) (weakened (take from L)) (fresh bs ++ O)
+        (all_weakened (StartsKeyless es l) (λ s k _. refl) (take from L)
+        (subst (AllByRecursion (StartsKeyless es l)) D_is (front (StartsKeyless es l) m.done ((g ∷ G) ++ O)
+        (subst (AllByRecursion (StartsKeyless es l)) L_as a.keyless))))
+        (AllByRecursion-append (StartsKeyless es l) (fresh bs) O (fresh_keyless bs)
+        (back (StartsKeyless es l) (g ∷ G) O (back (StartsKeyless es l) m.done ((g ∷ G) ++ O)
+        (subst (AllByRecursion (StartsKeyless es l)) L_as a.keyless)))))
+      where
+        fresh_keyless : (cs : List (List ℕ)) → AllByRecursion (StartsKeyless es l) (fresh cs)
+        fresh_keyless [] = tt
+        fresh_keyless (c ∷ cs) = (λ _. refl, fresh_keyless cs)
+
+        here : from ≤ length L
+        here = omega (arith, some, within)
+
+        size_put : length (weakened (take from L) ++ fresh bs) ≡ from + length bs
+        size_put = length-append (weakened (take from L)) (fresh bs)
+            ∙ ap₂ (λ (a b : ℕ). a + b) (length_weakened (take from L) ∙ length-take-le from L here) (length_fresh bs)
+
+        put_is : put ≡ (weakened (take from L) ++ fresh bs) ++ O
+        put_is = sym (append_assoc (weakened (take from L)) (fresh bs) O)
+
+        front_put : take (from + length bs) put ≡ weakened (take from L) ++ fresh bs
+        front_put = ap (take (from + length bs)) put_is
+            ∙ take_at (weakened (take from L) ++ fresh bs) O (from + length bs) size_put
+
+        back_put : drop (from + length bs) put ≡ O
+        back_put = ap (drop (from + length bs)) put_is
+            ∙ drop_at (weakened (take from L) ++ fresh bs) O (from + length bs) size_put
+
     -- as the code puts it
+    pub placed_by : (W N new : List Strand) (end : ℕ) → W ≡ weakened (take from L) ++ drop from L → N ≡ fresh bs
+        → new ≡ take from W ++ (N ++ drop to W) → end ≡ from + length N → (old : List Strand) (cs : List Change)
+        (gone : ℕ) → gone ≡ older es l (drop from (take to L)) → ArePlacedTo es l from old L cs
+        → ArePlacedTo es l end old new (cs ++ record { from = from; gone = gone; come = end - from } ∷ [])
+    placed_by W N new end we ne e m old cs gone o a =
+        let here : from ≤ length L = omega (arith, some, within) in
+        let new-is : put ≡ new = sym (e ∙ put_between L from to W N (omega (arith, some)) here we
+        ∙ ap (λ (xs : List Strand). weakened (take from L) ++ (xs ++ O)) ne) in
+        let size : length N ≡ length bs = ap length ne ∙ length_fresh bs in
+        let end-is : from + length bs ≡ end = omega (arith, m, size) in
+        let come-is : length bs ≡ end - from = omega (arith, m, size) in
+        let parts : take count R ≡ drop from (take to L) =
+        sym (drop-take from count L) ∙ ap (λ (i : ℕ). drop from (take i L)) from_count in
+        subst (λ (i : ℕ). ArePlacedTo es l i old new
+        (cs ++ record { from = from; gone = gone; come = end - from } ∷ [])) end-is
+        (subst (λ (i : ℕ). ArePlacedTo es l (from + length bs) old new
+        (cs ++ record { from = from; gone = gone; come = i } ∷ [])) come-is
+        (subst (λ (xs : List Strand). ArePlacedTo es l (from + length bs) old xs
+        (cs ++ record { from = from; gone = gone; come = length bs } ∷ [])) new-is
+        (placed_group old (take count R) refl cs gone (o ∙ ap (older es l) (sym parts)) a)))
+
     pub regrouped_by : (W N new : List Strand) (end : ℕ) → W ≡ weakened (take from L) ++ drop from L → N ≡ fresh bs
         → new ≡ take from W ++ (N ++ drop to W) → end ≡ from + length N
         → AreMendedTo es l u end new × KeepTimes es l u L new × (length new - end < length L - from)

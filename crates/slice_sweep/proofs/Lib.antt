@@ -3,10 +3,13 @@ mod Keys
 mod Weakening
 mod Starting
 mod Mending
+mod Telling
+mod Placing
 mod Groups
 mod Waking
 mod Lifted
 mod Starts
+mod Begun
 mod RayOrder
 mod RayBundles
 mod RaySteps

@@ -42,6 +42,11 @@ module _ {A : Type 0} (R : A → A → Type 0) where
   joins_more (w ∷ []) x zs ys j = j
   joins_more (w ∷ (v ∷ xs)) x zs ys j = joins_more (v ∷ xs) x zs ys j
 
+  pub joins_less : (xs : List A) (x : A) (zs ys : List A) → Joins R (xs ++ (x ∷ zs)) ys → Joins R (x ∷ zs) ys
+  joins_less [] x zs ys j = j
+  joins_less (w ∷ []) x zs ys j = j
+  joins_less (w ∷ (v ∷ xs)) x zs ys j = joins_less (v ∷ xs) x zs ys j
+
   pub joins_first : (xs : List A) (y : A) (ys zs : List A) → Joins R xs (y ∷ ys) → Joins R xs (y ∷ zs)
   joins_first [] y ys zs j = tt
   joins_first (x ∷ []) y ys zs j = j

@@ -1,5 +1,5 @@
 -- One place after another is mended.
-use Rattle.std.proofs.Common.{◌≡◌, ℕ, ◌+◌, ◌<◌, inl, inr, Bool, true, List, [], ◌∷◌, ◌++◌, length, filter, refl, sym, ap, ap₂, ◌∙◌, arith, subst, append_assoc, IsPermutation}
+use Rattle.std.proofs.Common.{◌≡◌, ℕ, ◌+◌, ◌<◌, inl, inr, Bool, true, List, [], ◌∷◌, ◌++◌, map, length, filter, refl, sym, ap, ap₂, ◌∙◌, arith, subst, append_assoc, IsPermutation}
 use lib.IntN.{pos, ◌*ℤ◌}
 use lib.Signed.{◌<ℤ◌}
 use Rattle.std.specs.Prelude.{int_lt, int_le, ◌&&◌}
@@ -29,26 +29,28 @@ use Rattle.slice_slab.proofs.Times.{times_permuted, times_kept}
 use Rattle.slice_sweep.specs.declared.strand.Strand.{Strand}
 use Rattle.slice_sweep.specs.Keys.{stale}
 use Rattle.slice_sweep.specs.Chains.{Chain, Joins}
-use Rattle.slice_sweep.specs.Strands.{numbers_in, head, LiesLeft, LiesNotRight, IsTogether, IsReaching, IsHeld, AreHeld, AreApart, weakened, fresh, no_strand, strand_at}
+use Rattle.slice_sweep.specs.Strands.{bundles_of, numbers_in, head, LiesLeft, LiesNotRight, IsTogether, IsReaching, IsHeld, AreHeld, AreApart, weakened, fresh, no_strand, strand_at}
 use Rattle.slice_sweep.specs.Mending.{ComesBefore, AreMended, AreMendedTo, KeepTimes}
+use Rattle.slice_sweep.specs.Changes.{all_at}
+use Rattle.slice_sweep.specs.Places.{MeetsWith, group_of, IsPlace, LiesBefore, place_of}
 use Rattle.slice_sweep.proofs.Keys.{never_below}
 use Rattle.slice_sweep.proofs.Lists.{chain_append, chain_front, chain_back, chain_joins, chain_tail, joins_nil, joins_more, joins_first, joins_swap, joins_all, joins_map, chain_map, weaker}
-use Rattle.slice_sweep.proofs.Weakening.{length_weakened, length_fresh, chain_weakened, all_weakened, joins_weakened, held_put, ordered_put, times_strands, times_put}
+use Rattle.slice_sweep.proofs.Weakening.{bundles_fresh, length_weakened, length_fresh, chain_weakened, all_weakened, joins_weakened, held_put, ordered_put, times_strands, times_put}
 
 -- where an edge passes a height, as a number over its rise
 place : Level → Edge → Level
 place at e = record { n = x_at e at.n at.d; d = rise e }
 
 module _ (at : Level) (e f g : Edge) (de : pos 0 <ℤ rise e) (df : pos 0 <ℤ rise f) (dg : pos 0 <ℤ rise g) where
-  left_same : IsLeftAt at e f → IsSamePlaceAt at f g → IsLeftAt at e g
+  pub left_same : IsLeftAt at e f → IsSamePlaceAt at f g → IsLeftAt at e g
   unfolding place
   left_same h k = lower_same (place at e) (place at f) (place at g) de df dg h k
 
-  same_left : IsSamePlaceAt at e f → IsLeftAt at f g → IsLeftAt at e g
+  pub same_left : IsSamePlaceAt at e f → IsLeftAt at f g → IsLeftAt at e g
   unfolding place
   same_left h k = same_lower (place at e) (place at f) (place at g) de df dg h k
 
-  same_same : IsSamePlaceAt at e f → IsSamePlaceAt at f g → IsSamePlaceAt at e g
+  pub same_same : IsSamePlaceAt at e f → IsSamePlaceAt at f g → IsSamePlaceAt at e g
   unfolding place
   same_same h k = same_chain (place at e) (place at f) (place at g) de df dg h k
 
@@ -59,7 +61,7 @@ module _ (at : Level) (e f g : Edge) (de : pos 0 <ℤ rise e) (df : pos 0 <ℤ r
 weak : (at : Level) (e f : Edge) → IsLeftAt at e f → IsNotRightAt at e f
 weak at e f h = omega (arith, ints)
 
-turned : (at : Level) (e f : Edge) → IsSamePlaceAt at e f → IsSamePlaceAt at f e
+pub turned : (at : Level) (e f : Edge) → IsSamePlaceAt at e f → IsSamePlaceAt at f e
 turned at e f h = sym h
 
 strict : (at : Level) (e f : Edge) → IsNotRightAt at e f → (IsSamePlaceAt at e f → ⊥) → IsLeftAt at e f
@@ -77,7 +79,7 @@ before_weak at e f (inr h) = let h0 = h.0 in omega (arith, ints)
 pub edge_rises : (es : List LeafEdge) (l u : Level) (k : ℕ) → IsReaching es l u k → pos 0 <ℤ rise (edge_at es k)
 edge_rises es l u k r = (reaches_is (edge_at es k) l u r.reaches).rises
 
-head_rises : (es : List LeafEdge) (at l u : Level) (b : List ℕ) → IsBundle es at b
+pub head_rises : (es : List LeafEdge) (at l u : Level) (b : List ℕ) → IsBundle es at b
     → AllByRecursion (IsReaching es l u) b → pos 0 <ℤ rise (head es b)
 head_rises es at l u [] b r = absurd b
 head_rises es at l u (k ∷ ks) b r = edge_rises es l u k r.0
@@ -444,3 +446,26 @@ module _ (es : List LeafEdge) (l u : Level) (w : IsLevelWithin coordinate_limit 
       where
         sums : (a b c d e f h : ℕ) → a ≡ b + (c + d) → e ≡ b + f → f ≡ h + d → c ≡ h → a ≡ e
         sums a b c d e f h p q s t = omega arith
+
+    -- ---- as a place
+    heads_meet : (ss : List Strand) → AllByRecursion (IsHeadAt es l x) ss
+        → AllByRecursion (MeetsWith es l x) (bundles_of ss)
+    heads_meet [] h = tt
+    heads_meet (s ∷ ss) h = ((h.0.rises, h.0.same), heads_meet ss h.1)
+
+    pub group_is_place : (all_at (group_of es l (record { waiting = bundles_of (g ∷ G); leaving = bs })) ≡ [] → ⊥)
+        → IsPlace es l (record { waiting = bundles_of (g ∷ G); leaving = bs })
+    group_is_place some = record {
+      rises = dx;
+      waiting = heads_meet (g ∷ G) all_G;
+      leaving = subst (AllByRecursion (MeetsWith es l x)) (bundles_fresh bs) (heads_meet N heads_N);
+      some = some;
+    }
+
+    pub group_before : Joins (LiesBefore es l) (record { waiting = bundles_of (g ∷ G); leaving = bs } ∷ []) (map place_of O)
+    group_before = by_rest O refl
+      where
+        by_rest : (O' : List Strand) → O ≡ O'
+            → Joins (LiesBefore es l) (record { waiting = bundles_of (g ∷ G); leaving = bs } ∷ []) (map place_of O')
+        by_rest [] e = tt
+        by_rest (o ∷ os) e = (O_behind o os e).1

@@ -1,6 +1,6 @@
 -- What a height changes of the strands: the groups of strands that meet it at one place, below it and above it, and
 -- which of them a list of changes tells.
-use Rattle.std.specs.Prelude.{Bool, false, ◌≡◌, List, [], ◌∷◌, ◌++◌, ℕ, zero, suc, ◌+◌, ◌*ℤ◌, length, if◌then◌else◌}
+use Rattle.std.specs.Prelude.{Bool, ◌≡◌, List, [], ◌∷◌, ◌++◌, ℕ, zero, suc, ◌+◌, ◌*ℤ◌, length, if◌then◌else◌}
 use Rattle.std.specs.List.{AllByRecursion}
 use Rattle.std.specs.Ordering.{int_eq}
 use Rattle.scad_geom.specs.declared.level.Level.{Level}

@@ -1,8 +1,10 @@
 -- The front of a sweep: the bundles that have reached a height, and the edges that start later.
-use Rattle.std.specs.Prelude.{List, ◌++◌, drop, ℕ, ◌<◌, ◌≤◌, ◌≡◌, true, length, pos, ◌<ℤ◌}
+use Rattle.std.specs.Prelude.{List, ◌++◌, drop, ℕ, ◌<◌, ◌≤◌, ◌≡◌, true, length, pos, ◌<ℤ◌, All}
+use Rattle.std.specs.List.{AllByRecursion}
 use Rattle.scad_geom.specs.declared.level.Level.{Level}
 use Rattle.scad_geom.specs.declared.level.LeafEdge.{LeafEdge}
-use Rattle.scad_geom.specs.Level.{IsAtMost}
+use Rattle.scad_geom.specs.Line.{low}
+use Rattle.scad_geom.specs.Level.{level_of, IsLower, IsAtMost}
 use Rattle.slice_slab.specs.declared.start.Start.{Start}
 use Rattle.slice_slab.specs.Bundles.{edge_at, reaches}
 use Rattle.slice_slab.specs.Starts.{AreStarts, AreRising, numbers_of}
@@ -29,3 +31,16 @@ pub record IsReadyFor (edges : List LeafEdge) (at : Level) (f : Front) : Type 0 
   pub waiting : AreWaiting edges at f.strands.items
   pub later : (h : Level) → pos 0 <ℤ h.d → IsAtMost at h
       → AreAll edges h (numbers_in f.strands.items) (starts_of (drop f.begun f.ends.items))
+
+-- edges of which none starts below a height
+abbrev pub StartFrom : Level → List LeafEdge → Type 0
+StartFrom at edges = All (λ e. IsAtMost at (level_of (low e.edge).y)) edges
+
+-- the edge of a number starts below a height
+abbrev pub StartsBelow : List LeafEdge → Level → ℕ → Type 0
+StartsBelow edges at k = IsLower (level_of (low (edge_at edges k)).y) at
+
+-- it holds the edges that start below a height, and none of those that are pending does
+pub record IsBegunTo (edges : List LeafEdge) (at : Level) (f : Front) : Type 0 where
+  pub live : AllByRecursion (StartsBelow edges at) (numbers_in f.strands.items)
+  pub pending : AllByRecursion (λ s. IsAtMost at (level_of s.y)) (starts_of (drop f.begun f.ends.items))

@@ -6,3 +6,4 @@ pub mod LowerEnds
 pub mod Front
 pub mod Rays
 pub mod Changes
+pub mod Places

@@ -1,8 +1,8 @@
 //! Strands that meet a height at one place.
-ghost use Rattle.std.specs.Prelude.{◌≡◌, ◌<◌, ◌≤◌, ◌+◌, ◌++◌, ◌*ℤ◌, int_le, ℕ, true, take, drop, length, IfOk, All};
-ghost use Rattle.std.specs.Ordering.{int_eq};
+ghost use Rattle.std.specs.Prelude.{◌≡◌, ◌<◌, ◌≤◌, ◌+◌, ◌++◌, ◌∷◌, [], ◌*ℤ◌, int_le, ℕ, true, take, drop, length, IfOk, All};
+ghost use Rattle.std.specs.Ordering.{int_eq, int_cmp};
 ghost use Rattle.scad_geom.specs.Limits.{coordinate_limit};
-ghost use Rattle.scad_geom.specs.Line.{high, rise, x_at};
+ghost use Rattle.scad_geom.specs.Line.{low, high, rise, x_at};
 ghost use Rattle.scad_geom.specs.Within.{IsEdgeWithin};
 ghost use Rattle.scad_geom.specs.Level.{IsLevelWithin};
 ghost use Rattle.slice_slab.specs.Bundles.{edge_at};
@@ -15,7 +15,7 @@ use crate::strand::Strand;
 use crate::wake::head;
 use scad_geom::line::{ends_from, low};
 use scad_geom::wide::times;
-use scad_geom::{LeafEdge, Level, cmp_x_at};
+use scad_geom::{Edge, LeafEdge, Level, cmp_x_at};
 use std::alloc::AllocError;
 use std::cmp::Ordering;
 
@@ -102,11 +102,17 @@ pub(crate) fn older(step: &Step<'_>, strands: &[Strand], from: usize, to: usize)
 {
     let mut count = 0;
     'strands: for i in from..to {
-        if !has_started(step, &strands[i]) {
-            count += 1;
-        }
+        count += older_one(step, &strands[i]);
     }
     count
+}
+
+fn older_one(step: &Step<'_>, s: &Strand) -> usize
+    requires { All (λ k. k < length step.now.edges.now) s.now.bundle }
+    ensures value { result ≡ older step.now.edges.now step.now.lower.now (s.now ∷ []) }
+    ensures most { result ≤ 1 }
+{
+    if has_started(step, s) { 0 } else { 1 }
 }
 
 // Whether a strand's first edge starts at the lower height.
@@ -114,6 +120,14 @@ fn has_started(step: &Step<'_>, s: &Strand) -> bool
     requires { All (λ k. k < length step.now.edges.now) s.now.bundle }
     ensures { result ≡ has_started step.now.edges.now step.now.lower.now s.now.bundle }
 {
-    let e = head(step.edges, &s.bundle);
-    times::<21, 44>(low(&e).y as i128, step.lower.d) == step.lower.n
+    matches!(by_start(&head(step.edges, &s.bundle), step.lower), Ordering::Equal)
+}
+
+// How the height where an edge starts compares to a height.
+fn by_start(e: &Edge, at: &Level) -> Ordering
+    requires edge { IsEdgeWithin coordinate_limit e.now }
+    requires at { IsLevelWithin coordinate_limit at.now }
+    ensures { result ≡ int_cmp ((low e.now).y *ℤ at.now.d) at.now.n }
+{
+    times::<21, 44>(low(e).y as i128, at.d).cmp(&at.n)
 }

@@ -6,7 +6,8 @@ ghost use Rattle.scad_geom.specs.Within.{IsEdgeWithin};
 ghost use Rattle.scad_geom.specs.Level.{IsLevelWithin};
 ghost use Rattle.scad_geom.specs.Heights.{AreNeighbours};
 ghost use Rattle.slice_slab.specs.Bundles.{AreBundles};
-ghost use Rattle.slice_sweep.specs.Front.{bundles_in, IsReadyFor};
+ghost use Rattle.slice_sweep.specs.Changes.{AreChanges};
+ghost use Rattle.slice_sweep.specs.Front.{bundles_in, IsReadyFor, StartFrom, IsBegunTo};
 
 use crate::change::Change;
 use crate::front::Front;
@@ -24,7 +25,8 @@ impl Front {
     pub fn new(alloc: Global, edges: &[LeafEdge]) -> Result<Front, AllocError>
         requires within { All (λ e. IsEdgeWithin coordinate_limit e.edge) edges.now }
         requires few { length edges.now < 2 ^ 32 }
-        ensures { IfOk result (λ f. (at : Level) → IsReadyFor edges.now at f) }
+        ensures ready { IfOk result (λ f. (at : Level) → IsReadyFor edges.now at f) }
+        ensures begun { IfOk result (λ f. (at : Level) → StartFrom at edges.now → IsBegunTo edges.now at f) }
     {
         Ok(Front {
             alloc,
@@ -49,6 +51,9 @@ impl Front {
         requires ready { IsReadyFor edges.now lower.now self.old }
         ensures bundles { OnOk result (AreBundles edges.now lower.now upper.now (bundles_in self.new)) }
         ensures ready { OnOk result (IsReadyFor edges.now upper.now self.new) }
+        ensures begun { OnOk result (IsBegunTo edges.now upper.now self.new) }
+        ensures changes { IfOk result (λ v. IsBegunTo edges.now lower.now self.old
+            → AreChanges edges.now lower.now (bundles_in self.old) (bundles_in self.new) v.items) }
     {
         let mut numbers = Vec::new(self.alloc);
         self.begun = begin(&mut numbers, &self.ends, self.begun, lower)?;
@@ -60,8 +65,7 @@ impl Front {
             upper,
             key: key_of(lower),
         };
-        let mut changes = Vec::new(self.alloc);
-        mend(&step, &mut self.strands, &mut changes)?;
+        let changes = mend(&step, &mut self.strands)?;
         wake_all(&step, &mut self.strands);
         Ok(changes)
     }

@@ -1,12 +1,16 @@
 //! The strands at a height, mended one place after another.
-ghost use Rattle.std.specs.Prelude.{◌≡◌, ◌<◌, ◌+◌, ◌-◌, ◌*ℤ◌, ◌++◌, int_le, true, length, IfOk, OnOk, All};
+ghost use Rattle.std.specs.Prelude.{◌≡◌, ◌<◌, ◌≤◌, ◌+◌, ◌-◌, ◌*ℤ◌, ◌++◌, ◌∷◌, [], int_le, true, ℕ, List, take, drop, length, IfOk, OnOk, All};
+ghost use Rattle.std.specs.List.{AllByRecursion};
 ghost use Rattle.scad_geom.specs.Line.{high};
 ghost use Rattle.scad_geom.specs.Heights.{AreNeighbours};
 ghost use Rattle.slice_slab.specs.Bundles.{edge_at};
 ghost use Rattle.slice_sweep.specs.Keys.{IsBelowKey};
-ghost use Rattle.slice_sweep.specs.Strands.{AreWaiting, AreThere, strand_at};
+ghost use Rattle.slice_sweep.specs.declared.change.Change.{Change};
+ghost use Rattle.slice_sweep.specs.declared.strand.Strand.{Strand};
+ghost use Rattle.slice_sweep.specs.Strands.{AreWaiting, AreThere, bundles_of, strand_at};
 ghost use Rattle.slice_sweep.specs.Mending.{AreOrdered, AreMendedTo, KeepTimes, IsGroup};
-ghost use Rattle.slice_sweep.specs.Changes.{started};
+ghost use Rattle.slice_sweep.specs.Changes.{AreChanges, older, started};
+ghost use Rattle.slice_sweep.specs.Places.{came_from_below, StartsKeyless, ArePlacedTo};
 
 use crate::change::Change;
 use crate::group::{goes_on, group_end, members, older};
@@ -17,23 +21,24 @@ use crate::strand::Strand;
 use std::alloc::AllocError;
 
 /// Puts the strands at the lower height into the order that they have above it, and tells what changes.
-pub(crate) fn mend(
-    step: &Step<'_>,
-    strands: &mut Vec<Strand>,
-    changes: &mut Vec<Change>,
-) -> Result<(), AllocError>
+pub(crate) fn mend(step: &Step<'_>, strands: &mut Vec<Strand>) -> Result<Vec<Change>, AllocError>
     requires neighbours { AreNeighbours step.now.edges.now step.now.lower.now step.now.upper.now }
     requires waiting { AreWaiting step.now.edges.now step.now.lower.now strands.old.items }
     ensures ordered { OnOk result
         (AreOrdered step.now.edges.now step.now.lower.now step.now.upper.now strands.new.items) }
     ensures numbers { OnOk result (KeepTimes step.now.edges.now step.now.lower.now step.now.upper.now
         strands.old.items strands.new.items) }
+    ensures changes { IfOk result (λ v. AllByRecursion (StartsKeyless step.now.edges.now step.now.lower.now)
+        strands.old.items → AreChanges step.now.edges.now step.now.lower.now
+        (came_from_below step.now.edges.now step.now.lower.now (bundles_of strands.old.items))
+        (bundles_of strands.new.items) v.items) }
 {
+    let mut changes = Vec::new(step.alloc);
     let mut place = 0;
     'places: while place < strands.len() {
-        place = mend_at(step, strands, changes, place)?;
+        place = mend_at(step, strands, &mut changes, place)?;
     }
-    Ok(())
+    Ok(changes)
 }
 
 // Mends the strands that lie at one place with the first that isn't mended, and gives the place behind them.
@@ -51,6 +56,9 @@ fn mend_at(
     ensures numbers { OnOk result (KeepTimes step.now.edges.now step.now.lower.now step.now.upper.now
         strands.old.items strands.new.items) }
     ensures fewer { IfOk result (λ n. length strands.new.items - n < length strands.old.items - place) }
+    ensures told { IfOk result (λ n. (all : List Strand)
+        → ArePlacedTo step.now.edges.now step.now.lower.now place all strands.old.items changes.old.items
+        → ArePlacedTo step.now.edges.now step.now.lower.now n all strands.new.items changes.new.items) }
 {
     if is_asleep(step, strands, place) {
         return Ok(place + 1);
@@ -72,6 +80,9 @@ fn mend_awake(
     ensures numbers { OnOk result (KeepTimes step.now.edges.now step.now.lower.now step.now.upper.now
         strands.old.items strands.new.items) }
     ensures fewer { IfOk result (λ n. length strands.new.items - n < length strands.old.items - place) }
+    ensures told { IfOk result (λ n. (all : List Strand)
+        → ArePlacedTo step.now.edges.now step.now.lower.now place all strands.old.items changes.old.items
+        → ArePlacedTo step.now.edges.now step.now.lower.now n all strands.new.items changes.new.items) }
 {
     let end = group_end(step, strands, place);
     let gone = older(step, strands, place, end);
@@ -80,7 +91,7 @@ fn mend_awake(
         return Ok(place + 1);
     }
     let behind = regroup(step, strands, place, end)?;
-    changes.push(Change {
+    tell(changes, Change {
         from: place,
         gone,
         come: behind - place,
@@ -93,12 +104,19 @@ fn tell_start(changes: &mut Vec<Change>, place: usize, gone: usize) -> Result<()
     ensures { OnOk result (changes.new.items ≡ changes.old.items ++ started place gone) }
 {
     if gone == 0 {
-        changes.push(Change {
+        tell(changes, Change {
             from: place,
             gone: 0,
             come: 1,
         })?;
     }
+    Ok(())
+}
+
+fn tell(changes: &mut Vec<Change>, change: Change) -> Result<(), AllocError>
+    ensures { OnOk result (changes.new.items ≡ changes.old.items ++ change ∷ []) }
+{
+    changes.push(change)?;
     Ok(())
 }
 
@@ -143,6 +161,12 @@ fn regroup(
     ensures numbers { OnOk result (KeepTimes step.now.edges.now step.now.lower.now step.now.upper.now
         strands.old.items strands.new.items) }
     ensures fewer { IfOk result (λ n. length strands.new.items - n < length strands.old.items - from) }
+    ensures behind { IfOk result (λ n. from ≤ n) }
+    ensures told { IfOk result (λ n. (all : List Strand) (cs : List Change) (gone : ℕ)
+        → gone ≡ older step.now.edges.now step.now.lower.now (drop from (take to strands.old.items))
+        → ArePlacedTo step.now.edges.now step.now.lower.now from all strands.old.items cs
+        → ArePlacedTo step.now.edges.now step.now.lower.now n all strands.new.items
+        (cs ++ record { from = from; gone = gone; come = n - from } ∷ [])) }
 {
     let numbers = members(step, strands, from, to)?;
     let bundles = leaving(step, &numbers)?;

@@ -5,7 +5,9 @@ ghost use Rattle.scad_geom.specs.Within.{IsEdgeWithin};
 ghost use Rattle.scad_geom.specs.Level.{IsLevelWithin};
 ghost use Rattle.slice_slab.specs.Active.{times};
 ghost use Rattle.slice_slab.specs.Bundles.{edge_at, reaches};
-ghost use Rattle.slice_sweep.specs.Strands.{numbers_in, fresh, AreWaiting, IsReaching};
+ghost use Rattle.std.specs.List.{AllByRecursion};
+ghost use Rattle.slice_sweep.specs.Strands.{bundles_of, numbers_in, fresh, AreWaiting, IsReaching};
+ghost use Rattle.slice_sweep.specs.Places.{came_from_below, StartsKeyless, StartsAt};
 
 use crate::key::STALE;
 use crate::leave::reaches;
@@ -30,6 +32,11 @@ pub(crate) fn start_all(
     ensures waiting { OnOk result (AreWaiting edges.now at.now strands.new.items) }
     ensures numbers { OnOk result ((k : ℕ) → reaches (edge_at edges.now k) at.now at.now ≡ true
         → times k (numbers_in strands.new.items) ≡ times k (numbers_in strands.old.items) + times k numbers.now) }
+    ensures below { OnOk result (All (StartsAt edges.now at.now) numbers.now
+        → came_from_below edges.now at.now (bundles_of strands.new.items)
+        ≡ came_from_below edges.now at.now (bundles_of strands.old.items)) }
+    ensures keyless { OnOk result (AllByRecursion (StartsKeyless edges.now at.now) strands.old.items
+        → AllByRecursion (StartsKeyless edges.now at.now) strands.new.items) }
 {
     'numbers: for k in numbers {
         start(edges, strands, *k, at)?;
@@ -51,6 +58,11 @@ fn start(
     ensures waiting { OnOk result (AreWaiting edges.now at.now strands.new.items) }
     ensures numbers { OnOk result ((j : ℕ) → reaches (edge_at edges.now j) at.now at.now ≡ true
         → times j (numbers_in strands.new.items) ≡ times j (numbers_in strands.old.items) + times j (k ∷ [])) }
+    ensures below { OnOk result (StartsAt edges.now at.now k
+        → came_from_below edges.now at.now (bundles_of strands.new.items)
+        ≡ came_from_below edges.now at.now (bundles_of strands.old.items)) }
+    ensures keyless { OnOk result (AllByRecursion (StartsKeyless edges.now at.now) strands.old.items
+        → AllByRecursion (StartsKeyless edges.now at.now) strands.new.items) }
 {
     if !reaches(&edges[k as usize].edge, at, at) {
         return Ok(());
@@ -71,6 +83,11 @@ fn begin_at(
     ensures waiting { OnOk result (AreWaiting edges.now at.now strands.new.items) }
     ensures numbers { OnOk result ((j : ℕ) → times j (numbers_in strands.new.items)
         ≡ times j (numbers_in strands.old.items) + times j (k ∷ [])) }
+    ensures below { OnOk result (StartsAt edges.now at.now k
+        → came_from_below edges.now at.now (bundles_of strands.new.items)
+        ≡ came_from_below edges.now at.now (bundles_of strands.old.items)) }
+    ensures keyless { OnOk result (AllByRecursion (StartsKeyless edges.now at.now) strands.old.items
+        → AllByRecursion (StartsKeyless edges.now at.now) strands.new.items) }
 {
     let i = place(edges, strands, k, at);
     weaken(strands, i);

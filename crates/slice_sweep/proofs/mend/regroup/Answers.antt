@@ -7,7 +7,7 @@ use Rattle.slice_sweep.specs.declared.strand.Strand.{Strand}
 use Rattle.slice_sweep.specs.Strands.{numbers_in}
 use Rattle.slice_sweep.specs.Mending.{AreMendedTo, KeepTimes}
 use Rattle.slice_sweep.proofs.Weakening.{weakened_length}
-use Rattle.slice_sweep.proofs.Groups.{group_there, group_together, regrouped_by}
+use Rattle.slice_sweep.proofs.Groups.{group_there, group_together, placed_by, regrouped_by}
 use Rattle.slice_sweep.proofs.mend.regroup.Goals as goal
 use Rattle.slice_sweep.proofs.mend.regroup.Goals.{After-drop-numbers-2}
 
@@ -68,3 +68,19 @@ returns-clause-numbers c = (put c).1
 
 pub returns-clause-fewer : goal.returns-clause-fewer
 returns-clause-fewer c = (put c).2
+
+pub returns-clause-told : goal.returns-clause-told
+returns-clause-told c all cs gone o a =
+    let s = c.args.step.now in
+    let L : List Strand = c.args.strands.now.items in
+    let split = subst (λ (xs : List Strand). c.in_ok-numbers.numbers.items ++ numbers_in (drop c.args.to xs)
+    ≡ numbers_in (drop c.args.from xs)) c.deref.ensures.value c.in_ok-numbers.ensures in
+    let same = subst (λ (ks : List ℕ). IsPermutation
+    (filter (λ k. reaches (edge_at s.edges.now k) s.lower.now s.upper.now) ks) (concat c.in_ok-bundles.bundles.items))
+    c.deref-2.ensures.value c.in_ok-bundles.ensures.members in
+    let long : c.len.result ≡ length c.in_ok-others.others.items = search rules in
+    placed_by s.edges.now s.lower.now s.upper.now s.lower_within c.requires.neighbours c.args.from c.args.to L
+    c.requires.mended c.requires.group c.in_ok-numbers.numbers.items split c.in_ok-bundles.bundles.items
+    c.in_ok-bundles.ensures.ranked same c.weaken.new.strands.items c.in_ok-others.others.items
+    c.replace.new.strands.items (c.args.from + c.len.result) c.weaken.ensures c.in_ok-others.ensures
+    c.in_ok-replace.ensures (ap (λ (n : ℕ). c.args.from + n) long) all cs gone o a

@@ -5,6 +5,7 @@ use Rattle.slice_sweep.specs.declared.strand.Strand.{Strand}
 use Rattle.slice_sweep.specs.Strands.{AreThere}
 use Rattle.slice_sweep.proofs.Groups.{there_of}
 use Rattle.slice_sweep.proofs.Starting.{started_by}
+use Rattle.slice_sweep.proofs.Begun.{begun_below, begun_keyless}
 use Rattle.slice_sweep.proofs.Weakening.{weakened_length}
 use Rattle.slice_sweep.proofs.start.begin_at.Goals as goal
 
@@ -27,6 +28,20 @@ returns-clause-numbers c = on_ok_weaker c.insert.result
     c.weaken.new.strands.items c.insert.new.strands.items c.place-i.result c.args.k c.deref.ensures.value
     c.place-i.ensures.within c.requires.reaching c.place-i.ensures.left c.place-i.ensures.right c.requires.waiting
     c.weaken.ensures e).1)
+    c.insert.ensures
+
+pub returns-clause-below : goal.returns-clause-below
+returns-clause-below c = on_ok_weaker c.insert.result
+    (λ e h. begun_below c.args.edges.now c.args.at.now c.args.strands.now.items c.deref.result.now
+    c.weaken.new.strands.items c.insert.new.strands.items c.place-i.result c.args.k c.deref.ensures.value
+    c.place-i.ensures.within c.weaken.ensures e h)
+    c.insert.ensures
+
+pub returns-clause-keyless : goal.returns-clause-keyless
+returns-clause-keyless c = on_ok_weaker c.insert.result
+    (λ e h. begun_keyless c.args.edges.now c.args.at.now c.args.strands.now.items c.deref.result.now
+    c.weaken.new.strands.items c.insert.new.strands.items c.place-i.result c.args.k c.deref.ensures.value
+    c.place-i.ensures.within c.weaken.ensures e h)
     c.insert.ensures
 
 pub insert-requires : goal.insert-requires

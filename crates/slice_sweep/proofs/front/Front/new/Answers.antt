@@ -4,12 +4,14 @@ use Rattle.slice_slab.specs.declared.start.Start.{Start}
 use Rattle.slice_sweep.specs.declared.strand.Strand.{Strand}
 use Rattle.slice_sweep.specs.LowerEnds.{starts_of}
 use Rattle.slice_sweep.specs.Strands.{numbers_in, AreWaiting}
-use Rattle.slice_sweep.specs.Front.{AreAll}
+use Rattle.std.specs.List.{AllByRecursion}
+use Rattle.slice_sweep.specs.Front.{AreAll, StartsBelow}
+use Rattle.slice_sweep.proofs.Begun.{starts_from}
 use Rattle.slice_sweep.proofs.Lifted.{none_yet, none_waiting}
 use Rattle.slice_sweep.proofs.front.Front.new.Goals as goal
 
-pub returns : goal.returns
-returns c =
+pub returns-clause-ready : goal.returns-clause-ready
+returns-clause-ready c =
     let es = c.args.edges.now in
     let starts : List Start = starts_of c.in_ok-lower_ends.field-0.items in
     λ at. record {
@@ -19,4 +21,13 @@ returns c =
       waiting = subst (AreWaiting es at) (sym c.new.ensures.items) (none_waiting es at);
       later = λ h d o. subst (λ (ss : List Strand). AreAll es h (numbers_in ss) starts) (sym c.new.ensures.items)
           (none_yet es h starts c.in_ok-lower_ends.ensures.all);
+    }
+
+pub returns-clause-begun : goal.returns-clause-begun
+returns-clause-begun c =
+    let es = c.args.edges.now in
+    λ at h. record {
+      live = subst (λ (ss : List Strand). AllByRecursion (StartsBelow es at) (numbers_in ss)) (sym c.new.ensures.items)
+          tt;
+      pending = starts_from es at h (starts_of c.in_ok-lower_ends.field-0.items) c.in_ok-lower_ends.ensures.starts;
     }
