@@ -120,7 +120,10 @@ fn has_started(step: &Step<'_>, s: &Strand) -> bool
     requires { All (λ k. k < length step.now.edges.now) s.now.bundle }
     ensures { result ≡ has_started step.now.edges.now step.now.lower.now s.now.bundle }
 {
-    matches!(by_start(&head(step.edges, &s.bundle), step.lower), Ordering::Equal)
+    matches!(
+        by_start(&head(step.edges, &s.bundle), step.lower),
+        Ordering::Equal
+    )
 }
 
 // How the height where an edge starts compares to a height.

@@ -91,11 +91,14 @@ fn mend_awake(
         return Ok(place + 1);
     }
     let behind = regroup(step, strands, place, end)?;
-    tell(changes, Change {
-        from: place,
-        gone,
-        come: behind - place,
-    })?;
+    tell(
+        changes,
+        Change {
+            from: place,
+            gone,
+            come: behind - place,
+        },
+    )?;
     Ok(behind)
 }
 
@@ -104,11 +107,14 @@ fn tell_start(changes: &mut Vec<Change>, place: usize, gone: usize) -> Result<()
     ensures { OnOk result (changes.new.items ≡ changes.old.items ++ started place gone) }
 {
     if gone == 0 {
-        tell(changes, Change {
-            from: place,
-            gone: 0,
-            come: 1,
-        })?;
+        tell(
+            changes,
+            Change {
+                from: place,
+                gone: 0,
+                come: 1,
+            },
+        )?;
     }
     Ok(())
 }
