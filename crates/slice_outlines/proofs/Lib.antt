@@ -7,6 +7,8 @@ mod Standing
 mod Joining
 mod Stopping
 mod Shifting
+mod Taking
+mod Valuing
 mod Sought
 mod Placing
 mod Onward

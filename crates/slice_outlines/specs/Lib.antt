@@ -8,5 +8,6 @@ pub mod Cursor
 pub mod Flats
 pub mod Stops
 pub mod Heights
+pub mod Valued
 pub mod Along
 pub mod Sweep

@@ -1,7 +1,6 @@
 //! The marks of the strands above a height.
-ghost use Rattle.std.specs.Prelude.{◌≡◌, ◌≤◌, ◌+◌, ◌++◌, List, map, take, drop, length, IfOk, OnOk};
+ghost use Rattle.std.specs.Prelude.{◌≡◌, ◌≤◌, ◌+◌, ◌-◌, ◌++◌, map, take, drop, length, IfOk, OnOk};
 ghost use Rattle.slice_sweep.specs.Front.{bundles_in};
-ghost use Rattle.slice_sweep.specs.Changes.{Group, Tell, all_above};
 ghost use Rattle.slice_outlines.specs.Above.{IsTold, AreTaken, new_mark, name_of};
 
 use crate::mark::Mark;
@@ -18,19 +17,40 @@ pub(crate) fn marks_above(
     changes: &[Change],
 ) -> Result<Vec<Mark>, AllocError>
     requires told { IsTold below.now (bundles_in front.now) changes.now }
-    ensures { (gs : List Group) → Tell 0 changes.now gs → all_above gs ≡ bundles_in front.now
-        → IfOk result (λ v. AreTaken gs below.now v.items) }
+    ensures { (t : IsTold below.now (bundles_in front.now) changes.now)
+        → IfOk result (λ v. AreTaken t.groups below.now v.items) }
 {
     let mut above = Vec::with_capacity(alloc, front.count())?;
     let mut passed = 0;
     'changes: for change in changes {
-        let to = passed + (change.from - above.len());
-        above.extend_from_slice(&below[passed..to])?;
-        push_new(&mut above, front, change)?;
-        passed = to + change.gone;
+        passed = push_group(&mut above, below, front, change, passed)?;
     }
     above.extend_from_slice(&below[passed..])?;
     Ok(above)
+}
+
+// The marks of the strands that stay on the way to a change, and of those that come there. Gives how many strands below
+// the height are passed.
+fn push_group(
+    above: &mut Vec<Mark>,
+    below: &[Mark],
+    front: &Front,
+    change: &Change,
+    passed: usize,
+) -> Result<usize, AllocError>
+    requires from { length above.old.items ≤ change.now.from }
+    requires below { passed + (change.now.from - length above.old.items) + change.now.gone ≤ length below.now }
+    requires above { change.now.from + change.now.come ≤ length (bundles_in front.now) }
+    ensures passed { IfOk result
+        (λ n. n ≡ passed + (change.now.from - length above.old.items) + change.now.gone) }
+    ensures marks { OnOk result (above.new.items
+        ≡ (above.old.items ++ take (change.now.from - length above.old.items) (drop passed below.now))
+        ++ map new_mark (take change.now.come (drop change.now.from (bundles_in front.now)))) }
+{
+    let to = passed + (change.from - above.len());
+    above.extend_from_slice(&below[passed..to])?;
+    push_new(above, front, change)?;
+    Ok(to + change.gone)
 }
 
 fn push_new(above: &mut Vec<Mark>, front: &Front, change: &Change) -> Result<(), AllocError>
