@@ -12,3 +12,5 @@ mod Valuing
 mod Sought
 mod Placing
 mod Onward
+mod Covering
+mod Rounding

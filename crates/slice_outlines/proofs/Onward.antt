@@ -10,6 +10,7 @@ use Rattle.scad_geom.specs.declared.point.Pt.{Pt}
 use Rattle.scad_geom.specs.declared.point.Edge.{Edge}
 use Rattle.scad_geom.specs.declared.level.Level.{Level}
 use Rattle.scad_geom.specs.declared.level.LeafEdge.{LeafEdge}
+use Rattle.scad_geom.proofs.Order.{front, back}
 use Rattle.winding_laws.specs.Edges.{rounded}
 use Rattle.slice_slab.specs.Bundles.{edge_at}
 use Rattle.slice_snap.specs.declared.piece.Spot.{Spot}
@@ -28,10 +29,13 @@ use Rattle.slice_outlines.specs.declared.run.Run.{Run}
 use Rattle.slice_outlines.specs.declared.flat.Flat.{Flat}
 use Rattle.slice_outlines.specs.declared.cursor.Cursor.{Cursor}
 use Rattle.slice_outlines.specs.declared.height.Height.{Height}
-use Rattle.slice_outlines.specs.Marks.{spot_at, no_mark, mark_at, left_of_first, IsNamed, IsKept, AreKept, begun, begun_in}
+use Rattle.slice_outlines.specs.declared.passing.Beside.{Beside}
+use Rattle.slice_outlines.specs.declared.stretch.Along.{Along}
+use Rattle.slice_outlines.specs.Marks.{spot_at, no_mark, mark_at, left_of_first, IsNamed, IsKept, AreKept, begun, begun_in, names_in}
 use Rattle.slice_outlines.specs.Passing.{courses, or_none, IsCourseOf, start_of, ended_at}
-use Rattle.slice_outlines.specs.Heights.{Onwards}
-use Rattle.slice_outlines.specs.Along.{course_along, least, begun_at, value_over, LeadTo, BeginAt, ArePlacesFrom, HasComeOver, IsNameTo}
+use Rattle.slice_outlines.specs.Places.{ins_in, outs_in}
+use Rattle.slice_outlines.specs.Heights.{Onwards, IsRunOf}
+use Rattle.slice_outlines.specs.Along.{course_along, least, begun_at, value_over, LeadTo, BeginAt, ArePlacesFrom, HasComeOver, IsNameTo, RoundAlike}
 use Rattle.slice_outlines.proofs.Placing.{IsLike, EndsAt, RoundsTo, AreNamed, begun_ways, zip_append, all_append, first_kept, same_pass, IsPlace, PlacePasses, place_passes}
 
 -- ---- parts of a list
@@ -470,3 +474,113 @@ module _ (on : Onwards) (passed : List Spot) (s : Spot) (ts : List Spot) (run : 
             (IsPermutation-append (on.given ++ done) given ended ended come.edges (IsPermutation-refl ended));
         stands = come.stands;
       }
+
+-- ---- a part of a height, as the code passes it
+beside_is : (b : Beside) (v w : Bool) (ins outs : Option Course) (p : Pt) → b.below ≡ v → b.above ≡ w → b.flat_in ≡ ins
+    → b.flat_out ≡ outs → b.at ≡ p
+    → b ≡ record { below = v; above = w; flat_in = ins; flat_out = outs; at = p }
+beside_is b v w ins outs p e0 e1 e2 e3 e4 =
+    λ i. record { below = e0 i; above = e1 i; flat_in = e2 i; flat_out = e3 i; at = e4 i }
+
+-- what is known of a run, of what lies beside it, and of what passing it gave
+pub record IsRunPassed (h : Height) (below : List Strand) (s : Spot) (later : List Spot) (a : Along) (run : Run) (b : Beside)
+    (marks : List Mark) (given : List Edge) (from : Pt) (edges : List Edge) : Type 0 where
+  pub kept : AreKept false h.below.now below
+  pub run_of : IsRunOf h.below.now marks run
+  pub above_to : run.above_to ≤ a.run.above_to
+  pub from_below : run.below ≡ a.below
+  pub from_above : run.above ≡ a.above
+  pub value_below : b.below ≡ left_of_first (drop run.below_to h.below.now) false
+  pub value_above : b.above ≡ value_over h a.run marks run.above_to
+  pub at : b.at ≡ rounded (point_of s)
+  pub flat_in : b.flat_in ≡ a.flat
+  pub flat_out : b.flat_out ≡ course_along (least a.live.items) (value_over h a.run marks run.above_to)
+      (left_of_first (drop run.below_to h.below.now) false) (rounded (point_of s))
+  pub begins : from ≡ start_of b.at (ins_in h.below.now run b) (outs_in marks run b)
+  pub ended : edges ≡ given ++ ended_at b.at (ins_in h.below.now run b) (outs_in marks run b)
+  pub round : RoundAlike h marks run s
+  pub name : IsNameTo h.edges.now s later a.live.items (value_over h a.run marks run.above_to)
+      (left_of_first (drop run.below_to h.below.now) false)
+
+module _ (on : Onwards) (passed : List Spot) (s : Spot) (later : List Spot) (a : Along) (run : Run) (b : Beside)
+    (marks : List Mark) (given : List Edge) (cursor : Cursor) (from : Pt) (edges : List Edge)
+    (come : HasComeOver on passed (s ∷ later) a.run a.below a.above a.flat marks given cursor) where
+  abbrev Gone : Type 0
+  Gone = HasComeOver on (passed ++ (s ∷ [])) later a.run run.below_to run.above_to (begun_at from b.flat_out)
+      (begun_in run.above run.above_to from marks) edges cursor
+
+  here : IsRunPassed on.height on.below s later a run b marks given from edges → Gone
+  here r =
+      let h : Height = on.height in
+      let v : Bool = left_of_first (drop run.below_to h.below.now) false in
+      let w : Bool = value_over h a.run marks run.above_to in
+      let p : Pt = rounded (point_of s) in
+      let out : Option Course = course_along (least a.live.items) w v p in
+      let c : Beside = record { below = v; above = w; flat_in = a.flat; flat_out = out; at = p } in
+      let same : b ≡ c = beside_is b v w a.flat out p r.value_below r.value_above r.flat_in r.flat_out r.at in
+      let P : Mark → Type 0 = λ m. rounded (point_of (spot_at h.edges.now h.at.now m)) ≡ p in
+      let lows : List Mark = take (run.below_to - run.below) (drop run.below h.below.now) in
+      let ups : List Mark = take (run.above_to - run.above) (drop run.above marks) in
+      let old : HasComeOver on passed (s ∷ later) a.run run.below run.above a.flat marks given cursor =
+      subst (λ (i : ℕ). HasComeOver on passed (s ∷ later) a.run i run.above a.flat marks given cursor) (sym r.from_below)
+      (subst (λ (n : ℕ). HasComeOver on passed (s ∷ later) a.run a.below n a.flat marks given cursor) (sym r.from_above) come) in
+      let new = stop_passed on passed s later a.run run.below run.below_to run.above run.above_to a.flat a.live.items
+      marks given cursor p (record {
+        below = r.kept;
+        below_order = r.run_of.below;
+        above_order = r.run_of.above;
+        above_to = r.above_to;
+        there = r.run_of.above_to;
+        at = refl;
+        ends = front P lows ups r.round;
+        begins = back P lows ups r.round;
+        name = r.name;
+      }) old in
+      let start : from ≡ start_of p (ins_in h.below.now run c) (outs_in marks run c) = r.begins
+      ∙ ap (λ (d : Beside). start_of d.at (ins_in h.below.now run d) (outs_in marks run d)) same in
+      let all : edges ≡ given ++ ended_at p (ins_in h.below.now run c) (outs_in marks run c) = r.ended
+      ∙ ap (λ (d : Beside). given ++ ended_at d.at (ins_in h.below.now run d) (outs_in marks run d)) same in
+      subst (λ (es : List Edge). HasComeOver on (passed ++ (s ∷ [])) later a.run run.below_to run.above_to
+      (begun_at from b.flat_out) (begun_in run.above run.above_to from marks) es cursor) (sym all)
+      (subst (λ (o : Option Course). HasComeOver on (passed ++ (s ∷ [])) later a.run run.below_to run.above_to
+      (begun_at from o) (begun_in run.above run.above_to from marks)
+      (given ++ ended_at p (ins_in h.below.now run c) (outs_in marks run c)) cursor) (sym r.flat_out)
+      (subst (λ (q : Pt). HasComeOver on (passed ++ (s ∷ [])) later a.run run.below_to run.above_to (begun_at q out)
+      (begun_in run.above run.above_to q marks)
+      (given ++ ended_at p (ins_in h.below.now run c) (outs_in marks run c)) cursor) (sym start) new))
+
+  pub run_passed : (h : Height) → on.height ≡ h → IsRunPassed h on.below s later a run b marks given from edges → Gone
+  run_passed h e = subst (λ (g : Height). IsRunPassed g on.below s later a run b marks given from edges → Gone) e here
+
+-- with other names for what is equal
+pub come_as : (on : Onwards) (passed later : List Spot) (run run' : Run) (n n' m m' : ℕ) (c c' : Option Course)
+    (ms ms' : List Mark) (es es' : List Edge) (cursor : Cursor) → run ≡ run' → n ≡ n' → m ≡ m' → c ≡ c' → ms ≡ ms'
+    → es ≡ es' → HasComeOver on passed later run n m c ms es cursor → HasComeOver on passed later run' n' m' c' ms' es' cursor
+come_as on passed later run run' n n' m m' c c' ms ms' es es' cursor a b d e f g h =
+    subst (λ (r : Run). HasComeOver on passed later r n' m' c' ms' es' cursor) a
+    (subst (λ (k : ℕ). HasComeOver on passed later run k m' c' ms' es' cursor) b
+    (subst (λ (k : ℕ). HasComeOver on passed later run n k c' ms' es' cursor) d
+    (subst (λ (o : Option Course). HasComeOver on passed later run n m o ms' es' cursor) e
+    (subst (λ (xs : List Mark). HasComeOver on passed later run n m c xs es' cursor) f
+    (subst (λ (xs : List Edge). HasComeOver on passed later run n m c ms xs cursor) g h)))))
+
+pub name_as : (es : List LeafEdge) (s : Spot) (later : List Spot) (f f' : List Flat) (a a' b b' : Bool) → f ≡ f' → a ≡ a'
+    → b ≡ b' → IsNameTo es s later f a b → IsNameTo es s later f' a' b'
+name_as es s later f f' a a' b b' e p q h =
+    subst (λ (fs : List Flat). IsNameTo es s later fs a' b') e
+    (subst (λ (v : Bool). IsNameTo es s later f v b') p (subst (λ (v : Bool). IsNameTo es s later f a v) q h))
+
+-- ---- names of marks that begin
+begun_names : (at : Pt) (ms : List Mark) → names_in (begun at ms) ≡ names_in ms
+begun_names at [] = refl
+begun_names at (m ∷ ms) = ap (λ (ks : List ℕ). m.name ∷ ks) (begun_names at ms)
+
+pub names_begun : (i j : ℕ) (at : Pt) (ms : List Mark) → i ≤ j → names_in (begun_in i j at ms) ≡ names_in ms
+names_begun i j at ms h =
+    let f : Mark → ℕ = λ m. m.name in
+    let q : List Mark = take (j - i) (drop i ms) in
+    map-append f (take i ms) (begun at q ++ drop j ms)
+    ∙ ap (λ (ks : List ℕ). names_in (take i ms) ++ ks) (map-append f (begun at q) (drop j ms)
+    ∙ ap (λ (ks : List ℕ). ks ++ names_in (drop j ms)) (begun_names at q) ∙ sym (map-append f q (drop j ms)))
+    ∙ sym (map-append f (take i ms) (q ++ drop j ms))
+    ∙ ap names_in (ap (λ (xs : List Mark). take i ms ++ xs) (part_then ms i j h) ∙ take-append-drop i ms)

@@ -1,11 +1,13 @@
 -- How far the code has come along a stretch of flat edges.
-use Rattle.std.specs.Prelude.{Bool, true, false, ◌≡◌, ⊤, ℕ, ℤ, nat_lt, if◌then◌else◌, Option, None, Some, List, [], ◌∷◌, ◌++◌, take, drop}
+use Rattle.std.specs.Prelude.{Bool, true, false, ◌≡◌, ◌≤◌, ◌<◌, ◌-◌, ⊤, ℕ, ℤ, All, filter, nat_lt, if◌then◌else◌, Option, None, Some, List, [], ◌∷◌, ◌++◌, take, drop}
 use Rattle.std.specs.List.{AllByRecursion, AllZip, position}
 use Rattle.std.specs.List.Sorted.{IsPermutation}
 use Rattle.scad_geom.specs.declared.point.Pt.{Pt}
 use Rattle.scad_geom.specs.declared.point.Edge.{Edge}
 use Rattle.scad_geom.specs.declared.level.LeafEdge.{LeafEdge}
 use Rattle.slice_snap.specs.declared.piece.Spot.{Spot}
+use Rattle.winding_laws.specs.Edges.{rounded}
+use Rattle.slice_snap.specs.Spots.{point_of}
 use Rattle.slice_snap.specs.Rounding.{rounded_edges}
 use Rattle.slice_sweep.specs.Front.{bundles_in}
 use Rattle.slice_bool.specs.Pieces.{whole_spot, IsLeft, covers}
@@ -26,7 +28,7 @@ use Rattle.slice_outlines.specs.Marks.{spot_at, mark_at, left_of_first, IsNamed,
 use Rattle.slice_outlines.specs.Flats.{LiesOn, IsFlatOf}
 use Rattle.slice_outlines.specs.Passing.{IsCourseOf, or_none}
 use Rattle.slice_outlines.specs.Cursor.{StandsOn}
-use Rattle.slice_outlines.specs.Heights.{Onwards}
+use Rattle.slice_outlines.specs.Heights.{Onwards, IsRunOf, marks_of}
 
 -- ---- beside a stop
 abbrev pub LiesLeftOf : Height → Stop → Mark → Type 0
@@ -134,8 +136,31 @@ abbrev pub IsNameTo : List LeafEdge → Spot → List Spot → List Flat → Boo
 IsNameTo es s [] live above below = above ≡ below
 IsNameTo es s (t ∷ ts) live above below = least live ≡ position (covers s t) es
 
--- a stop to the right of all that is passed, and to the left of all that isn't, or there
-pub record IsNextStop (h : Height) (upper : List Mark) (fs : List Flat) (a : Along) (s : Stop) : Type 0 where
-  pub below : AllByRecursion (λ m. LiesLeftOf h s m → ⊥) (drop a.below (take a.run.below_to h.below.now))
-  pub above : AllByRecursion (λ m. LiesLeftOf h s m → ⊥) (drop a.above (take a.run.above_to upper))
-  pub flats : AllByRecursion (λ f. IsLeft (whole_spot f.left s.spot.at) s.spot → ⊥) (drop a.begun fs)
+-- ---- stops
+-- it stands within its stretch, whose strands are there
+pub record IsWithinRun (h : Height) (ms : List Mark) (a : Along) : Type 0 where
+  pub run : IsRunOf h.below.now ms a.run
+  pub below : a.below ≤ a.run.below_to
+  pub above : a.above ≤ a.run.above_to
+
+-- none of the strands to come lies to the left of a stop
+pub record IsNextStop (h : Height) (upper : List Mark) (a : Along) (s : Stop) : Type 0 where
+  pub below : AllByRecursion (λ m. LiesLeftOf h s m → ⊥) (take (a.run.below_to - a.below) (drop a.below h.below.now))
+  pub above : AllByRecursion (λ m. LiesLeftOf h s m → ⊥) (take (a.run.above_to - a.above) (drop a.above upper))
+
+-- the next of them lie to its right
+pub record IsBehindStop (h : Height) (upper : List Mark) (a : Along) (s : Stop) : Type 0 where
+  pub below : a.below < a.run.below_to → LiesRightOf h s (mark_at h.below.now a.below)
+  pub above : a.above < a.run.above_to → LiesRightOf h s (mark_at upper a.above)
+
+-- of the flat edges that were there and of those that begin by a stop, those that go on are kept
+pub record HasLive (s : Stop) (fs : List Flat) (old new : Along) : Type 0 where
+  pub from : old.begun ≤ new.begun
+  pub begun : All (BeginsBy s) (take (new.begun - old.begun) (drop old.begun fs))
+  pub later : StartsAfter s (drop new.begun fs)
+  pub live : new.live.items ≡ filter (goes_on s) (old.live.items ++ take (new.begun - old.begun) (drop old.begun fs))
+
+-- the strands of a part meet the height at places that round as a spot does
+abbrev pub RoundAlike : Height → List Mark → Run → Spot → Type 0
+RoundAlike h ms run s = AllByRecursion (λ m. rounded (point_of (spot_at h.edges.now h.at.now m)) ≡ rounded (point_of s))
+    (marks_of h ms run)

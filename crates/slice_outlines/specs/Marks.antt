@@ -55,3 +55,6 @@ begun at ms = map (λ (m : Mark). record m { from = at }) ms
 
 abbrev pub begun_in : ℕ → ℕ → Pt → List Mark → List Mark
 begun_in from to at ms = take from ms ++ (begun at (take (to - from) (drop from ms)) ++ drop to ms)
+
+abbrev pub names_in : List Mark → List ℕ
+names_in ms = map (λ m. m.name) ms

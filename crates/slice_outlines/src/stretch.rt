@@ -1,14 +1,17 @@
 //! A stretch of flat edges, from place to place.
-ghost use Rattle.std.specs.Prelude.{◌≡◌, ◌<◌, ◌≤◌, ◌-◌, ◌++◌, ◌≤ℤ◌, true, false, if◌then◌else◌, nat_lt, filter, take, drop, length, unsigned_abs, IfOk, OnOk, All};
+ghost use Rattle.std.specs.Prelude.{◌≡◌, ◌<◌, ◌≤◌, ◌-◌, ◌++◌, ◌∷◌, [], ◌≤ℤ◌, List, true, false, if◌then◌else◌, nat_lt, filter, take, drop, length, unsigned_abs, IfOk, OnOk, All};
 ghost use Rattle.std.specs.List.Sorted.{IsPartitionPoint};
 ghost use Rattle.scad_geom.specs.Limits.{coordinate_limit};
+ghost use Rattle.winding_laws.specs.Edges.{rounded};
 ghost use Rattle.slice_slab.specs.Bundles.{edge_at};
+ghost use Rattle.slice_snap.specs.declared.piece.Spot.{Spot};
+ghost use Rattle.slice_snap.specs.Spots.{point_of, IsSpotWithin};
 ghost use Rattle.slice_bool.specs.Pieces.{whole_spot, passes_at};
 ghost use Rattle.slice_bool.specs.Stops.{is_left};
-ghost use Rattle.slice_outlines.specs.Marks.{left_of_first, mark_at, spot_at};
+ghost use Rattle.slice_outlines.specs.Marks.{left_of_first, mark_at, spot_at, names_in};
 ghost use Rattle.slice_outlines.specs.Stops.{AllPass};
-ghost use Rattle.slice_outlines.specs.Heights.{Onwards, IsOf, IsRunOf, AreInOrder, HasComeTo};
-ghost use Rattle.slice_outlines.specs.Along.{LieBetween, LiesLeftOf, LiesRightOf, AreFlatsOf, IsNextStop, HasComeAlong, BeginsBy, StartsAfter, goes_on, course_along, least, lesser, begun_at};
+ghost use Rattle.slice_outlines.specs.Heights.{Onwards, IsOf, IsRunOf, AreInOrder, HasComeTo, marks_of};
+ghost use Rattle.slice_outlines.specs.Along.{LieBetween, LiesLeftOf, LiesRightOf, AreFlatsOf, IsNextStop, IsBehindStop, IsWithinRun, HasComeAlong, HasLive, IsNameTo, RoundAlike, value_over, BeginsBy, StartsAfter, goes_on, course_along, least, lesser, begun_at};
 
 use crate::changing::find_values;
 use crate::course::Course;
@@ -150,6 +153,7 @@ struct Along {
     flat: Option<Course>,
 }
 
+// Passes one place of a stretch.
 fn pass_stop(
     height: &Height<'_>,
     kept: &mut Open,
@@ -157,39 +161,143 @@ fn pass_stop(
     along: &mut Along,
     s: &Stop,
 ) -> Result<(), AllocError>
-    requires next { IsNextStop height.now kept.old.marks.items flats.now along.old s.now }
-    ensures passed { (on : Onwards) → IsOf height.now on → OnOk result (HasComeAlong on along.old kept.old
-        → HasComeAlong on along.new kept.new) }
+    requires within { IsWithinRun height.now kept.old.marks.items along.old }
+    requires below_pass { AllPass height.now.edges.now height.now.at.now height.now.below.now }
+    requires above_pass { AllPass height.now.edges.now height.now.at.now kept.old.marks.items }
+    requires begun { along.old.begun ≤ length flats.now }
+    requires at { s.now.spot.at ≡ height.now.at.now }
+    requires spot { IsSpotWithin coordinate_limit s.now.spot }
+    requires next { IsNextStop height.now kept.old.marks.items along.old s.now }
+    ensures within { OnOk result (IsWithinRun height.now kept.new.marks.items along.new) }
+    ensures run { along.new.run ≡ along.old.run }
+    ensures names { OnOk result (names_in kept.new.marks.items ≡ names_in kept.old.marks.items) }
+    ensures behind { OnOk result (IsBehindStop height.now kept.old.marks.items along.new s.now) }
+    ensures begun { OnOk result (along.new.begun ≤ length flats.now) }
+    ensures live { OnOk result (HasLive s.now flats.now along.old along.new) }
+    ensures passed { (on : Onwards) (passed later : List Spot) → IsOf height.now on → OnOk result
+        (IsNameTo height.now.edges.now s.now.spot later along.new.live.items
+        (value_over height.now along.old.run kept.old.marks.items along.new.above)
+        (left_of_first (drop along.new.below height.now.below.now) false)
+        → HasComeAlong on passed (s.now.spot ∷ later) along.old kept.old
+        → HasComeAlong on (passed ++ (s.now.spot ∷ [])) later along.new kept.new) }
 {
-    let below_to = strands_to(height, height.below, along.below, along.run.below_to, s);
-    let above_to = strands_to(height, &kept.marks, along.above, along.run.above_to, s);
-    along.begun = begin_flats(&mut along.live, flats, along.begun, s)?;
-    end_flats(&mut along.live, s);
-    let run = Run {
+    let run = run_at(height, kept, along, s);
+    mend_live(along, flats, s)?;
+    pass_run(height, kept, along, &run, s)?;
+    Ok(())
+}
+
+// The strands that meet the height at the next stop.
+fn run_at(height: &Height<'_>, kept: &Open, along: &Along, s: &Stop) -> Run
+    requires within { IsWithinRun height.now kept.now.marks.items along.now }
+    requires below_pass { AllPass height.now.edges.now height.now.at.now height.now.below.now }
+    requires above_pass { AllPass height.now.edges.now height.now.at.now kept.now.marks.items }
+    ensures below { result.below ≡ along.now.below }
+    ensures above { result.above ≡ along.now.above }
+    ensures run { IsRunOf height.now.below.now kept.now.marks.items result }
+    ensures below_to { result.below_to ≤ along.now.run.below_to }
+    ensures above_to { result.above_to ≤ along.now.run.above_to }
+    ensures by { All (λ m. LiesRightOf height.now s.now m → ⊥) (marks_of height.now kept.now.marks.items result) }
+    ensures below_behind { result.below_to < along.now.run.below_to
+        → LiesRightOf height.now s.now (mark_at height.now.below.now result.below_to) }
+    ensures above_behind { result.above_to < along.now.run.above_to
+        → LiesRightOf height.now s.now (mark_at kept.now.marks.items result.above_to) }
+{
+    Run {
         below: along.below,
-        below_to,
+        below_to: strands_to(height, height.below, along.below, along.run.below_to, s),
         above: along.above,
-        above_to,
-    };
-    let (below, above) = (
-        value_at(height.below, below_to),
-        value_above(height, kept, &along.run, above_to),
-    );
+        above_to: strands_to(height, &kept.marks, along.above, along.run.above_to, s),
+    }
+}
+
+// Keeps the flat edges that go on from a stop.
+fn mend_live(along: &mut Along, flats: &[Flat], s: &Stop) -> Result<(), AllocError>
+    requires { along.old.begun ≤ length flats.now }
+    ensures run { along.new.run ≡ along.old.run }
+    ensures below { along.new.below ≡ along.old.below }
+    ensures above { along.new.above ≡ along.old.above }
+    ensures flat { along.new.flat ≡ along.old.flat }
+    ensures begun { OnOk result (along.new.begun ≤ length flats.now) }
+    ensures live { OnOk result (HasLive s.now flats.now along.old along.new) }
+{
+    let begun = begin_flats(&mut along.live, flats, along.begun, s)?;
+    along.begun = begun;
+    end_flats(&mut along.live, s);
+    Ok(())
+}
+
+// Passes the strands of a stop, with what leads along the height.
+fn pass_run(
+    height: &Height<'_>,
+    kept: &mut Open,
+    along: &mut Along,
+    run: &Run,
+    s: &Stop,
+) -> Result<(), AllocError>
+    requires run { IsRunOf height.now.below.now kept.old.marks.items run.now }
+    requires within { along.old.run.above_to ≤ length kept.old.marks.items }
+    requires above_to { run.now.above_to ≤ along.old.run.above_to }
+    requires below { run.now.below ≡ along.old.below }
+    requires above { run.now.above ≡ along.old.above }
+    requires spot { IsSpotWithin coordinate_limit s.now.spot }
+    ensures run { along.new.run ≡ along.old.run }
+    ensures below { OnOk result (along.new.below ≡ run.now.below_to) }
+    ensures above { OnOk result (along.new.above ≡ run.now.above_to) }
+    ensures begun { along.new.begun ≡ along.old.begun }
+    ensures live { along.new.live ≡ along.old.live }
+    ensures names { OnOk result (names_in kept.new.marks.items ≡ names_in kept.old.marks.items) }
+    ensures passed { (on : Onwards) (passed later : List Spot) → IsOf height.now on
+        → RoundAlike height.now kept.old.marks.items run.now s.now.spot
+        → OnOk result (IsNameTo height.now.edges.now s.now.spot later along.old.live.items
+        (value_over height.now along.old.run kept.old.marks.items run.now.above_to)
+        (left_of_first (drop run.now.below_to height.now.below.now) false)
+        → HasComeAlong on passed (s.now.spot ∷ later) along.old kept.old
+        → HasComeAlong on (passed ++ (s.now.spot ∷ [])) later along.new kept.new) }
+{
+    let beside = beside_of(height, kept, along, run, s);
+    let from = pass_strands(&mut kept.given, height.below, &kept.marks, run, &beside)?;
+    begin(&mut kept.marks, run.above, run.above_to, from);
+    go_on(along, run, beside.flat_out, from);
+    Ok(())
+}
+
+// What lies to the right of the strands of a stop, and what leads along the height.
+fn beside_of(height: &Height<'_>, kept: &Open, along: &Along, run: &Run, s: &Stop) -> Beside
+    requires within { along.now.run.above_to ≤ length kept.now.marks.items }
+    requires spot { IsSpotWithin coordinate_limit s.now.spot }
+    ensures below { result.below ≡ left_of_first (drop run.now.below_to height.now.below.now) false }
+    ensures above { result.above ≡ value_over height.now along.now.run kept.now.marks.items run.now.above_to }
+    ensures at { result.at ≡ rounded (point_of s.now.spot) }
+    ensures flat_in { result.flat_in ≡ along.now.flat }
+    ensures flat_out { result.flat_out ≡ course_along (least along.now.live.items)
+        (value_over height.now along.now.run kept.now.marks.items run.now.above_to)
+        (left_of_first (drop run.now.below_to height.now.below.now) false) (rounded (point_of s.now.spot)) }
+{
+    let below = value_at(height.below, run.below_to);
+    let above = value_above(height, kept, &along.run, run.above_to);
     let at = rounded(s);
-    let flat = course_along(&along.live, above, below, at);
-    let beside = Beside {
+    Beside {
         below,
         above,
         flat_in: along.flat,
-        flat_out: flat,
+        flat_out: course_along(&along.live, above, below, at),
         at,
-    };
-    let from = pass_strands(&mut kept.given, height.below, &kept.marks, &run, &beside)?;
-    begin(&mut kept.marks, along.above, above_to, from);
+    }
+}
+
+// Behind the strands of a stop, with what leads on along the height, which begins at a point.
+fn go_on(along: &mut Along, run: &Run, flat: Option<Course>, from: Pt)
+    ensures run { along.new.run ≡ along.old.run }
+    ensures below { along.new.below ≡ run.now.below_to }
+    ensures above { along.new.above ≡ run.now.above_to }
+    ensures begun { along.new.begun ≡ along.old.begun }
+    ensures live { along.new.live ≡ along.old.live }
+    ensures flat { along.new.flat ≡ begun_at from flat }
+{
     along.flat = begun_at(flat, from);
-    along.below = below_to;
-    along.above = above_to;
-    Ok(())
+    along.below = run.below_to;
+    along.above = run.above_to;
 }
 
 // The place behind the strands of a stretch that don't lie to the right of a stop.
