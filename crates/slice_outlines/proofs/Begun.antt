@@ -25,8 +25,14 @@ begun_more from i at ms now d h l e =
     let split : begun_in from i at ms ≡ p ++ (y ∷ ys) =
     ap (λ (r : List Mark). take from ms ++ (map b q ++ r)) (drop_more ms i d l)
     ∙ sym (append_assoc (take from ms) (map b q) (y ∷ ys)) in
-    let place : length p ≡ i = omega (arith, length-append (take from ms) (map b q), length-take from ms,
-    length-map q b, length-take (i - from) (drop from ms), length-drop from ms) in
+    let place : length p ≡ i = omega (
+      arith,
+      length-append (take from ms) (map b q),
+      length-take from ms,
+      length-map q b,
+      length-take (i - from) (drop from ms),
+      length-drop from ms,
+    ) in
     let longer : take (i + 1 - from) (drop from ms) ≡ q ++ (y ∷ []) = part_more ms from i d h l in
     ap (λ (xs : List Mark). set xs i (record (get_or xs i d) { from = at })) (e ∙ split)
     ∙ ap (λ (m : Mark). set (p ++ (y ∷ ys)) i (b m)) (get_or_at p y ys d i place)

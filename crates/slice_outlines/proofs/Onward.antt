@@ -140,8 +140,14 @@ front_size : (i j : ℕ) (at : Pt) (ms : List Mark) → i ≤ j → j ≤ length
     → length (take i ms ++ begun at (take (j - i) (drop i ms))) ≡ j
 front_size i j at ms h k =
     let q : List Mark = take (j - i) (drop i ms) in
-    omega (arith, length-append (take i ms) (begun at q), length-take i ms, length-map q (λ (m : Mark). record m { from = at }),
-    length-take (j - i) (drop i ms), length-drop i ms)
+    omega (
+      arith,
+      length-append (take i ms) (begun at q),
+      length-take i ms,
+      length-map q (λ (m : Mark). record m { from = at }),
+      length-take (j - i) (drop i ms),
+      length-drop i ms,
+    )
 
 begun_split : (i j : ℕ) (at : Pt) (ms : List Mark)
     → begun_in i j at ms ≡ (take i ms ++ begun at (take (j - i) (drop i ms))) ++ drop j ms
@@ -441,8 +447,7 @@ module _ (on : Onwards) (passed : List Spot) (s : Spot) (ts : List Spot) (run : 
                   ∙ ap (λ (b : Bool). value_before pp.above b) va
                   ∙ sym (first_kept w (begun from ups) pp.above pp.kept) ∙ upon;
               first = refl;
-            })
-            (
+            }) (
               same_pass (ways_up es l v below ++ come.flat) (ins_to es l come.flat place later)
                   (ways_from es l u w pp.above ++ flat_out) (outs_from es l u place later)
                   (ways_up es u w pp.above ++ begun_ways pp.start flat_out) (opens_after es u place later) pp.closed

@@ -424,6 +424,7 @@ module _ (es : List LeafEdge) (l u : Level) (v w : Bool) (below : List Strand) (
             (kept_begun w (λ b. s) upper bundles q h.named (all_same bundles (rounded (point_of s) ≡ q) (sym g.from_is)));
         edges = ways_give_edges.none ∙ sym (ap (λ (o : Option Pt). unless_on o (edges_to p vs)) e);
       }
+
   pub place_passes : PlacePasses es l u v w below upper bundles p flat_in flat_out
       (courses v lower ++ or_none in_course) (courses w upper ++ or_none out_course)
   place_passes = by_case

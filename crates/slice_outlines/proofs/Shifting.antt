@@ -229,9 +229,22 @@ change_fits gs cs i c done at l e p fb fa =
     ap (λ (gs : List Group). length (all_above gs)) (p.groups ∙ ap (λ (hs : List Group). p.left ++ hs) s.groups) in
     record {
       later = from;
-      sizes = omega (arith, lower, upper, from, below, above, fb, fa, p.lower, p.upper,
-          below-append p.left (s.left ++ s.right), below-append s.left s.right,
-          above-append p.left (s.left ++ s.right), above-append s.left s.right);
+      sizes = omega (
+        arith,
+        lower,
+        upper,
+        from,
+        below,
+        above,
+        fb,
+        fa,
+        p.lower,
+        p.upper,
+        below-append p.left (s.left ++ s.right),
+        below-append s.left s.right,
+        above-append p.left (s.left ++ s.right),
+        above-append s.left s.right,
+      );
     }
 
 -- a place is no farther to the right than there are strands

@@ -144,8 +144,7 @@ module _ (h : Height) (left right : ℤ) (s t : Stop) (ms : List Mark) (n m : �
   inside_at k d l =
       let low : n + k < m = omega (arith, l, length-drop n (take m ms), length-take m ms) in
       let is : get_or (drop n (take m ms)) k d ≡ get_or ms (n + k) d =
-      get_or-drop n (take m ms) k d ∙ get_or-take m ms (n + k) d low in
-      (
+      get_or-drop n (take m ms) k d ∙ get_or-take m ms (n + k) d low in (
         λ a. lefts.1 (n + k) d (omega arith) (omega (arith, low, behind))
             (subst (λ (u : Spot). IsLeft (spot_at h.edges.now h.at.now (get_or ms (n + k) d)) u) (sym from)
             (subst (λ (x : Mark). IsLeft (spot_at h.edges.now h.at.now x) (whole_spot left h.at.now)) is a)),

@@ -16,15 +16,14 @@ strands-preserved c =
     let i : ℕ = c.strands.i in
     let cs : List Course = c.strands.invariant.0 in
     let own : List Course = or_none c.course_of.result in
-    let later : List Course = courses c.args.side.now.right (drop (i + 1) ms) in
-    (
+    let later : List Course = courses c.args.side.now.right (drop (i + 1) ms) in (
       cs ++ own,
       c.with-all.ensures cs c.strands.invariant.1,
       append_assoc cs own later
-      ∙ ap (λ (ds : List Course). cs ++ (ds ++ later)) c.course_of.ensures
-      ∙ ap (λ (ds : List Course). cs ++ ds)
-      (sym (at_drop_more (courses c.args.side.now.right) ms i no_mark c.strands-test.true))
-      ∙ c.strands.invariant.2,
+          ∙ ap (λ (ds : List Course). cs ++ (ds ++ later)) c.course_of.ensures
+          ∙ ap (λ (ds : List Course). cs ++ ds)
+          (sym (at_drop_more (courses c.args.side.now.right) ms i no_mark c.strands-test.true))
+          ∙ c.strands.invariant.2,
     )
 
 pub returns : goal.returns
