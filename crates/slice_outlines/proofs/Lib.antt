@@ -14,3 +14,4 @@ mod Placing
 mod Onward
 mod Covering
 mod Rounding
+mod Waiting

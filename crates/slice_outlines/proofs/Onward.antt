@@ -45,7 +45,7 @@ part_then {X} xs i j h =
     ap (λ (ys : List X). take (j - i) (drop i xs) ++ ys) (sym (drop-drop (j - i) i xs ∙ ap (λ (n : ℕ). drop n xs) e))
     ∙ take-append-drop (j - i) (drop i xs)
 
-take_then : {X : Type 0} (xs : List X) (i j : ℕ) → i ≤ j → take i xs ++ take (j - i) (drop i xs) ≡ take j xs
+pub take_then : {X : Type 0} (xs : List X) (i j : ℕ) → i ≤ j → take i xs ++ take (j - i) (drop i xs) ≡ take j xs
 take_then {X} xs i j h =
     let e : i + (j - i) ≡ j = omega arith in
     let n : ℕ = j - i in

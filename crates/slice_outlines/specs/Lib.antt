@@ -10,4 +10,5 @@ pub mod Stops
 pub mod Heights
 pub mod Valued
 pub mod Along
+pub mod Stretch
 pub mod Sweep

@@ -1,17 +1,20 @@
 //! A stretch of flat edges, from place to place.
-ghost use Rattle.std.specs.Prelude.{◌≡◌, ◌<◌, ◌≤◌, ◌-◌, ◌++◌, ◌∷◌, [], ◌≤ℤ◌, List, true, false, if◌then◌else◌, nat_lt, filter, take, drop, length, unsigned_abs, IfOk, OnOk, All};
+ghost use Rattle.std.specs.Prelude.{◌≡◌, ◌<◌, ◌≤◌, ◌-◌, ◌++◌, ◌∷◌, [], ◌≤ℤ◌, List, true, false, if◌then◌else◌, nat_lt, filter, take, drop, length, unsigned_abs, Option, None, IfOk, OnOk, All};
+ghost use Rattle.std.specs.List.{AllByRecursion};
 ghost use Rattle.std.specs.List.Sorted.{IsPartitionPoint};
 ghost use Rattle.scad_geom.specs.Limits.{coordinate_limit};
 ghost use Rattle.winding_laws.specs.Edges.{rounded};
 ghost use Rattle.slice_slab.specs.Bundles.{edge_at};
 ghost use Rattle.slice_snap.specs.declared.piece.Spot.{Spot};
 ghost use Rattle.slice_snap.specs.Spots.{point_of, IsSpotWithin};
-ghost use Rattle.slice_bool.specs.Pieces.{whole_spot, passes_at};
+ghost use Rattle.slice_bool.specs.Pieces.{whole_spot, passes_at, HasSpot};
 ghost use Rattle.slice_bool.specs.Stops.{is_left};
 ghost use Rattle.slice_outlines.specs.Marks.{left_of_first, mark_at, spot_at, names_in};
-ghost use Rattle.slice_outlines.specs.Stops.{AllPass};
+ghost use Rattle.slice_outlines.specs.declared.course.Course.{Course};
+ghost use Rattle.slice_outlines.specs.Stops.{AllPass, spots_in};
+ghost use Rattle.slice_outlines.specs.Stretch.{AreStopsAt, TellWays};
 ghost use Rattle.slice_outlines.specs.Heights.{Onwards, IsOf, IsRunOf, AreInOrder, HasComeTo, marks_of};
-ghost use Rattle.slice_outlines.specs.Along.{LieBetween, LiesLeftOf, LiesRightOf, AreFlatsOf, IsNextStop, IsBehindStop, IsWithinRun, HasComeAlong, HasLive, IsNameTo, RoundAlike, value_over, BeginsBy, StartsAfter, goes_on, course_along, least, lesser, begun_at};
+ghost use Rattle.slice_outlines.specs.Along.{LieBetween, LiesLeftOf, LiesRightOf, AreFlatsOf, IsNextStop, IsBehindStop, IsWithinRun, HasComeOver, HasComeAlong, HasLive, IsNameTo, RoundAlike, value_over, BeginsBy, StartsAfter, goes_on, course_along, least, lesser, begun_at};
 
 use crate::changing::find_values;
 use crate::course::Course;
@@ -127,6 +130,33 @@ pub(crate) fn pass_stretch(
         &kept.marks[run.above..run.above_to],
         flats,
     )?;
+    pass_stops(alloc, height, kept, run, flats, &stops)
+}
+
+// Passes the places of a stretch, from left to right.
+fn pass_stops(
+    alloc: Global,
+    height: &Height<'_>,
+    kept: &mut Open,
+    run: &Run,
+    flats: &[Flat],
+    stops: &[Stop],
+) -> Result<(), AllocError>
+    requires run { IsRunOf height.now.below.now kept.old.marks.items run.now }
+    requires below_order { AreInOrder height.now height.now.below.now }
+    requires above_order { AreInOrder height.now kept.old.marks.items }
+    requires below_pass { AllPass height.now.edges.now height.now.at.now height.now.below.now }
+    requires above_pass { AllPass height.now.edges.now height.now.at.now kept.old.marks.items }
+    requires stops { AreStopsAt height.now stops.now }
+    requires strands { AllByRecursion (λ m. HasSpot (spots_in stops.now)
+        (spot_at height.now.edges.now height.now.at.now m)) (marks_of height.now kept.old.marks.items run.now) }
+    ensures passed { (on : Onwards) (passed : List Spot) → IsOf height.now on
+        → TellWays height.now.edges.now flats.now stops.now → OnOk result
+        (HasComeOver on passed (spots_in stops.now) run.now run.now.below run.now.above None kept.old.marks.items
+        kept.old.given.items kept.old.cursor → (course : Option Course)
+        × HasComeOver on (passed ++ spots_in stops.now) [] run.now run.now.below_to run.now.above_to course
+        kept.new.marks.items kept.new.given.items kept.new.cursor) }
+{
     let mut along = Along {
         run: *run,
         below: run.below,
@@ -135,7 +165,7 @@ pub(crate) fn pass_stretch(
         live: Vec::new(alloc),
         flat: None,
     };
-    'stops: for s in &stops {
+    'stops: for s in stops {
         pass_stop(height, kept, flats, &mut along, s)?;
     }
     Ok(())
@@ -172,6 +202,8 @@ fn pass_stop(
     ensures run { along.new.run ≡ along.old.run }
     ensures names { OnOk result (names_in kept.new.marks.items ≡ names_in kept.old.marks.items) }
     ensures behind { OnOk result (IsBehindStop height.now kept.old.marks.items along.new s.now) }
+    ensures below { OnOk result (along.old.below ≤ along.new.below) }
+    ensures above { OnOk result (along.old.above ≤ along.new.above) }
     ensures begun { OnOk result (along.new.begun ≤ length flats.now) }
     ensures live { OnOk result (HasLive s.now flats.now along.old along.new) }
     ensures passed { (on : Onwards) (passed later : List Spot) → IsOf height.now on → OnOk result
