@@ -15,3 +15,5 @@ mod Onward
 mod Covering
 mod Rounding
 mod Waiting
+mod LevelSteps
+mod Grouping

@@ -1,16 +1,20 @@
 -- How far the code has come along a height.
-use Rattle.std.specs.Prelude.{false, ◌≡◌, ◌≤◌, ◌<◌, ◌-◌, List, [], ◌∷◌, ◌++◌, ℕ, length, take, drop}
+use Rattle.std.specs.Prelude.{true, false, ◌≡◌, ◌≤◌, ◌<◌, ◌-◌, List, [], ◌∷◌, ◌++◌, ℕ, length, take, drop}
 use Rattle.std.specs.List.{AllByRecursion}
 use Rattle.std.specs.List.Sorted.{IsPermutation}
+use Rattle.scad_geom.specs.declared.point.Pt.{Pt}
 use Rattle.scad_geom.specs.declared.point.Edge.{Edge}
 use Rattle.scad_geom.specs.declared.level.Level.{Level}
 use Rattle.scad_geom.specs.declared.shape.Shape.{Shape}
+use Rattle.winding_laws.specs.Edges.{rounded}
+use Rattle.slice_slab.specs.Bundles.{edge_at}
 use Rattle.slice_snap.specs.declared.piece.Spot.{Spot}
+use Rattle.slice_snap.specs.Spots.{point_of}
 use Rattle.slice_snap.specs.Rounding.{rounded_edges}
 use Rattle.slice_sweep.specs.declared.change.Change.{Change}
 use Rattle.slice_sweep.specs.Front.{bundles_in}
 use Rattle.slice_bool.specs.Beside.{left_value}
-use Rattle.slice_bool.specs.Pieces.{across, IsSameAcross, GoRight}
+use Rattle.slice_bool.specs.Pieces.{across, spot_on, passes_at, GoRight}
 use Rattle.scad_geom.specs.Level.{IsAtMost}
 use Rattle.sweep_laws.specs.Ways.{pieces_of}
 use Rattle.sweep_laws.specs.Fronts.{Strand, bundles_of, value_before}
@@ -99,15 +103,21 @@ abbrev pub marks_of : Height → List Mark → Run → List Mark
 marks_of h ms run = take (run.below_to - run.below) (drop run.below h.below.now)
     ++ take (run.above_to - run.above) (drop run.above ms)
 
--- their edges meet the height at a spot
-abbrev pub MeetAt : Height → List Mark → Run → Spot → Type 0
-MeetAt h ms run s = AllByRecursion (λ m. IsSameAcross (spot_at h.edges.now h.at.now m) s) (marks_of h ms run)
+-- where their edges meet the height rounds to one point
+abbrev pub MeetAt : Height → List Mark → Run → Pt → Type 0
+MeetAt h ms run p = AllByRecursion (λ m. rounded (point_of (spot_at h.edges.now h.at.now m)) ≡ p) (marks_of h ms run)
 
 pub record IsGroupAt (h : Height) (ms : List Mark) (r : Run) : Type 0 where
   pub run : IsRunOf h.below.now ms r
   pub some : marks_of h ms r ≡ [] → ⊥
-  pub spot : Spot
-  pub meet : MeetAt h ms r spot
+  pub point : Pt
+  pub meet : MeetAt h ms r point
+
+-- the number of an edge that meets the height where those of a part do
+pub record IsNameOf (h : Height) (ms : List Mark) (r : Run) (k : ℕ) : Type 0 where
+  pub there : k < length h.edges.now
+  pub passes : passes_at (edge_at h.edges.now k) h.at.now ≡ true
+  pub meets : (p : Pt) → MeetAt h ms r p → rounded (point_of (spot_on (edge_at h.edges.now k) h.at.now)) ≡ p
 
 -- one spot doesn't lie to the right of another
 abbrev pub IsNotRightOf : Spot → Spot → Type 0

@@ -11,4 +11,5 @@ pub mod Heights
 pub mod Valued
 pub mod Along
 pub mod Stretch
+pub mod Reached
 pub mod Sweep

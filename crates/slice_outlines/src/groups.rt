@@ -1,13 +1,21 @@
 //! Groups of strands at one place, where nothing leads along the height.
-ghost use Rattle.std.specs.Prelude.{◌≡◌, IfOk, OnOk};
+ghost use Rattle.std.specs.Prelude.{◌≡◌, ◌<◌, ◌≤◌, ◌++◌, ◌∷◌, [], true, false, None, List, length, IfOk, OnOk};
+ghost use Rattle.scad_geom.specs.declared.point.Pt.{Pt};
 ghost use Rattle.winding_laws.specs.Edges.{rounded};
 ghost use Rattle.slice_snap.specs.Spots.{point_of};
 ghost use Rattle.slice_snap.specs.declared.piece.Spot.{Spot};
-ghost use Rattle.slice_outlines.specs.Heights.{Onwards, IsOf, HasCome, HasComeTo, IsGroupAt, MeetAt, IsCountOf, IsNotLeft, IsNotIn};
+ghost use Rattle.slice_sweep.specs.Front.{bundles_in};
+ghost use Rattle.slice_bool.specs.Beside.{AreMembers};
+ghost use Rattle.slice_outlines.specs.Marks.{AreThere, mark_at};
+ghost use Rattle.slice_outlines.specs.Stops.{AllPass};
+ghost use Rattle.slice_outlines.specs.Cursor.{StandsOn, Stands};
+ghost use Rattle.slice_outlines.specs.Heights.{Onwards, IsOf, HasCome, IsBalancedBefore, IsGroupAt, IsNameOf, MeetAt, IsCountOf, IsNotLeft, IsNotIn};
+ghost use Rattle.slice_outlines.specs.Along.{HasComeOver};
+ghost use Rattle.slice_outlines.specs.Reached.{HasReached};
 
 use crate::changing::find_values;
 use crate::height::{Height, Open};
-use crate::mark::{begin, value_at};
+use crate::mark::{Mark, begin, value_at};
 use crate::passing::{Beside, pass_strands};
 use crate::run::{Run, after, is_left};
 use crate::spot::rounded_on;
@@ -71,11 +79,23 @@ pub(crate) fn skip_groups(changes: &[Change], passed: &Passed, limit: &Run) -> P
 }
 
 fn pass_group(height: &Height<'_>, kept: &mut Open, run: &Run) -> Result<(), AllocError>
+    requires members { AreMembers height.now.edges.now (bundles_in height.now.front.now) }
+    requires stands { Stands height.now.edges.now (bundles_in height.now.front.now) kept.old.cursor }
+    requires size { length kept.old.marks.items ≡ length (bundles_in height.now.front.now) }
     requires group { IsGroupAt height.now kept.old.marks.items run.now }
-    ensures passed { (on : Onwards) → IsOf height.now on
-        → OnOk result (HasComeTo on run.now.below run.now.above kept.old
-        → HasComeTo on run.now.below_to run.now.above_to kept.new) }
+    requires pass_below { AllPass height.now.edges.now height.now.at.now height.now.below.now }
+    requires pass_above { AllPass height.now.edges.now height.now.at.now kept.old.marks.items }
+    requires there_below { AreThere height.now.edges.now height.now.below.now }
+    requires there_above { AreThere height.now.edges.now kept.old.marks.items }
+    ensures passed { (on : Onwards) (passed : List Spot) (s : Spot) → IsOf height.now on
+        → MeetAt height.now kept.old.marks.items run.now (rounded (point_of s))
+        → IsBalancedBefore height.now on.shape run.now
+        → StandsOn height.now.edges.now on.shape (bundles_in height.now.front.now) kept.old.cursor
+        → HasReached on passed s run.now kept.old
+        → OnOk result (HasComeOver on (passed ++ s ∷ []) [] run.now run.now.below_to run.now.above_to None
+        kept.new.marks.items kept.new.given.items kept.new.cursor) }
 {
+    let at = point_of(height, kept, run);
     find_values(height, kept, run);
     let right = value_at(height.below, run.below_to);
     let beside = Beside {
@@ -83,7 +103,7 @@ fn pass_group(height: &Height<'_>, kept: &mut Open, run: &Run) -> Result<(), All
         above: right,
         flat_in: None,
         flat_out: None,
-        at: point_of(height, kept, run),
+        at,
     };
     let from = pass_strands(&mut kept.given, height.below, &kept.marks, run, &beside)?;
     begin(&mut kept.marks, run.above, run.above_to, from);
@@ -93,12 +113,42 @@ fn pass_group(height: &Height<'_>, kept: &mut Open, run: &Run) -> Result<(), All
 // Where the strands of a group meet the height, rounded.
 fn point_of(height: &Height<'_>, kept: &Open, run: &Run) -> Pt
     requires group { IsGroupAt height.now kept.now.marks.items run.now }
-    ensures { (s : Spot) → MeetAt height.now kept.now.marks.items run.now s → result ≡ rounded (point_of s) }
+    requires pass_below { AllPass height.now.edges.now height.now.at.now height.now.below.now }
+    requires pass_above { AllPass height.now.edges.now height.now.at.now kept.now.marks.items }
+    requires there_below { AreThere height.now.edges.now height.now.below.now }
+    requires there_above { AreThere height.now.edges.now kept.now.marks.items }
+    ensures { (p : Pt) → MeetAt height.now kept.now.marks.items run.now p → result ≡ p }
 {
-    let name = if run.below < run.below_to {
-        height.below[run.below].name
-    } else {
-        kept.marks[run.above].name
-    };
+    let name = name_of(height, kept, run);
     rounded_on(&height.edges[name as usize].edge, height.at)
+}
+
+// The number of an edge of the first strand of a group.
+fn name_of(height: &Height<'_>, kept: &Open, run: &Run) -> u32
+    requires group { IsGroupAt height.now kept.now.marks.items run.now }
+    requires pass_below { AllPass height.now.edges.now height.now.at.now height.now.below.now }
+    requires pass_above { AllPass height.now.edges.now height.now.at.now kept.now.marks.items }
+    requires there_below { AreThere height.now.edges.now height.now.below.now }
+    requires there_above { AreThere height.now.edges.now kept.now.marks.items }
+    ensures { IsNameOf height.now kept.now.marks.items run.now result }
+{
+    if has_below(run) {
+        name_at(height.below, run.below)
+    } else {
+        name_at(&kept.marks, run.above)
+    }
+}
+
+fn has_below(run: &Run) -> bool
+    ensures some { result ≡ true → run.now.below < run.now.below_to }
+    ensures none { result ≡ false → run.now.below_to ≤ run.now.below }
+{
+    run.below < run.below_to
+}
+
+fn name_at(marks: &[Mark], i: usize) -> u32
+    requires { i < length marks.now }
+    ensures { result ≡ (mark_at marks.now i).name }
+{
+    marks[i].name
 }

@@ -9,7 +9,7 @@ ghost use Rattle.scad_geom.specs.Leaves.{AreLeavesBalanced};
 ghost use Rattle.scad_geom.specs.Heights.{AreNeighbours};
 ghost use Rattle.slice_events.specs.Levels.{AreLevels};
 ghost use Rattle.sweep_laws.specs.Sweeps.{AreMergedEdges};
-ghost use Rattle.slice_outlines.specs.Sweep.{HasSwept, IsClear};
+ghost use Rattle.slice_outlines.specs.Sweep.{HasSwept, CanClimb, CanEnd, IsClear};
 ghost use Rattle.slice_outlines.specs.Heights.{Onwards, IsOf, HasComeTo};
 
 use crate::above::marks_above;
@@ -41,7 +41,8 @@ impl Sweep {
     pub(crate) fn new(alloc: Global, edges: &[LeafEdge], shape: &Shape) -> Result<Sweep, AllocError>
         requires within { All (λ e. IsEdgeWithin coordinate_limit e.edge) edges.now }
         requires few { length edges.now < 2 ^ 32 }
-        ensures { IfOk result (λ s. (levels : List Level) → HasSwept edges.now shape.now levels levels s) }
+        ensures { IfOk result (λ s. (levels : List Level) → AreLevels edges.now levels
+            → HasSwept edges.now shape.now levels levels s) }
     {
         Ok(Sweep {
             alloc,
@@ -69,9 +70,9 @@ impl Sweep {
         requires at { IsLevelWithin coordinate_limit at.now }
         requires upper { IsLevelWithin coordinate_limit upper.now }
         requires neighbours { AreNeighbours edges.now at.now upper.now }
-        ensures { (shape : Shape) (levels ls : List Level) → AreLevels edges.now levels
-            → HasSwept edges.now shape levels (at.now ∷ (upper.now ∷ ls)) self.old
-            → OnOk result (HasSwept edges.now shape levels (upper.now ∷ ls) self.new) }
+        requires swept { CanClimb edges.now at.now upper.now self.old }
+        ensures { (w : CanClimb edges.now at.now upper.now self.old)
+            → OnOk result (HasSwept edges.now w.shape w.levels (upper.now ∷ w.later) self.new) }
     {
         let flat_to = flats_to(&self.flats, self.passed, at);
         self.clear_cursor(edges, at, flat_to);
@@ -114,9 +115,8 @@ impl Sweep {
         requires few { length edges.now < 2 ^ 32 }
         requires balanced { AreLeavesBalanced edges.now }
         requires top { IsLevelWithin coordinate_limit top.now }
-        ensures { (shape : Shape) (levels : List Level) → AreLevels edges.now levels
-            → HasSwept edges.now shape levels (top.now ∷ []) self
-            → IfOk result (λ v. AreMergedEdges edges.now shape v.items) }
+        requires swept { CanEnd edges.now top.now self }
+        ensures { (w : CanEnd edges.now top.now self) → IfOk result (λ v. AreMergedEdges edges.now w.shape v.items) }
     {
         let mut kept = self.kept;
         let below = mem::replace(&mut kept.marks, Vec::new(self.alloc));
