@@ -17,3 +17,4 @@ mod Rounding
 mod Waiting
 mod LevelSteps
 mod Grouping
+mod WayCovers

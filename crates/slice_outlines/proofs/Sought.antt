@@ -125,7 +125,7 @@ rest_by P xs n l h = by_places P (drop n xs) (λ k d q.
     subst P (sym (get_or-drop n xs k d)) (h (n + k) d (omega arith) (omega (arith, length-drop n xs, q))))
 
 -- ---- the strands between two places
-scaled_order : (left right d : ℤ) → left ≤ℤ right → pos 0 <ℤ d → (left *ℤ d) ≤ℤ (right *ℤ d)
+pub scaled_order : (left right d : ℤ) → left ≤ℤ right → pos 0 <ℤ d → (left *ℤ d) ≤ℤ (right *ℤ d)
 scaled_order left right d h p =
     let gap : pos 0 ≤ℤ ((right -ℤ left) *ℤ d) = at_least_mul (right -ℤ left) d (gap_of_at_most left right h)
     (at_most_of_less (pos 0) d p) in

@@ -41,7 +41,7 @@ runs_of s = let r : 0 < s.spot.run = s.runs in omega (arith, ints)
 whole_runs : (x : ℤ) (l : Level) → Runs (whole_spot x l)
 whole_runs x l = omega (arith, ints)
 
-left_is : (s t : Spot) → IsLeft s t → is_left s t ≡ true
+pub left_is : (s t : Spot) → IsLeft s t → is_left s t ≡ true
 left_is s t h = grind (arith, ints)
 
 -- ---- flat edges

@@ -107,8 +107,8 @@ stops-preserved c =
           (c.in_ok-pass_stop.ensures.passed on done (spots_in rest) of name before);
     }
 
-pub returns-clause-passed : goal.returns-clause-passed
-returns-clause-passed c = λ on passed of tell come.
+pub returns : goal.returns
+returns c = record { passed = λ on passed of tell come.
     let h = c.args.height.now in
     let run = c.args.run.now in
     let fs : List Flat = c.args.flats.now in
@@ -128,3 +128,4 @@ returns-clause-passed c = λ on passed of tell come.
       come_as on (passed ++ spots_in ss) [] a.run run a.below run.below_to a.above run.above_to a.flat a.flat ms ms
           kept.given.items kept.given.items kept.cursor w.run_is all.0 all.1 refl refl refl end,
     )
+}
