@@ -35,7 +35,7 @@ use Rattle.slice_bool.proofs.Middle.{size_of}
 use Rattle.slice_bool.proofs.Within.{by_weights, weights_add, size_above}
 
 -- ---- within the limit
-weighed : (limit : ℕ) (x w : ℤ) → unsigned_abs x ≤ limit → unsigned_abs (x *ℤ w) ≤ limit * unsigned_abs w
+pub weighed : (limit : ℕ) (x w : ℤ) → unsigned_abs x ≤ limit → unsigned_abs (x *ℤ w) ≤ limit * unsigned_abs w
 weighed limit x w h = rw (unsigned_abs-mul x w) (mul-le (unsigned_abs x) (unsigned_abs w) limit (unsigned_abs w) h
     (omega arith))
 

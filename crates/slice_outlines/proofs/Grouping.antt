@@ -96,7 +96,7 @@ drop_names zero ms = refl
 drop_names (suc n) [] = refl
 drop_names (suc n) (m ∷ ms) = drop_names n ms
 
-same_names : (old new : List Mark) → length new ≡ length old
+pub same_names : (old new : List Mark) → length new ≡ length old
     → ((i : ℕ) → (mark_at new i).name ≡ (mark_at old i).name)
     → map (λ (m : Mark). m.name) old ≡ map (λ (m : Mark). m.name) new
 same_names [] [] s h = refl

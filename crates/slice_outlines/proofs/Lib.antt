@@ -18,3 +18,4 @@ mod Waiting
 mod LevelSteps
 mod Grouping
 mod WayCovers
+mod Stretched

@@ -157,8 +157,7 @@ module _ (gs : List Group) (below : List Mark) (bs : List (List ℕ)) (c : Chang
       let within = n.within in
       let there = n.there in
       let passed_within = t.within in
-      let upper = t.upper in
-      (
+      let upper = t.upper in (
         o,
         omega (arith, within, passed_within, length-drop passed below),
         omega (arith, there, o, ap length t.rest, length-drop (length above) bs, upper),

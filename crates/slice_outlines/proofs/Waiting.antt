@@ -183,7 +183,7 @@ pass_by_names es l ms ns e a = All-from_recursion (λ m. passes_at (edge_at es m
     of_names [] h = tt
     of_names (m ∷ ms) h = (h.0, of_names ms h.1)
 
-order_by_names : (h : Height) (ms ns : List Mark) → names_in ms ≡ names_in ns → AreInOrder h ms → AreInOrder h ns
+pub order_by_names : (h : Height) (ms ns : List Mark) → names_in ms ≡ names_in ns → AreInOrder h ms → AreInOrder h ns
 order_by_names h [] [] e o = tt
 order_by_names h [] (n ∷ ns) e o = absurd cc
 order_by_names h (m ∷ ms) [] e o = absurd cc
@@ -193,8 +193,7 @@ order_by_names h (m ∷ (k ∷ ms)) (n ∷ []) e o = absurd (omega (arith, ap le
 order_by_names h (m ∷ (k ∷ ms)) (n ∷ (j ∷ ns)) e o =
     let first : m.name ≡ n.name = cc in
     let rest : names_in (k ∷ ms) ≡ names_in (j ∷ ns) = cc in
-    let second : k.name ≡ j.name = cc in
-    (
+    let second : k.name ≡ j.name = cc in (
       subst (λ (x : ℕ). IsNotRightOf (spot_on (edge_at h.edges.now x) h.at.now) (spot_on (edge_at h.edges.now j.name) h.at.now)) first
           (subst (λ (x : ℕ). IsNotRightOf (spot_on (edge_at h.edges.now m.name) h.at.now) (spot_on (edge_at h.edges.now x) h.at.now)) second o.0),
       order_by_names h (k ∷ ms) (j ∷ ns) rest o.1,
@@ -210,7 +209,7 @@ all_by_names P (m ∷ ms) (n ∷ ns) e a =
     let rest : names_in ms ≡ names_in ns = cc in
     (subst P first a.0, all_by_names P ms ns rest a.1)
 
-part_names : (ms ns : List Mark) (i n : ℕ) → names_in ms ≡ names_in ns
+pub part_names : (ms ns : List Mark) (i n : ℕ) → names_in ms ≡ names_in ns
     → names_in (take n (drop i ms)) ≡ names_in (take n (drop i ns))
 part_names ms ns i n e =
     let f : Mark → ℕ = λ m. m.name in
@@ -312,8 +311,7 @@ all_passed h ms run fs a w =
     let es : List LeafEdge = h.edges.now in
     let l : Level = h.at.now in
     let low : length (take (a.run.below_to - a.below) (drop a.below h.below.now)) ≡ 0 = none_left es l (take (a.run.below_to - a.below) (drop a.below h.below.now)) w.below in
-    let up : length (take (a.run.above_to - a.above) (drop a.above ms)) ≡ 0 = none_left es l (take (a.run.above_to - a.above) (drop a.above ms)) w.above in
-    (
+    let up : length (take (a.run.above_to - a.above) (drop a.above ms)) ≡ 0 = none_left es l (take (a.run.above_to - a.above) (drop a.above ms)) w.above in (
       none_more a.run.below_to a.below h.below.now w.within.below w.within.run.below_to low ∙ ap (λ (r : Run). r.below_to) w.run_is,
       none_more a.run.above_to a.above ms w.within.above w.within.run.above_to up ∙ ap (λ (r : Run). r.above_to) w.run_is,
     )

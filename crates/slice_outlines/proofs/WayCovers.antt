@@ -109,8 +109,7 @@ spans_from s t a b h k = and_from (int_le (a *ℤ (s.at.d *ℤ pos s.run)) s.x) 
 spans_by : (s t : Spot) (a b : ℤ) → spans s t a b ≡ true
     → (IsLeft s (whole_spot a s.at) → ⊥) × (IsLeft (whole_spot b t.at) t → ⊥)
 spans_by s t a b h =
-    let p = and_parts (int_le (a *ℤ (s.at.d *ℤ pos s.run)) s.x) (int_le t.x (b *ℤ (t.at.d *ℤ pos t.run))) h in
-    (
+    let p = and_parts (int_le (a *ℤ (s.at.d *ℤ pos s.run)) s.x) (int_le t.x (b *ℤ (t.at.d *ℤ pos t.run))) h in (
       spot_by s a (le_of (a *ℤ (s.at.d *ℤ pos s.run)) s.x p.0),
       spot_from t b (le_of t.x (b *ℤ (t.at.d *ℤ pos t.run)) p.1),
     )
@@ -191,9 +190,11 @@ each_covers es s t (f ∷ fs) m b k h = by_test (goes_on s f) refl h (each_cover
     by_test : (c : Bool) → goes_on s f ≡ c → HasNumber (cond c (f ∷ filter (goes_on s) fs) (filter (goes_on s) fs)) k
         → (HasNumber (filter (goes_on s) fs) k → (k < length es) × (covers s.spot t.spot (get_or es k no_edge) ≡ true))
         → (k < length es) × (covers s.spot t.spot (get_or es k no_edge) ≡ true)
-    by_test true e (inl q) r = subst (λ (n : ℕ). (n < length es) × (covers s.spot t.spot (get_or es n no_edge) ≡ true)) q
-        (m.0.is.there, covers_from es f s.spot t.spot m.0.is m.0.on b.0
-        (m.0.aside (left_true s.spot (whole_spot f.right s.spot.at) e)))
+    by_test true e (inl q) r = subst (λ (n : ℕ). (n < length es) × (covers s.spot t.spot (get_or es n no_edge) ≡ true)) q (
+      m.0.is.there,
+      covers_from es f s.spot t.spot m.0.is m.0.on b.0
+          (m.0.aside (left_true s.spot (whole_spot f.right s.spot.at) e)),
+    )
     by_test true e (inr q) r = r q
     by_test false e q r = r q
 

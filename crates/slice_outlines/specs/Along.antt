@@ -25,7 +25,6 @@ use Rattle.slice_outlines.specs.declared.stretch.Along.{Along}
 use Rattle.slice_outlines.specs.declared.height.Height.{Height}
 use Rattle.slice_outlines.specs.declared.height.Open.{Open}
 use Rattle.slice_outlines.specs.Marks.{spot_at, mark_at, left_of_first, IsNamed, AreKept}
-use Rattle.slice_outlines.specs.Flats.{LiesOn, IsFlatOf}
 use Rattle.slice_outlines.specs.Passing.{IsCourseOf, or_none}
 use Rattle.slice_outlines.specs.Cursor.{StandsOn}
 use Rattle.slice_outlines.specs.Heights.{Onwards, IsRunOf, marks_of}
@@ -45,11 +44,6 @@ pub record LieBetween (h : Height) (left right : ℤ) (ms : List Mark) (from to 
   pub behind : AllByRecursion (λ m. IsLeft (whole_spot right h.at.now) (spot_at h.edges.now h.at.now m)) (drop to ms)
 
 -- ---- flat edges
--- flat edges of a height, each of which lies within a part of it
-pub record AreFlatsOf (h : Height) (run : Run) (fs : List Flat) : Type 0 where
-  pub each : AllByRecursion (IsFlatOf h.edges.now) fs
-  pub on : AllByRecursion (LiesOn h.at.now) fs
-
 abbrev pub BeginsBy : Stop → Flat → Type 0
 BeginsBy s f = IsLeft s.spot (whole_spot f.left s.spot.at) → ⊥
 

@@ -1,8 +1,9 @@
 -- The stops of a stretch, as they are passed one after another.
-use Rattle.std.specs.Prelude.{◌≡◌, ◌≤◌, ◌-◌, ⊤, ℕ, List, [], ◌∷◌, length, take, drop, filter, All}
+use Rattle.std.specs.Prelude.{◌≡◌, ◌≤◌, ◌-◌, ⊤, ℕ, List, [], ◌∷◌, ◌++◌, None, length, take, drop, filter, All}
 use Rattle.std.specs.List.{AllByRecursion, position}
 use Rattle.scad_geom.specs.declared.level.LeafEdge.{LeafEdge}
 use Rattle.scad_geom.specs.Limits.{coordinate_limit}
+use Rattle.slice_snap.specs.declared.piece.Spot.{Spot}
 use Rattle.slice_snap.specs.Spots.{IsSpotWithin}
 use Rattle.slice_bool.specs.Pieces.{GoRight, HasSpot, covers}
 use Rattle.slice_outlines.specs.declared.mark.Mark.{Mark}
@@ -10,11 +11,12 @@ use Rattle.slice_outlines.specs.declared.run.Run.{Run}
 use Rattle.slice_outlines.specs.declared.spot.Stop.{Stop}
 use Rattle.slice_outlines.specs.declared.flat.Flat.{Flat}
 use Rattle.slice_outlines.specs.declared.height.Height.{Height}
+use Rattle.slice_outlines.specs.declared.height.Open.{Open}
 use Rattle.slice_outlines.specs.declared.stretch.Along.{Along}
 use Rattle.slice_outlines.specs.Marks.{spot_at}
-use Rattle.slice_outlines.specs.Stops.{spots_in, AllPass}
-use Rattle.slice_outlines.specs.Heights.{AreInOrder}
-use Rattle.slice_outlines.specs.Along.{BeginsBy, StartsAfter, goes_on, least, IsWithinRun}
+use Rattle.slice_outlines.specs.Stops.{spots_in, mark_spots, flat_spots, AllPass}
+use Rattle.slice_outlines.specs.Heights.{Onwards, AreInOrder, KeepsMarks, AreValuedIn}
+use Rattle.slice_outlines.specs.Along.{HasComeOver, BeginsBy, StartsAfter, goes_on, least, IsWithinRun}
 
 -- stops of a height from left to right
 pub record AreStopsAt (h : Height) (ss : List Stop) : Type 0 where
@@ -46,3 +48,14 @@ pub record Waits (h : Height) (ms : List Mark) (run : Run) (fs : List Flat) (lat
       (take (a.run.above_to - a.above) (drop a.above ms))
   pub live : (s : Stop) (rest : List Stop) → later ≡ s ∷ rest
       → (filter (goes_on s) a.live.items ≡ filter (goes_on s) (take a.begun fs)) × All (BeginsBy s) (take a.begun fs)
+
+-- where the strands of a part of a height and the ends of flat edges are
+abbrev pub stretch_spots : Height → List Mark → Run → List Flat → List Spot
+stretch_spots h ms run fs = mark_spots h.edges.now h.at.now (take (run.below_to - run.below) (drop run.below h.below.now))
+    ++ (mark_spots h.edges.now h.at.now (take (run.above_to - run.above) (drop run.above ms)) ++ flat_spots h.at.now fs)
+
+-- the code has come to a stretch, once the values of its strands are found
+abbrev pub HasReachedStops : Onwards → List Spot → List Spot → Run → Open → Type 0
+HasReachedStops on passed spots run o = (ms : List Mark) → KeepsMarks run o.marks.items ms
+    → AreValuedIn on.height on.shape run ms
+    → HasComeOver on passed spots run run.below run.above None ms o.given.items o.cursor

@@ -11,10 +11,14 @@ ghost use Rattle.slice_bool.specs.Pieces.{whole_spot, passes_at, HasSpot};
 ghost use Rattle.slice_bool.specs.Stops.{is_left};
 ghost use Rattle.slice_outlines.specs.Marks.{left_of_first, mark_at, spot_at, names_in};
 ghost use Rattle.slice_outlines.specs.declared.course.Course.{Course};
-ghost use Rattle.slice_outlines.specs.Stops.{AllPass, spots_in};
-ghost use Rattle.slice_outlines.specs.Stretch.{AreStopsAt, TellWays};
-ghost use Rattle.slice_outlines.specs.Heights.{Onwards, IsOf, IsRunOf, AreInOrder, HasComeTo, marks_of};
-ghost use Rattle.slice_outlines.specs.Along.{LieBetween, LiesLeftOf, LiesRightOf, AreFlatsOf, IsNextStop, IsBehindStop, IsWithinRun, HasComeOver, HasComeAlong, HasLive, IsNameTo, RoundAlike, value_over, BeginsBy, StartsAfter, goes_on, course_along, least, lesser, begun_at};
+ghost use Rattle.slice_outlines.specs.declared.spot.Stop.{Stop};
+ghost use Rattle.slice_sweep.specs.Front.{bundles_in};
+ghost use Rattle.slice_bool.specs.Beside.{AreMembers};
+ghost use Rattle.slice_outlines.specs.Cursor.{Stands, StandsOn};
+ghost use Rattle.slice_outlines.specs.Stops.{AllPass, AreStopsOf, spots_in};
+ghost use Rattle.slice_outlines.specs.Stretch.{AreStopsAt, TellWays, stretch_spots, HasReachedStops};
+ghost use Rattle.slice_outlines.specs.Heights.{Onwards, IsOf, IsRunOf, AreInOrder, IsBalancedBefore, marks_of};
+ghost use Rattle.slice_outlines.specs.Along.{LieBetween, LiesLeftOf, LiesRightOf, IsNextStop, IsBehindStop, IsWithinRun, HasComeOver, HasComeAlong, HasLive, IsNameTo, RoundAlike, value_over, BeginsBy, StartsAfter, goes_on, course_along, least, lesser, begun_at};
 
 use crate::changing::find_values;
 use crate::course::Course;
@@ -117,20 +121,50 @@ pub(crate) fn pass_stretch(
     run: &Run,
     flats: &[Flat],
 ) -> Result<(), AllocError>
-    requires flats { AreFlatsOf height.now run.now flats.now }
-    ensures passed { (on : Onwards) → IsOf height.now on → OnOk result (HasComeTo on run.now.below run.now.above kept.old
-        → HasComeTo on run.now.below_to run.now.above_to kept.new) }
+    requires members { AreMembers height.now.edges.now (bundles_in height.now.front.now) }
+    requires stands { Stands height.now.edges.now (bundles_in height.now.front.now) kept.old.cursor }
+    requires size { length kept.old.marks.items ≡ length (bundles_in height.now.front.now) }
+    requires run { IsRunOf height.now.below.now kept.old.marks.items run.now }
+    requires below_order { AreInOrder height.now height.now.below.now }
+    requires above_order { AreInOrder height.now kept.old.marks.items }
+    requires below_pass { AllPass height.now.edges.now height.now.at.now height.now.below.now }
+    requires above_pass { AllPass height.now.edges.now height.now.at.now kept.old.marks.items }
+    ensures passed { (on : Onwards) (passed : List Spot) → IsOf height.now on → IsBalancedBefore height.now on.shape run.now
+        → StandsOn height.now.edges.now on.shape (bundles_in height.now.front.now) kept.old.cursor
+        → ((stops : List Stop) → AreStopsAt height.now stops
+        → AreStopsOf (stretch_spots height.now kept.old.marks.items run.now flats.now) (spots_in stops)
+        → TellWays height.now.edges.now flats.now stops)
+        → OnOk result ((spots : List Spot)
+        × AreStopsOf (stretch_spots height.now kept.old.marks.items run.now flats.now) spots
+        × (HasReachedStops on passed spots run.now kept.old → (course : Option Course)
+        × HasComeOver on (passed ++ spots) [] run.now run.now.below_to run.now.above_to course
+        kept.new.marks.items kept.new.given.items kept.new.cursor)) }
 {
     find_values(height, kept, run);
-    let stops = stops(
-        alloc,
-        height.edges,
-        height.at,
-        &height.below[run.below..run.below_to],
-        &kept.marks[run.above..run.above_to],
-        flats,
-    )?;
-    pass_stops(alloc, height, kept, run, flats, &stops)
+    let stops = stops_of(alloc, height, kept, run, flats)?;
+    pass_stops(alloc, height, kept, run, flats, &stops)?;
+    Ok(())
+}
+
+// The places of the strands of a stretch and of the ends of its flat edges.
+fn stops_of(
+    alloc: Global,
+    height: &Height<'_>,
+    kept: &Open,
+    run: &Run,
+    flats: &[Flat],
+) -> Result<Vec<Stop>, AllocError>
+    requires run { IsRunOf height.now.below.now kept.now.marks.items run.now }
+    requires below_pass { AllPass height.now.edges.now height.now.at.now height.now.below.now }
+    requires above_pass { AllPass height.now.edges.now height.now.at.now kept.now.marks.items }
+    ensures stops { IfOk result (λ v. AreStopsOf (stretch_spots height.now kept.now.marks.items run.now flats.now)
+        (spots_in v.items)) }
+    ensures at { IfOk result (λ v. AreStopsAt height.now v.items) }
+{
+    let below = &height.below[run.below..run.below_to];
+    let above = &kept.marks[run.above..run.above_to];
+    let stops = stops(alloc, height.edges, height.at, below, above, flats)?;
+    Ok(stops)
 }
 
 // Passes the places of a stretch, from left to right.

@@ -108,24 +108,24 @@ stops-preserved c =
     }
 
 pub returns : goal.returns
-returns c = record { passed = λ on passed of tell come.
-    let h = c.args.height.now in
-    let run = c.args.run.now in
-    let fs : List Flat = c.args.flats.now in
-    let ss : List Stop = c.args.stops.now in
-    let i : ℕ = c.stops.s-index in
-    let a = c.stops.along in
-    let kept = c.stops.kept in
-    let ms : List Mark = kept.marks.items in
-    let none : drop i ss ≡ [] = drop_all i ss c.stops-test.false in
-    let w : Waits h ms run fs [] a = subst (λ (ts : List Stop). Waits h ms run fs ts a) none c.stops.invariant.waits in
-    let all = all_passed h ms run fs a w in
-    let end = subst (λ (ts : List Stop). HasComeAlong on (passed ++ spots_in ts) [] a kept) (take_all i ss c.stops-test.false)
-    (subst (λ (ts : List Stop). HasComeAlong on (passed ++ spots_in (take i ss)) (spots_in ts) a kept) none
-    (c.stops.invariant.passed on passed of tell come)) in
-    (
-      a.flat,
-      come_as on (passed ++ spots_in ss) [] a.run run a.below run.below_to a.above run.above_to a.flat a.flat ms ms
-          kept.given.items kept.given.items kept.cursor w.run_is all.0 all.1 refl refl refl end,
-    )
+returns c = record {
+  passed = λ on passed of tell come.
+      let h = c.args.height.now in
+      let run = c.args.run.now in
+      let fs : List Flat = c.args.flats.now in
+      let ss : List Stop = c.args.stops.now in
+      let i : ℕ = c.stops.s-index in
+      let a = c.stops.along in
+      let kept = c.stops.kept in
+      let ms : List Mark = kept.marks.items in
+      let none : drop i ss ≡ [] = drop_all i ss c.stops-test.false in
+      let w : Waits h ms run fs [] a = subst (λ (ts : List Stop). Waits h ms run fs ts a) none c.stops.invariant.waits in
+      let all = all_passed h ms run fs a w in
+      let end = subst (λ (ts : List Stop). HasComeAlong on (passed ++ spots_in ts) [] a kept) (take_all i ss c.stops-test.false)
+      (subst (λ (ts : List Stop). HasComeAlong on (passed ++ spots_in (take i ss)) (spots_in ts) a kept) none
+      (c.stops.invariant.passed on passed of tell come)) in (
+        a.flat,
+        come_as on (passed ++ spots_in ss) [] a.run run a.below run.below_to a.above run.above_to a.flat a.flat ms ms
+            kept.given.items kept.given.items kept.cursor w.run_is all.0 all.1 refl refl refl end,
+      );
 }
