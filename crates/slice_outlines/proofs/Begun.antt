@@ -1,5 +1,5 @@
 -- Strands that begin at a point, one after another.
-use Rattle.std.proofs.Common.{◌≡◌, ℕ, ◌+◌, ◌-◌, ◌<◌, ◌≤◌, List, [], ◌∷◌, ◌++◌, length, get_or, set, take, drop, map, refl, sym, ap, ◌∙◌, arith, append_assoc, length-append}
+use Rattle.std.proofs.Common.{◌≡◌, ℕ, ◌+◌, ◌-◌, ◌<◌, ◌≤◌, List, [], ◌∷◌, ◌++◌, length, get_or, set, take, drop, map, sym, ap, ◌∙◌, arith, append_assoc, length-append}
 use Rattle.std.proofs.lemmas.List.{drop_more, get_or_at, set_at, map_push, length-map, length-take, length-drop, take-append-drop}
 use Rattle.scad_geom.specs.declared.point.Pt.{Pt}
 use Rattle.slice_outlines.specs.declared.mark.Mark.{Mark}

@@ -8,7 +8,7 @@ use Rattle.std.specs.Prelude.{if◌then◌else◌, int_lt, unsigned_abs}
 use Rattle.std.proofs.lemmas.Int.{ints}
 use Rattle.scad_geom.specs.Limits.{coordinate_limit}
 use Rattle.std.specs.Int.{int_max}
-use Rattle.std.specs.Ordering.{int_cmp, int_eq, is_lt}
+use Rattle.std.specs.Ordering.{int_eq, is_lt}
 use Rattle.std.specs.Cmp.{IsTotalOrder, IsStrictWeakOrder}
 use Rattle.std.proofs.lemmas.Cmp.{int_cmp_total, then_total, on_total}
 use Rattle.std.proofs.lemmas.List.{at_drop_more, drop_more, drop_all}

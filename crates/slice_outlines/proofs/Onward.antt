@@ -1,9 +1,9 @@
 -- One more place of a stretch is passed.
-use Rattle.std.proofs.Common.{◌≡◌, ℕ, zero, suc, ◌+◌, ◌-◌, ◌<◌, ◌≤◌, Bool, true, false, cond, List, [], ◌∷◌, ◌++◌, length, get_or, take, drop, map, Option, None, Some, refl, sym, ap, ap₂, ◌∙◌, subst, inl, inr, arith, append_assoc, length-append}
+use Rattle.std.proofs.Common.{◌≡◌, ℕ, zero, suc, ◌+◌, ◌-◌, ◌<◌, ◌≤◌, Bool, true, false, List, [], ◌∷◌, ◌++◌, length, get_or, take, drop, Option, None, Some, refl, sym, ap, ap₂, ◌∙◌, subst, inl, inr, arith, append_assoc, length-append}
 use Rattle.std.specs.Prelude.{nat_lt, if◌then◌else◌}
 use Rattle.std.specs.List.{AllByRecursion, AllZip, position}
 use Rattle.std.specs.List.Sorted.{IsPermutation}
-use Rattle.std.proofs.lemmas.Bool.{cases_lt, le-ltb}
+use Rattle.std.proofs.lemmas.Bool.{cases_lt}
 use Rattle.std.proofs.lemmas.List.{append-nil, map-append, take-append-drop, drop-drop, drop-take, take-take, drop_more, get_or-drop, get_or-append_right, length-take, length-drop, length-map, take_at}
 use Rattle.std.proofs.lemmas.List.Sorted.{IsPermutation-append, IsPermutation-refl}
 use Rattle.scad_geom.specs.declared.point.Pt.{Pt}
@@ -18,10 +18,9 @@ use Rattle.slice_snap.specs.Spots.{point_of}
 use Rattle.slice_snap.specs.Rounding.{rounded_edges}
 use Rattle.slice_sweep.specs.Front.{bundles_in}
 use Rattle.slice_bool.specs.Pieces.{spot_on, covers}
-use Rattle.sweep_laws.specs.Ways.{Way, way_between, pieces_of}
-use Rattle.sweep_laws.specs.Visits.{Pass}
+use Rattle.sweep_laws.specs.Ways.{Way, pieces_of}
 use Rattle.sweep_laws.specs.Fronts.{Strand, bundles_of, value_before, ways_up, ways_from}
-use Rattle.sweep_laws.specs.Crossing.{Place, spots_of, all_below, all_above, all_closed, way_along, flat_way, ins_to, outs_from, opens_after, ArePassed}
+use Rattle.sweep_laws.specs.Crossing.{Place, all_below, all_above, all_closed, way_along, flat_way, ins_to, outs_from, opens_after, ArePassed}
 use Rattle.sweep_laws.proofs.Edges.{ways_give_edges}
 use Rattle.slice_outlines.specs.declared.course.Course.{Course}
 use Rattle.slice_outlines.specs.declared.mark.Mark.{Mark}
@@ -35,8 +34,8 @@ use Rattle.slice_outlines.specs.Marks.{spot_at, no_mark, mark_at, left_of_first,
 use Rattle.slice_outlines.specs.Passing.{courses, or_none, IsCourseOf, start_of, ended_at}
 use Rattle.slice_outlines.specs.Places.{ins_in, outs_in}
 use Rattle.slice_outlines.specs.Heights.{Onwards, IsRunOf}
-use Rattle.slice_outlines.specs.Along.{course_along, least, begun_at, value_over, LeadTo, BeginAt, ArePlacesFrom, HasComeOver, IsNameTo, RoundAlike}
-use Rattle.slice_outlines.proofs.Placing.{IsLike, EndsAt, RoundsTo, AreNamed, begun_ways, zip_append, all_append, first_kept, same_pass, IsPlace, PlacePasses, place_passes}
+use Rattle.slice_outlines.specs.Along.{course_along, least, begun_at, value_over, LeadTo, BeginAt, HasComeOver, IsNameTo, RoundAlike}
+use Rattle.slice_outlines.proofs.Placing.{IsLike, EndsAt, RoundsTo, AreNamed, begun_ways, zip_append, first_kept, same_pass, PlacePasses, place_passes}
 
 -- ---- parts of a list
 part_then : {X : Type 0} (xs : List X) (i j : ℕ) → i ≤ j → take (j - i) (drop i xs) ++ drop j xs ≡ drop i xs

@@ -24,7 +24,7 @@ use Rattle.sweep_laws.specs.Edges.{edges_between}
 use Rattle.sweep_laws.proofs.Edges.{ways_give_edges}
 use Rattle.slice_outlines.specs.declared.course.Course.{Course}
 use Rattle.slice_outlines.specs.declared.mark.Mark.{Mark}
-use Rattle.slice_outlines.specs.Marks.{left_of_first, IsNamed, IsKept, AreKept, begun}
+use Rattle.slice_outlines.specs.Marks.{left_of_first, IsNamed, AreKept, begun}
 use Rattle.slice_outlines.specs.Passing.{course_between, courses, or_none, edges_to, IsCourseOf, going_on, or_at, start_of, unless_on, ended_at}
 
 -- a piece of a way's name and direction

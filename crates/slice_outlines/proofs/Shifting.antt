@@ -6,7 +6,7 @@ use Rattle.slice_sweep.specs.Changes.{Group, all_below, all_above, staying, Tell
 use Rattle.slice_sweep.specs.Changes.Tell.{none, stays, changes}
 use Rattle.slice_outlines.specs.declared.run.Run.{Run}
 use Rattle.slice_outlines.specs.Runs.{first, after}
-use Rattle.slice_outlines.specs.Cursor.{IsShifted, Fit, CanShift}
+use Rattle.slice_outlines.specs.Cursor.{IsShifted, Fit}
 
 -- ---- lists of groups
 below-append : (gs hs : List Group) → length (all_below (gs ++ hs)) ≡ length (all_below gs) + length (all_below hs)

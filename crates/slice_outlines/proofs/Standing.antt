@@ -1,6 +1,6 @@
 -- A cursor goes from bundle to bundle.
 use Rattle.std.proofs.Common.{◌≡◌, ℕ, zero, suc, ◌+◌, ◌^◌, ◌<◌, ◌≤◌, List, [], ◌∷◌, ◌++◌, length, get_or, drop, inl, inr, refl, sym, ap, ◌∙◌, arith, subst, length-append}
-use Rattle.std.specs.List.{AllByRecursion, All, AllZip, concat}
+use Rattle.std.specs.List.{AllByRecursion, AllZip, concat}
 use Rattle.std.proofs.lemmas.Bool.{cases_lt}
 use Rattle.std.proofs.lemmas.List.{at_drop_more}
 use Rattle.std.proofs.lemmas.List.Elements.{All-from_recursion}
@@ -9,7 +9,6 @@ use Rattle.scad_geom.specs.declared.shape.Shape.{Shape}
 use Rattle.scad_geom.proofs.Order.{back}
 use Rattle.slice_bool.specs.Beside.{AreMembers}
 use Rattle.slice_outlines.specs.declared.mark.Mark.{Mark}
-use Rattle.slice_outlines.specs.declared.tally.Tally.{Tally}
 use Rattle.slice_outlines.specs.declared.cursor.Cursor.{Cursor}
 use Rattle.slice_outlines.specs.Marks.{IsNamed, AreThere}
 use Rattle.slice_outlines.specs.Tallies.{Tells, AreSmall}

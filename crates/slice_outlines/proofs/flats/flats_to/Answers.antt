@@ -1,8 +1,7 @@
 -- One more that lies on the height.
-use Rattle.std.proofs.Common.{◌+◌, ◌-◌, take, drop, sym, subst, arith}
+use Rattle.std.proofs.Common.{sym, subst, arith}
 use Rattle.std.specs.List.{All}
 use Rattle.std.proofs.lemmas.List.Elements.{All-nil}
-use Rattle.slice_outlines.specs.declared.flat.Flat.{Flat}
 use Rattle.slice_outlines.specs.Flats.{LiesOn}
 use Rattle.slice_outlines.proofs.Parts.{part_none, all_part_more}
 use Rattle.slice_outlines.proofs.flats.flats_to.Goals as goal

@@ -1,5 +1,5 @@
 -- The comparison of ends tells, past the end there is none.
-use Rattle.std.proofs.Common.{◌≡◌, true, false, get_or, sym, ap₂, ◌∙◌, subst}
+use Rattle.std.proofs.Common.{get_or, sym, ap₂, ◌∙◌, subst}
 use lib.Signed.{◌≤ℤ◌, le_z}
 use mir.Syntax.{w32}
 use Rattle.std.proofs.lemmas.Int.{to_z-of_z}

@@ -1,5 +1,5 @@
 -- The comparison of heights tells, past the end there is none.
-use Rattle.std.proofs.Common.{◌≡◌, true, false, sym, ◌∙◌, subst, true≢false}
+use Rattle.std.proofs.Common.{sym, ◌∙◌, subst, true≢false}
 use lib.IntN.{◌*ℤ◌}
 use Rattle.std.specs.Cmp.{signed_Decides}
 use Rattle.std.proofs.lemmas.List.{get_or_read}

@@ -1,5 +1,5 @@
 -- One more that is joined.
-use Rattle.std.proofs.Common.{◌≡◌, ◌+◌, ◌-◌, ◌≤◌, List, ◌++◌, ◌∷◌, [], take, drop, get_or, refl, sym, ap₂, ◌∙◌, subst, arith}
+use Rattle.std.proofs.Common.{◌≡◌, ◌-◌, ◌≤◌, List, ◌++◌, ◌∷◌, [], take, drop, get_or, sym, ap₂, ◌∙◌, subst, arith}
 use lib.IntN.{ℤ}
 use lib.Signed.{◌≤ℤ◌}
 use mir.Syntax.{w32}

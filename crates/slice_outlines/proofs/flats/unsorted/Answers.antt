@@ -1,7 +1,6 @@
 -- A flat edge comes behind those before it.
-use Rattle.std.proofs.Common.{◌≡◌, ◌+◌, ◌++◌, ℕ, List, drop, refl, ap, ◌∙◌, append_assoc}
-use Rattle.std.proofs.lemmas.List.Elements.{All-nil}
-use Rattle.slice_outlines.specs.Flats.{IsFlatOf, numbers_of, flat_numbers}
+use Rattle.std.proofs.Common.{◌+◌, ◌++◌, ℕ, List, drop, refl, ap, ◌∙◌, append_assoc}
+use Rattle.slice_outlines.specs.Flats.{numbers_of, flat_numbers}
 use Rattle.slice_outlines.proofs.Joining.{numbers_step}
 use Rattle.slice_outlines.proofs.flats.unsorted.Goals as goal
 

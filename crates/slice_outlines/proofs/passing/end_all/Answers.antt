@@ -1,5 +1,5 @@
 -- The edges of the strands' pieces, then that of the piece along the height.
-use Rattle.std.proofs.Common.{◌≡◌, List, ◌++◌, sym, ap, ◌∙◌, append_assoc}
+use Rattle.std.proofs.Common.{List, ◌++◌, sym, ap, ◌∙◌, append_assoc}
 use Rattle.scad_geom.specs.declared.point.Edge.{Edge}
 use Rattle.slice_outlines.specs.declared.course.Course.{Course}
 use Rattle.slice_outlines.specs.Passing.{courses, or_none, edges_to}

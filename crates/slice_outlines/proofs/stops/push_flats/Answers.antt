@@ -1,10 +1,9 @@
 -- Both ends of a flat edge come behind those of the edges to its left.
-use Rattle.std.proofs.Common.{◌≡◌, ◌+◌, ◌++◌, ◌∷◌, [], ℕ, List, drop, sym, ap, ◌∙◌, append_assoc}
+use Rattle.std.proofs.Common.{◌+◌, ◌++◌, ◌∷◌, [], ℕ, List, drop, sym, ap, ◌∙◌, append_assoc}
 use Rattle.std.proofs.lemmas.List.{at_drop_more}
 use Rattle.slice_snap.specs.declared.piece.Spot.{Spot}
 use Rattle.slice_bool.specs.Pieces.{whole_spot}
 use Rattle.slice_outlines.specs.declared.flat.Flat.{Flat}
-use Rattle.slice_outlines.specs.declared.spot.Stop.{Stop}
 use Rattle.slice_outlines.specs.Stops.{spots_in, flat_spots}
 use Rattle.slice_outlines.proofs.stops.push_flats.Goals as goal
 

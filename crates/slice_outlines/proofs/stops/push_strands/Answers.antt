@@ -1,5 +1,5 @@
 -- A strand's spot comes behind those of the strands to its left.
-use Rattle.std.proofs.Common.{◌≡◌, ◌+◌, ◌++◌, ◌∷◌, ℕ, List, drop, sym, ap, ◌∙◌}
+use Rattle.std.proofs.Common.{◌+◌, ◌++◌, ◌∷◌, ℕ, List, drop, sym, ap, ◌∙◌}
 use Rattle.std.proofs.lemmas.List.{at_drop_more}
 use Rattle.slice_snap.specs.declared.piece.Spot.{Spot}
 use Rattle.slice_outlines.specs.declared.spot.Stop.{Stop}

@@ -1,6 +1,6 @@
 use Rattle.std.proofs.Common.{◌≤◌, ◌-◌, length}
 use Rattle.std.specs.List.{AllWithin}
-use Rattle.slice_outlines.specs.Along.{LiesLeftOf, LiesRightOf}
+use Rattle.slice_outlines.specs.Along.{LiesLeftOf}
 use Rattle.slice_outlines.proofs.stretch.first_from.Given as goal
 
 abbrev pub invariant-marks : goal.invariant-marks

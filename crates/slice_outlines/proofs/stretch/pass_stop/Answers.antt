@@ -1,8 +1,7 @@
 -- The strands at the stop are passed, with the flat edges that go on from there.
-use Rattle.std.proofs.Common.{◌≡◌, ◌++◌, ◌∷◌, [], List, Bool, ℕ, drop, false, sym, ap, ap₂, refl, ◌∙◌}
+use Rattle.std.proofs.Common.{◌∷◌, List, ℕ, drop, false, sym, ap, ap₂, refl}
 use Rattle.slice_outlines.specs.declared.mark.Mark.{Mark}
 use Rattle.slice_outlines.specs.declared.run.Run.{Run}
-use Rattle.slice_outlines.specs.declared.flat.Flat.{Flat}
 use Rattle.slice_outlines.specs.Marks.{left_of_first}
 use Rattle.slice_outlines.specs.Along.{value_over, RoundAlike}
 use Rattle.slice_outlines.proofs.Onward.{come_as, name_as}

@@ -5,7 +5,6 @@ use Rattle.scad_geom.specs.declared.point.Edge.{Edge}
 use Rattle.slice_snap.specs.declared.piece.Spot.{Spot}
 use Rattle.slice_sweep.specs.Front.{bundles_in}
 use Rattle.slice_bool.specs.Pieces.{HasSpot}
-use Rattle.slice_outlines.specs.declared.course.Course.{Course}
 use Rattle.slice_outlines.specs.declared.mark.Mark.{Mark}
 use Rattle.slice_outlines.specs.declared.flat.Flat.{Flat}
 use Rattle.slice_outlines.specs.declared.spot.Stop.{Stop}

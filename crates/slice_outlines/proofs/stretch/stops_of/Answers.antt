@@ -1,6 +1,5 @@
 -- The stops are those of the parts.
-use Rattle.std.proofs.Common.{◌++◌, ◌-◌, List, take, drop, ap, subst}
-use Rattle.slice_snap.specs.declared.piece.Spot.{Spot}
+use Rattle.std.proofs.Common.{◌++◌, ◌-◌, List, take, drop, subst}
 use Rattle.slice_outlines.specs.declared.mark.Mark.{Mark}
 use Rattle.slice_outlines.specs.Stops.{spots_in, mark_spots, flat_spots, AreStopsOf}
 use Rattle.slice_outlines.proofs.Stretched.{stops_at}

@@ -1,5 +1,5 @@
 -- The bundle that is passed is taken away.
-use Rattle.std.proofs.Common.{◌≡◌, ◌+◌, ◌<◌, ◌≤◌, ℕ, List, [], length, get_or, refl, sym, subst, arith}
+use Rattle.std.proofs.Common.{◌<◌, ℕ, List, [], length, refl, sym, subst, arith}
 use Rattle.std.specs.List.{All}
 use Rattle.scad_geom.specs.declared.shape.Shape.{Shape}
 use Rattle.slice_sweep.specs.Front.{bundles_in}

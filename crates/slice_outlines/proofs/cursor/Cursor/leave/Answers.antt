@@ -1,5 +1,5 @@
 -- As long as it stands between strands that meet, it goes on to the right.
-use Rattle.std.proofs.Common.{◌≡◌, ℕ, List, length, arith}
+use Rattle.std.proofs.Common.{arith}
 use Rattle.slice_sweep.specs.Front.{bundles_in}
 use Rattle.slice_outlines.proofs.Standing.{names_there, named_size}
 use Rattle.slice_outlines.proofs.cursor.Cursor.leave.Goals as goal

@@ -1,5 +1,5 @@
 -- The cursor goes to the place, and the shape's leaves are in by the headings from there on.
-use Rattle.std.proofs.Common.{◌≡◌, ℕ, List, drop, ap, ◌∙◌}
+use Rattle.std.proofs.Common.{ℕ, List, drop, ap, ◌∙◌}
 use Rattle.std.specs.List.{concat}
 use Rattle.scad_geom.specs.declared.shape.Shape.{Shape}
 use Rattle.slice_sweep.specs.Front.{bundles_in}

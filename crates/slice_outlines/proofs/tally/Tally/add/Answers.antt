@@ -1,5 +1,5 @@
 -- Each edge's heading goes to its leaf.
-use Rattle.std.proofs.Common.{◌≡◌, ◌+◌, ◌^◌, ◌≤◌, ℕ, List, ◌++◌, length, drop, get_or, sym, ap, ◌∙◌, subst, refl, arith}
+use Rattle.std.proofs.Common.{◌+◌, ◌≤◌, ℕ, ◌++◌, drop, get_or, sym, ◌∙◌, subst, refl, arith}
 use Rattle.std.specs.Prelude.{ℤ, pos, ◌==◌, ◌<◌, unsigned_abs}
 use Rattle.std.specs.List.{All}
 use Rattle.std.proofs.lemmas.List.{at_drop_more, at_drop_all}
