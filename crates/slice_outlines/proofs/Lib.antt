@@ -19,3 +19,5 @@ mod LevelSteps
 mod Grouping
 mod WayCovers
 mod Stretched
+mod Beginning
+mod Steady

@@ -44,15 +44,14 @@ impl Sweep {
         ensures { IfOk result (λ s. (levels : List Level) → AreLevels edges.now levels
             → HasSwept edges.now shape.now levels levels s) }
     {
+        let front = Front::new(alloc, edges)?;
+        let cursor = Cursor::new(alloc, edges, shape)?;
+        let flats = flats(alloc, edges)?;
         Ok(Sweep {
             alloc,
-            front: Front::new(alloc, edges)?,
-            kept: Open {
-                marks: Vec::new(alloc),
-                cursor: Cursor::new(alloc, edges, shape)?,
-                given: Vec::new(alloc),
-            },
-            flats: flats(alloc, edges)?,
+            front,
+            kept: nothing(alloc, cursor),
+            flats,
             passed: 0,
         })
     }
@@ -135,6 +134,19 @@ impl Sweep {
         let flats = &self.flats[self.passed..];
         pass_stretch(self.alloc, &height, &mut kept, &run, flats)?;
         Ok(kept.given)
+    }
+}
+
+// Beside a front without strands.
+fn nothing(alloc: Global, cursor: Cursor) -> Open
+    ensures marks { result.marks.items ≡ [] }
+    ensures cursor { result.cursor ≡ cursor }
+    ensures given { result.given.items ≡ [] }
+{
+    Open {
+        marks: Vec::new(alloc),
+        cursor,
+        given: Vec::new(alloc),
     }
 }
 
