@@ -21,3 +21,4 @@ mod WayCovers
 mod Stretched
 mod Beginning
 mod Steady
+mod Counting

@@ -11,7 +11,7 @@ ghost use Rattle.slice_outlines.specs.Stops.{AllPass};
 ghost use Rattle.slice_outlines.specs.Cursor.{StandsOn, Stands};
 ghost use Rattle.slice_outlines.specs.Heights.{Onwards, IsOf, HasCome, IsBalancedBefore, IsGroupAt, IsNameOf, MeetAt, IsCountOf, IsNotLeft, IsNotIn};
 ghost use Rattle.slice_outlines.specs.Along.{HasComeOver};
-ghost use Rattle.slice_outlines.specs.Reached.{HasReached};
+ghost use Rattle.slice_outlines.specs.Reached.{HasReached, CanCount};
 
 use crate::changing::find_values;
 use crate::height::{Height, Open};
@@ -61,14 +61,15 @@ pub(crate) fn pass_groups(
 /// Skips the groups that don't lie to the right of a part of the height.
 pub(crate) fn skip_groups(changes: &[Change], passed: &Passed, limit: &Run) -> Passed
     requires behind { IsCountOf changes.now passed.now }
+    requires told { CanCount changes.now }
     ensures behind { IsCountOf changes.now result }
     ensures next { IsNotIn changes.now result limit.now }
 {
     let mut passed = *passed;
     'changes: while passed.count < changes.len() {
         let run = after(&passed.last, &changes[passed.count]);
-        if run.below >= limit.below_to && run.above >= limit.above_to {
-            break;
+        if is_right(&run, limit) {
+            return passed;
         }
         passed = Passed {
             count: passed.count + 1,
@@ -76,6 +77,13 @@ pub(crate) fn skip_groups(changes: &[Change], passed: &Passed, limit: &Run) -> P
         };
     }
     passed
+}
+
+// Whether one part lies to the right of another.
+fn is_right(run: &Run, other: &Run) -> bool
+    ensures { result ≡ true → (other.now.below_to ≤ run.now.below) × (other.now.above_to ≤ run.now.above) }
+{
+    run.below >= other.below_to && run.above >= other.above_to
 }
 
 fn pass_group(height: &Height<'_>, kept: &mut Open, run: &Run) -> Result<(), AllocError>
