@@ -1,5 +1,6 @@
 //! A sweep over the levels of an edge list.
-ghost use Rattle.std.specs.Prelude.{◌≡◌, ◌<◌, ◌^◌, List, [], ◌∷◌, length, IfOk, OnOk, All};
+ghost use Rattle.std.specs.Prelude.{◌≡◌, ◌<◌, ◌≤◌, ◌^◌, true, false, List, [], ◌∷◌, length, IfOk, OnOk, All};
+ghost use Rattle.std.specs.List.{AllZip};
 ghost use Rattle.scad_geom.specs.declared.level.Level.{Level};
 ghost use Rattle.scad_geom.specs.declared.shape.Shape.{Shape};
 ghost use Rattle.scad_geom.specs.Limits.{coordinate_limit};
@@ -8,8 +9,12 @@ ghost use Rattle.scad_geom.specs.Level.{IsLevelWithin};
 ghost use Rattle.scad_geom.specs.Leaves.{AreLeavesBalanced};
 ghost use Rattle.scad_geom.specs.Heights.{AreNeighbours};
 ghost use Rattle.slice_events.specs.Levels.{AreLevels};
+ghost use Rattle.slice_sweep.specs.Front.{bundles_in};
+ghost use Rattle.slice_bool.specs.Beside.{AreMembers};
 ghost use Rattle.sweep_laws.specs.Sweeps.{AreMergedEdges};
 ghost use Rattle.slice_outlines.specs.Sweep.{HasSwept, CanClimb, CanEnd, IsClear};
+ghost use Rattle.slice_outlines.specs.Marks.{IsNamed};
+ghost use Rattle.slice_outlines.specs.Cursor.{Stands, StaysOn};
 ghost use Rattle.slice_outlines.specs.Heights.{Onwards, IsOf, HasComeTo};
 
 use crate::above::marks_above;
@@ -94,12 +99,20 @@ impl Sweep {
     // Moves the cursor to where the level leaves it.
     fn clear_cursor(&mut self, edges: &[LeafEdge], at: &Level, flat_to: usize)
         requires within { All (λ e. IsEdgeWithin coordinate_limit e.edge) edges.now }
+        requires few { length edges.now < 2 ^ 32 }
         requires at { IsLevelWithin coordinate_limit at.now }
-        ensures swept { (shape : Shape) (levels ls : List Level) → HasSwept edges.now shape levels (at.now ∷ ls) self.old
-            → HasSwept edges.now shape levels (at.now ∷ ls) self.new }
+        requires members { AreMembers edges.now (bundles_in self.old.front) }
+        requires stands { Stands edges.now (bundles_in self.old.front) self.old.kept.cursor }
+        requires named { AllZip (λ m b. IsNamed m.name b) self.old.kept.marks.items (bundles_in self.old.front) }
+        ensures stands { StaysOn edges.now (bundles_in self.old.front) self.old.kept.cursor self.new.kept.cursor }
         ensures clear { IsClear edges.now at.now self.new.kept flat_to self.new.passed }
+        ensures front { self.new.front ≡ self.old.front }
+        ensures marks { self.new.kept.marks ≡ self.old.kept.marks }
+        ensures given { self.new.kept.given ≡ self.old.kept.given }
+        ensures flats { self.new.flats ≡ self.old.flats }
+        ensures passed { self.new.passed ≡ self.old.passed }
     {
-        if self.passed < flat_to {
+        if has_flats(self.passed, flat_to) {
             self.kept.cursor.rest(edges, &self.front);
         } else {
             self.kept
@@ -135,6 +148,14 @@ impl Sweep {
         pass_stretch(self.alloc, &height, &mut kept, &run, flats)?;
         Ok(kept.given)
     }
+}
+
+// Whether flat edges lie from one place to another.
+fn has_flats(from: usize, to: usize) -> bool
+    ensures some { result ≡ true → from < to }
+    ensures none { result ≡ false → to ≤ from }
+{
+    from < to
 }
 
 // Beside a front without strands.
