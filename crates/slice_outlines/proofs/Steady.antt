@@ -181,3 +181,24 @@ stay_passed on passed s run n m ms given c t h come =
     no_course : (ws : List Way) → AllZip IsCourseOf ws [] → ws ≡ []
     no_course [] z = refl
     no_course (w ∷ ws) z = absurd z
+
+-- what comes next has a part of its own, where the value to its left is that to the right of what is passed
+pub part_begins : (on : Onwards) (passed : List Spot) (s : Spot) (run next : Run) (n m : ℕ) (ms : List Mark)
+    (given : List Edge) (c : Cursor) → value_over on.height next ms m ≡ value_over on.height run ms m
+    → HasComeOver on passed [] run n m None ms given c → HasComeOver on passed (s ∷ []) next n m None ms given c
+part_begins on passed s run next n m ms given c e come =
+    let none : come.flat ≡ [] = come.leads in
+    record {
+      places = come.places;
+      flat = come.flat;
+      at = come.at;
+      along = come.along;
+      leads = subst (λ (ws : List Way). AllByRecursion (λ (w : Way). w.far ≡ s) ws) (sym none) tt;
+      lower = come.lower;
+      upper = come.upper;
+      goes_on = λ later f pass. come.goes_on later (record { below = f.below; value = f.value ∙ e; first = tt }) pass;
+      kept = subst (λ (v : Bool). AreKept v (take m ms) (all_above come.places)) (sym e) come.kept;
+      named = come.named;
+      edges = come.edges;
+      stands = come.stands;
+    }

@@ -25,7 +25,11 @@ pub(crate) fn find_values(height: &Height<'_>, kept: &mut Open, run: &Run)
     ensures given { kept.new.given ≡ kept.old.given }
 {
     if is_one(run) {
-        set_value(&mut kept.marks, run.above, value_at(height.below, run.below));
+        set_value(
+            &mut kept.marks,
+            run.above,
+            value_at(height.below, run.below),
+        );
     } else {
         ask_cursor(height, kept, run);
     }

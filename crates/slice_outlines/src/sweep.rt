@@ -18,11 +18,11 @@ ghost use Rattle.slice_outlines.specs.Cursor.{Stands, StaysOn};
 ghost use Rattle.slice_outlines.specs.Heights.{Onwards, IsOf, HasComeTo};
 
 use crate::above::marks_above;
-use crate::height::{Height, Open};
 use crate::cursor::Cursor;
 use crate::flat::Flat;
 use crate::flats::{flats, flats_to, joined_from};
 use crate::groups::{Passed, pass_groups, skip_groups};
+use crate::height::{Height, Open};
 use crate::mark::Mark;
 use crate::run::{Run, first};
 use crate::stretch::{pass_stretch, run_between};
