@@ -1,25 +1,19 @@
 -- Below all levels.
-use Rattle.std.proofs.Common.{◌≡◌, ℕ, ◌<◌, ◌⊎◌, inl, inr, Bool, true, false, cond, List, [], ◌∷◌, length, get_or, refl, sym, ap, ◌∙◌, subst, arith, All}
+use Rattle.std.proofs.Common.{inl, inr, Bool, true, false, cond, List, [], ◌∷◌, get_or, refl}
 use lib.IntN.{pos}
 use lib.Signed.{◌<ℤ◌}
 use Rattle.std.specs.Prelude.{int_lt}
 use Rattle.std.specs.List.{AllByRecursion}
-use Rattle.std.specs.List.Sorted.{IsPermutation}
-use Rattle.std.proofs.lemmas.Int.{ints}
-use Rattle.std.proofs.lemmas.List.Elements.{All-from_recursion}
-use Rattle.std.proofs.lemmas.List.Sorted.{IsPermutation-refl}
 use Rattle.scad_geom.specs.declared.point.Edge.{Edge}
 use Rattle.scad_geom.specs.declared.level.Level.{Level}
 use Rattle.scad_geom.specs.declared.level.LeafEdge.{LeafEdge}
 use Rattle.scad_geom.specs.declared.shape.Shape.{Shape}
 use Rattle.scad_geom.specs.Line.{low}
-use Rattle.scad_geom.specs.Level.{level_of, IsLower, IsAtMost}
+use Rattle.scad_geom.specs.Level.{level_of, IsAtMost}
 use Rattle.scad_geom.specs.Heights.{heights}
-use Rattle.scad_geom.proofs.Heights.{at_most_chain, lower_weak, lower_chain, same_at_least, heights_positive}
+use Rattle.scad_geom.proofs.Heights.{at_most_chain, lower_weak, same_at_least, heights_positive}
 use Rattle.scad_geom.proofs.Order.{all_ends}
 use Rattle.slice_events.specs.Levels.{IsRising, HasHeight, AreLevels}
-use Rattle.slice_slab.specs.Bundles.{no_edge, edge_at}
-use Rattle.slice_sweep.specs.declared.front.Front.{Front}
 use Rattle.slice_sweep.specs.Front.{IsReadyFor, StartFrom, IsBegunTo}
 use Rattle.slice_outlines.specs.declared.sweep.Sweep.{Sweep}
 use Rattle.slice_outlines.specs.Sweep.{IsReadyForFirst, IsFrontBelow}

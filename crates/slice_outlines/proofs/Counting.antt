@@ -1,9 +1,9 @@
 -- Changes that are counted, one after another.
-use Rattle.std.proofs.Common.{◌≡◌, ℕ, zero, suc, ◌+◌, ◌-◌, ◌^◌, ◌<◌, ◌≤◌, List, [], ◌∷◌, ◌++◌, length, get_or, drop, refl, sym, ap, ◌∙◌, subst, arith, add-one, length-append}
+use Rattle.std.proofs.Common.{◌≡◌, ℕ, zero, suc, ◌+◌, ◌^◌, ◌<◌, ◌≤◌, List, [], ◌∷◌, length, get_or, drop, refl, sym, ap, ◌∙◌, subst, arith, add-one, length-append}
 use Rattle.std.proofs.lemmas.List.{drop_more}
 use Rattle.slice_sweep.specs.declared.change.Change.{Change}
 use Rattle.slice_sweep.specs.Changes.{Group, all_below, all_above, Tell}
-use Rattle.slice_sweep.specs.Changes.Tell.{none, stays, changes}
+use Rattle.slice_sweep.specs.Changes.Tell.{stays, changes}
 use Rattle.slice_outlines.specs.declared.run.Run.{Run}
 use Rattle.slice_outlines.specs.declared.groups.Passed.{Passed}
 use Rattle.slice_outlines.specs.Runs.{first, after, run_of}

@@ -1,8 +1,8 @@
 -- What passes at a group.
-use Rattle.std.proofs.Common.{◌≡◌, ℕ, zero, suc, ◌+◌, ◌-◌, ◌<◌, ◌≤◌, Bool, true, false, List, [], ◌∷◌, ◌++◌, map, length, get_or, take, drop, None, refl, sym, ap, ap₂, ◌∙◌, subst, arith, All, true≢false}
+use Rattle.std.proofs.Common.{◌≡◌, ℕ, zero, suc, ◌+◌, ◌-◌, ◌<◌, ◌≤◌, Bool, true, false, List, [], ◌∷◌, ◌++◌, map, length, get_or, take, drop, None, refl, sym, ap, ap₂, ◌∙◌, subst, arith, true≢false}
 use Rattle.std.specs.Prelude.{nat_lt, if◌then◌else◌}
 use Rattle.std.specs.List.{AllByRecursion}
-use Rattle.std.proofs.lemmas.List.{drop_more, take-map, drop_all}
+use Rattle.std.proofs.lemmas.List.{drop_more, take-map}
 use Rattle.scad_geom.specs.declared.point.Pt.{Pt}
 use Rattle.scad_geom.specs.declared.point.Edge.{Edge}
 use Rattle.scad_geom.proofs.Order.{front, back}
@@ -21,7 +21,7 @@ use Rattle.slice_outlines.specs.Marks.{AreThere, mark_at, no_mark, spot_at, left
 use Rattle.slice_outlines.specs.Stops.{AllPass}
 use Rattle.slice_outlines.specs.Cursor.{StandsOn}
 use Rattle.slice_outlines.specs.Passing.{courses, or_none, start_of, ended_at}
-use Rattle.slice_outlines.specs.Heights.{Onwards, IsRunOf, IsGroupAt, IsNameOf, MeetAt, KeepsMarks, marks_of}
+use Rattle.slice_outlines.specs.Heights.{Onwards, IsRunOf, IsGroupAt, IsNameOf, MeetAt, KeepsMarks}
 use Rattle.slice_outlines.specs.Along.{value_over, HasComeOver}
 use Rattle.slice_outlines.proofs.Onward.{stop_passed}
 

@@ -1,6 +1,6 @@
 -- The marks above a height, one change after another.
 use Rattle.std.proofs.Common.{◌≡◌, ℕ, zero, suc, ◌+◌, ◌-◌, ◌<◌, ◌≤◌, List, [], ◌∷◌, ◌++◌, map, length, get_or, take, drop, refl, sym, ap, ap₂, ◌∙◌, subst, arith, append_assoc}
-use Rattle.std.proofs.lemmas.List.{length-append, length-map, length-take, length-take-le, length-drop, take-append-drop, take_at, drop_at, drop_more, drop_all, drop-drop, append-nil, map_push}
+use Rattle.std.proofs.lemmas.List.{length-append, length-map, length-take-le, length-drop, take-append-drop, take_at, drop_at, drop_more, drop_all, drop-drop, append-nil, map_push}
 use Rattle.slice_sweep.specs.declared.change.Change.{Change}
 use Rattle.slice_sweep.specs.Changes.{Group, all_below, all_above, staying, Tell}
 use Rattle.slice_sweep.specs.Changes.Tell.{none, stays, changes}

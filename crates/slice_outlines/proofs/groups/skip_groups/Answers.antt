@@ -1,5 +1,5 @@
 -- One more change is counted, up to one that lies to the right.
-use Rattle.std.proofs.Common.{◌≡◌, ◌≤◌, ◌∷◌, List, get_or, drop, sym, subst, arith}
+use Rattle.std.proofs.Common.{◌≤◌, List, get_or, subst}
 use Rattle.std.proofs.lemmas.List.{get_or_default}
 use Rattle.slice_sweep.specs.declared.change.Change.{Change}
 use Rattle.slice_outlines.specs.declared.run.Run.{Run}

@@ -1,9 +1,7 @@
 -- The right end is beside no two strands.
-use Rattle.std.proofs.Common.{◌<◌, length, sym, ◌∙◌, arith, subst, List}
-use Rattle.std.specs.List.{AllZip}
+use Rattle.std.proofs.Common.{sym, ◌∙◌, arith, subst, List}
 use Rattle.slice_sweep.specs.Front.{bundles_in}
 use Rattle.slice_outlines.specs.declared.mark.Mark.{Mark}
-use Rattle.slice_outlines.specs.Marks.{IsNamed}
 use Rattle.slice_outlines.specs.Cursor.{IsApartAt}
 use Rattle.slice_outlines.proofs.Standing.{named_size}
 use Rattle.slice_outlines.proofs.sweep.Sweep.clear_cursor.Goals as goal

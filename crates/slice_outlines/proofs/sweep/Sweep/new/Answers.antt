@@ -1,9 +1,8 @@
 -- No level is passed.
-use Rattle.std.proofs.Common.{◌≡◌, ℕ, false, List, [], sym, ap, ◌∙◌, subst, refl, arith}
+use Rattle.std.proofs.Common.{ℕ, false, List, [], sym, subst, arith}
 use Rattle.std.specs.List.Sorted.{IsPermutation}
 use Rattle.std.proofs.lemmas.List.Sorted.{IsPermutation-refl}
 use Rattle.scad_geom.specs.declared.point.Edge.{Edge}
-use Rattle.slice_sweep.specs.Front.{bundles_in}
 use Rattle.sweep_laws.proofs.HeightByHeight.{sweeps_begin}
 use Rattle.sweep_laws.proofs.Edges.{ways_give_edges}
 use Rattle.slice_outlines.specs.declared.mark.Mark.{Mark}
