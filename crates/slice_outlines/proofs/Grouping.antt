@@ -2,7 +2,7 @@
 use Rattle.std.proofs.Common.{◌≡◌, ℕ, zero, suc, ◌+◌, ◌-◌, ◌<◌, ◌≤◌, Bool, true, false, List, [], ◌∷◌, ◌++◌, map, length, get_or, take, drop, None, refl, sym, ap, ap₂, ◌∙◌, subst, arith, true≢false}
 use Rattle.std.specs.Prelude.{nat_lt, if◌then◌else◌}
 use Rattle.std.specs.List.{AllByRecursion}
-use Rattle.std.proofs.lemmas.List.{drop_more, take-map}
+use Rattle.std.proofs.lemmas.List.{drop_more, drop_at, take-map}
 use Rattle.scad_geom.specs.declared.point.Pt.{Pt}
 use Rattle.scad_geom.specs.declared.point.Edge.{Edge}
 use Rattle.scad_geom.proofs.Order.{front, back}
@@ -17,13 +17,14 @@ use Rattle.slice_outlines.specs.declared.mark.Mark.{Mark}
 use Rattle.slice_outlines.specs.declared.run.Run.{Run}
 use Rattle.slice_outlines.specs.declared.cursor.Cursor.{Cursor}
 use Rattle.slice_outlines.specs.declared.height.Height.{Height}
-use Rattle.slice_outlines.specs.Marks.{AreThere, mark_at, no_mark, spot_at, left_of_first, AreKept, begun_in}
+use Rattle.slice_outlines.specs.Marks.{AreThere, mark_at, no_mark, spot_at, left_of_first, AreKept, begun, begun_in, names_in}
 use Rattle.slice_outlines.specs.Stops.{AllPass}
 use Rattle.slice_outlines.specs.Cursor.{StandsOn}
 use Rattle.slice_outlines.specs.Passing.{courses, or_none, start_of, ended_at}
 use Rattle.slice_outlines.specs.Heights.{Onwards, IsRunOf, IsGroupAt, IsNameOf, MeetAt, KeepsMarks}
 use Rattle.slice_outlines.specs.Along.{value_over, HasComeOver}
-use Rattle.slice_outlines.proofs.Onward.{stop_passed}
+use Rattle.slice_outlines.specs.Ahead.{KeepsRight}
+use Rattle.slice_outlines.proofs.Onward.{stop_passed, names_begun, front_size, begun_split}
 
 -- ---- the first mark of a part
 first_in : {X : Type 0} (P : X → Type 0) (xs : List X) (i j : ℕ) (d : X) → i < j → j ≤ length xs
@@ -106,11 +107,11 @@ same_names (m ∷ ms) (n ∷ ns) s h =
     ap₂ (λ (k : ℕ) (ks : List ℕ). k ∷ ks) (sym (h 0)) (same_names ms ns (omega (arith, s)) (λ i. h (suc i)))
 
 module _ (Q : ℕ → Type 0) where
-  to_names : (ms : List Mark) → AllByRecursion (λ (m : Mark). Q m.name) ms → AllByRecursion Q (map (λ (m : Mark). m.name) ms)
+  pub to_names : (ms : List Mark) → AllByRecursion (λ (m : Mark). Q m.name) ms → AllByRecursion Q (map (λ (m : Mark). m.name) ms)
   to_names [] h = tt
   to_names (m ∷ ms) h = (h.0, to_names ms h.1)
 
-  of_names : (ms : List Mark) → AllByRecursion Q (map (λ (m : Mark). m.name) ms) → AllByRecursion (λ (m : Mark). Q m.name) ms
+  pub of_names : (ms : List Mark) → AllByRecursion Q (map (λ (m : Mark). m.name) ms) → AllByRecursion (λ (m : Mark). Q m.name) ms
   of_names [] h = tt
   of_names (m ∷ ms) h = (h.0, of_names ms h.1)
 
@@ -127,7 +128,7 @@ module _ (Q : ℕ → Type 0) where
       (to_names (take k (drop i old)) a))
 
 -- ---- a group is passed
-value_end : (h : Height) (run : Run) (ms : List Mark)
+pub value_end : (h : Height) (run : Run) (ms : List Mark)
     → value_over h run ms run.above_to ≡ left_of_first (drop run.below_to h.below.now) false
 value_end h run ms = by_test (nat_lt run.above_to run.above_to) (not_less run.above_to)
   where
@@ -244,3 +245,18 @@ group_by on h e passed s run old mid new given more c d p from right =
     (group_passed on passed s run old mid given c p k keeps r at m come new more from
     (f ∙ ap (λ (b : Bool). start_of p (courses b low ++ or_none None) (courses b up ++ or_none None)) v) n
     (g ∙ ap (λ (b : Bool). given ++ ended_at p (courses b low ++ or_none None) (courses b up ++ or_none None)) v)))
+
+-- what is to its right stays
+pub keeps_right : (run : Run) (old mid new : List Mark) (from : Pt) → KeepsMarks run old mid → run.above ≤ run.above_to
+    → run.above_to ≤ length old → new ≡ begun_in run.above run.above_to from mid → KeepsRight run old new
+keeps_right run old mid new from keeps o l e =
+    let i : ℕ = run.above in
+    let j : ℕ = run.above_to in
+    let size = keeps.size in
+    record {
+      names = ap names_in e ∙ names_begun i j from mid o ∙ sym (same_names old mid keeps.size keeps.names);
+      right = ap (λ (ms : List Mark). drop j ms) (e ∙ begun_split i j from mid)
+          ∙ drop_at (take i mid ++ begun from (take (j - i) (drop i mid))) (drop j mid) j
+          (front_size i j from mid o (omega (arith, size, l)))
+          ∙ keeps.right;
+    }

@@ -22,3 +22,4 @@ mod Stretched
 mod Beginning
 mod Steady
 mod Counting
+mod Passage

@@ -68,7 +68,7 @@ zip_take R (suc n) (x ∷ xs) [] z = absurd z
 zip_take R (suc n) (x ∷ xs) (y ∷ ys) z = (z.0, zip_take R n xs ys z.1)
 
 -- ---- marks of a part
-kept_drop : (r : Bool) (n : ℕ) (ms : List Mark) (ss : List Strand) → AreKept r ms ss → AreKept r (drop n ms) (drop n ss)
+pub kept_drop : (r : Bool) (n : ℕ) (ms : List Mark) (ss : List Strand) → AreKept r ms ss → AreKept r (drop n ms) (drop n ss)
 kept_drop r zero ms ss k = k
 kept_drop r (suc n) [] [] k = tt
 kept_drop r (suc n) [] (s ∷ ss) k = absurd k
@@ -135,7 +135,7 @@ named_in i j at ms bs h z =
     (named_begun at q c (zip_take R (j - i) (drop i ms) (drop i bs) (zip_drop R i ms bs z)))
     (zip_drop R j ms bs z)))
 
-front_size : (i j : ℕ) (at : Pt) (ms : List Mark) → i ≤ j → j ≤ length ms
+pub front_size : (i j : ℕ) (at : Pt) (ms : List Mark) → i ≤ j → j ≤ length ms
     → length (take i ms ++ begun at (take (j - i) (drop i ms))) ≡ j
 front_size i j at ms h k =
     let q : List Mark = take (j - i) (drop i ms) in
@@ -148,7 +148,7 @@ front_size i j at ms h k =
       length-drop i ms,
     )
 
-begun_split : (i j : ℕ) (at : Pt) (ms : List Mark)
+pub begun_split : (i j : ℕ) (at : Pt) (ms : List Mark)
     → begun_in i j at ms ≡ (take i ms ++ begun at (take (j - i) (drop i ms))) ++ drop j ms
 begun_split i j at ms = sym (append_assoc (take i ms) (begun at (take (j - i) (drop i ms))) (drop j ms))
 

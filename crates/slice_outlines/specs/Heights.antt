@@ -65,34 +65,12 @@ pub record Onwards : Type 0 where
 abbrev pub IsOf : Height → Onwards → Type 0
 IsOf h on = (on.height ≡ h) × AreKept false h.below.now on.below
 
--- the places that are passed have so many strands below the height and above it; however it goes on from there, with
--- one value on both sides to the right of them, all places are passed
-pub record HasComeTo (on : Onwards) (n m : ℕ) (o : Open) : Type 0 where
-  pub places : List Place
-  pub lower : all_below places ≡ take n on.below
-  pub upper : bundles_of (all_above places) ≡ take m (bundles_in on.height.front.now)
-  pub rightwards : GoRight (spots_of places)
-  pub passed : (later : List Place)
-      → value_before (all_below later) false ≡ value_before (all_above later) false
-      → all_below later ≡ drop n on.below → ArePassed on.height.edges.now on.height.at.now on.upper [] later
-      → ArePassed on.height.edges.now on.height.at.now on.upper [] (places ++ later)
-  pub kept : AreKept (value_before (drop n on.below) false) (take m o.marks.items) (all_above places)
-  pub given : IsPermutation (on.given ++ rounded_edges (pieces_of (all_closed places))) o.given.items
-  pub cursor : StandsOn on.height.edges.now on.shape (bundles_in on.height.front.now) o.cursor
-
 -- so it is with the first so many changes
 pub record IsCountOf (cs : List Change) (p : Passed) : Type 0 where
   pub count : p.count ≤ length cs
   pub last : p.last ≡ run_of first p.count cs
 
-abbrev pub HasCome : Onwards → List Change → Passed → Open → Type 0
-HasCome on cs p o = IsCountOf cs p × HasComeTo on p.last.below_to p.last.above_to o
-
--- the next change doesn't lie to the left of a part; it lies to its right
-abbrev pub IsNotLeft : List Change → Passed → Run → Type 0
-IsNotLeft cs p limit = (c : Change) (later : List Change) → drop p.count cs ≡ c ∷ later
-    → (after p.last c).below_to ≤ limit.below → (after p.last c).above_to ≤ limit.above → ⊥
-
+-- the next change lies to the right of a part
 abbrev pub IsNotIn : List Change → Passed → Run → Type 0
 IsNotIn cs p limit = (c : Change) (later : List Change) → drop p.count cs ≡ c ∷ later
     → (limit.below_to ≤ (after p.last c).below) × (limit.above_to ≤ (after p.last c).above)

@@ -12,4 +12,5 @@ pub mod Valued
 pub mod Along
 pub mod Stretch
 pub mod Reached
+pub mod Ahead
 pub mod Sweep

@@ -8,10 +8,11 @@ ghost use Rattle.slice_sweep.specs.Front.{bundles_in};
 ghost use Rattle.slice_bool.specs.Beside.{AreMembers};
 ghost use Rattle.slice_outlines.specs.Marks.{AreThere, mark_at};
 ghost use Rattle.slice_outlines.specs.Stops.{AllPass};
-ghost use Rattle.slice_outlines.specs.Cursor.{StandsOn, Stands};
-ghost use Rattle.slice_outlines.specs.Heights.{Onwards, IsOf, HasCome, IsBalancedBefore, IsGroupAt, IsNameOf, MeetAt, IsCountOf, IsNotLeft, IsNotIn};
+ghost use Rattle.slice_outlines.specs.Cursor.{StandsOn, Stands, StaysOn};
+ghost use Rattle.slice_outlines.specs.Heights.{Onwards, IsOf, IsBalancedBefore, IsGroupAt, IsNameOf, MeetAt, IsCountOf, IsNotIn};
 ghost use Rattle.slice_outlines.specs.Along.{HasComeOver};
 ghost use Rattle.slice_outlines.specs.Reached.{HasReached, CanCount};
+ghost use Rattle.slice_outlines.specs.Ahead.{AreBetween, AreStrandsAhead, HasComeTo, HasPassed, KeepsRight, group_spots};
 
 use crate::changing::find_values;
 use crate::height::{Height, Open};
@@ -38,16 +39,29 @@ pub(crate) fn pass_groups(
     passed: &Passed,
     limit: &Run,
 ) -> Result<Passed, AllocError>
+    requires members { AreMembers height.now.edges.now (bundles_in height.now.front.now) }
+    requires stands { Stands height.now.edges.now (bundles_in height.now.front.now) kept.old.cursor }
+    requires size { length kept.old.marks.items ≡ length (bundles_in height.now.front.now) }
+    requires pass_below { AllPass height.now.edges.now height.now.at.now height.now.below.now }
+    requires pass_above { AllPass height.now.edges.now height.now.at.now kept.old.marks.items }
+    requires there_below { AreThere height.now.edges.now height.now.below.now }
+    requires there_above { AreThere height.now.edges.now kept.old.marks.items }
     requires behind { IsCountOf changes.now passed.now }
-    ensures passed { (on : Onwards) → IsOf height.now on → IfOk result (λ p. HasCome on changes.now passed.now kept.old
-        → HasCome on changes.now p kept.new) }
-    ensures next { IfOk result (λ p. IsNotLeft changes.now p limit.now) }
+    requires told { CanCount changes.now }
+    requires ahead { AreBetween height.now kept.old.marks.items changes.now passed.now limit.now }
+    ensures passed { (w : AreBetween height.now kept.old.marks.items changes.now passed.now limit.now) (on : Onwards)
+        (spots : List Spot) → IsOf height.now on → AreStrandsAhead on w.below w.above w.groups
+        → HasComeTo on spots w.below w.above kept.old
+        → OnOk result (HasComeTo on (spots ++ group_spots height.now.edges.now height.now.at.now w.groups)
+        limit.now.below limit.now.above kept.new) }
+    ensures next { (w : AreBetween height.now kept.old.marks.items changes.now passed.now limit.now)
+        → IfOk result (λ p. HasPassed height.now changes.now w.rest limit.now p kept.old kept.new) }
 {
     let mut passed = *passed;
     'changes: while passed.count < changes.len() {
         let run = after(&passed.last, &changes[passed.count]);
         if !is_left(&run, limit) {
-            break;
+            return Ok(passed);
         }
         pass_group(height, kept, &run)?;
         passed = Passed {
@@ -102,6 +116,9 @@ fn pass_group(height: &Height<'_>, kept: &mut Open, run: &Run) -> Result<(), All
         → HasReached on passed s run.now kept.old
         → OnOk result (HasComeOver on (passed ++ s ∷ []) [] run.now run.now.below_to run.now.above_to None
         kept.new.marks.items kept.new.given.items kept.new.cursor) }
+    ensures right { OnOk result (KeepsRight run.now kept.old.marks.items kept.new.marks.items) }
+    ensures stands { OnOk result (StaysOn height.now.edges.now (bundles_in height.now.front.now) kept.old.cursor
+        kept.new.cursor) }
 {
     let at = point_of(height, kept, run);
     find_values(height, kept, run);

@@ -15,7 +15,9 @@ ghost use Rattle.sweep_laws.specs.Sweeps.{AreMergedEdges};
 ghost use Rattle.slice_outlines.specs.Sweep.{HasSwept, CanClimb, CanEnd, IsClear};
 ghost use Rattle.slice_outlines.specs.Marks.{IsNamed};
 ghost use Rattle.slice_outlines.specs.Cursor.{Stands, StaysOn};
-ghost use Rattle.slice_outlines.specs.Heights.{Onwards, IsOf, HasComeTo};
+ghost use Rattle.slice_outlines.specs.Heights.{Onwards, IsOf};
+ghost use Rattle.slice_outlines.specs.Ahead.{HasComeTo};
+ghost use Rattle.slice_snap.specs.declared.piece.Spot.{Spot};
 
 use crate::above::marks_above;
 use crate::cursor::Cursor;
@@ -179,8 +181,9 @@ fn pass_level(
     changes: &[Change],
     flats: &[Flat],
 ) -> Result<(), AllocError>
-    ensures { (on : Onwards) → IsOf height.now on → OnOk result (HasComeTo on 0 0 kept.old
-        → HasComeTo on (length height.now.below.now) (length kept.old.marks.items) kept.new) }
+    ensures { (on : Onwards) → IsOf height.now on → OnOk result (HasComeTo on [] 0 0 kept.old
+        → (spots : List Spot)
+        × HasComeTo on spots (length height.now.below.now) (length kept.old.marks.items) kept.new) }
 {
     let mut passed = Passed {
         count: 0,

@@ -8,7 +8,7 @@ use Rattle.slice_outlines.specs.declared.mark.Mark.{Mark}
 use Rattle.slice_outlines.specs.declared.height.Height.{Height}
 use Rattle.slice_outlines.specs.Passing.{courses, or_none, start_of, ended_at}
 use Rattle.slice_outlines.specs.Heights.{MeetAt, AreValuedIn}
-use Rattle.slice_outlines.proofs.Grouping.{group_by}
+use Rattle.slice_outlines.proofs.Grouping.{group_by, keeps_right}
 use Rattle.slice_outlines.proofs.groups.pass_group.Goals as goal
 
 pub returns : goal.returns
@@ -39,4 +39,8 @@ returns c = record {
       c.find_values.ensures.rest c.requires.group.run (sym point) (subst (MeetAt h old run) (sym point) meet)
       (c.find_values.ensures.stands on.shape stands) (reached mid c.find_values.ensures.rest valued)
       c.value_at-right.ensures from c.begin.ensures more;
+  right = keeps_right c.args.run.now c.args.kept.now.marks.items c.find_values.new.kept.marks.items
+      c.begin.new.marks.items c.in_ok-from.from c.find_values.ensures.rest c.requires.group.run.above
+      c.requires.group.run.above_to c.begin.ensures;
+  stands = c.find_values.ensures.stands;
 }
