@@ -35,20 +35,20 @@ tell_from n c cs gs (stays m ds b hs t) =
 tell_from n c cs gs (changes d ds g hs e f t) = omega arith
 
 -- what stays on the way to the next change, and what comes there
-record Step (c : Change) (cs : List Change) (right : List Group) (ms : List Mark) (k j : ℕ) : Type 0 where
+record Step (n : ℕ) (c : Change) (cs : List Change) (right : List Group) (ms : List Mark) (k j : ℕ) : Type 0 where
   rest : List Group
   told : Tell (c.from + c.come) cs rest
   size : length (all_below rest) ≡ length (drop j ms)
   above : all_above rest ≡ drop c.come (drop k (all_above right))
   within : j ≤ length ms
   there : k + c.come ≤ length (all_above right)
-  taken : (ns : List Mark) → AreTaken rest (drop j ms) ns
-      → AreTaken right ms (take k ms ++ (map new_mark (take c.come (drop k (all_above right))) ++ ns))
+  taken : (ns : List Mark) → AreTaken (c.from + c.come) cs rest (drop j ms) ns
+      → AreTaken n (c ∷ cs) right ms (take k ms ++ (map new_mark (take c.come (drop k (all_above right))) ++ ns))
 
 stay_step : (n : ℕ) (c : Change) (cs : List Change) (b : List ℕ) (gs : List Group)
     → ((ms : List Mark) (k j : ℕ) → n + 1 + k ≡ c.from → k + c.gone ≡ j → length (all_below gs) ≡ length ms
-    → Step c cs gs ms k j) → n + 1 ≤ c.from → (ms : List Mark) (k j : ℕ) → n + k ≡ c.from → k + c.gone ≡ j
-    → suc (length (all_below gs)) ≡ length ms → Step c cs (staying b ∷ gs) ms k j
+    → Step (n + 1) c cs gs ms k j) → n + 1 ≤ c.from → (ms : List Mark) (k j : ℕ) → n + k ≡ c.from → k + c.gone ≡ j
+    → suc (length (all_below gs)) ≡ length ms → Step n c cs (staying b ∷ gs) ms k j
 stay_step n c cs b gs step o [] k j e f s = absurd (omega (arith, s))
 stay_step n c cs b gs step o (m ∷ ms) zero j e f s = absurd (omega (arith, o, e))
 stay_step n c cs b gs step o (m ∷ ms) (suc k) zero e f s = absurd (omega (arith, f))
@@ -63,13 +63,13 @@ stay_step n c cs b gs step o (m ∷ ms) (suc k) (suc j) e f s =
       above = next.above;
       within = omega (arith, within);
       there = omega (arith, there);
-      taken = λ ns a. taken_stays b gs m ms
+      taken = λ ns a. taken_stays n (c ∷ cs) b gs m ms
           (take k ms ++ (map new_mark (take c.come (drop k (all_above gs))) ++ ns)) (next.taken ns a);
     }
 
 change_step : (c : Change) (cs : List Change) (g : Group) (gs : List Group) → length g.below ≡ c.gone
     → length g.above ≡ c.come → Tell (c.from + c.come) cs gs → (ms : List Mark) (k j : ℕ) → c.from + k ≡ c.from
-    → k + c.gone ≡ j → length (g.below ++ all_below gs) ≡ length ms → Step c cs (g ∷ gs) ms k j
+    → k + c.gone ≡ j → length (g.below ++ all_below gs) ≡ length ms → Step c.from c cs (g ∷ gs) ms k j
 change_step c cs g gs gone come t ms (suc k) j e f s = absurd (omega (arith, e))
 change_step c cs g gs gone come t ms zero j e f s =
     let parts = length-append g.below (all_below gs) in
@@ -83,29 +83,29 @@ change_step c cs g gs gone come t ms zero j e f s =
       above = sym (drop_at g.above (all_above gs) c.come come);
       within = within;
       there = omega (arith, come, length-append g.above (all_above gs));
-      taken = λ ns a. subst (λ (xs : List Mark). AreTaken (g ∷ gs) xs
+      taken = λ ns a. subst (λ (xs : List Mark). AreTaken c.from (c ∷ cs) (g ∷ gs) xs
           (map new_mark (take c.come (g.above ++ all_above gs)) ++ ns)) (take-append-drop j ms)
-          (subst (λ (bs : List (List ℕ)). AreTaken (g ∷ gs) (take j ms ++ drop j ms) (map new_mark bs ++ ns)) (sym front)
-          (taken_changes g gs (take j ms) (drop j ms) ns (omega (arith, first, f, gone)) a));
+          (subst (λ (bs : List (List ℕ)). AreTaken c.from (c ∷ cs) (g ∷ gs) (take j ms ++ drop j ms) (map new_mark bs ++ ns)) (sym front)
+          (taken_changes c cs g gs (take j ms) (drop j ms) ns (omega (arith, first, f)) gone come a));
     }
 
 step : (n : ℕ) (c : Change) (cs : List Change) (gs : List Group) → Tell n (c ∷ cs) gs → (ms : List Mark) (k j : ℕ)
-    → n + k ≡ c.from → k + c.gone ≡ j → length (all_below gs) ≡ length ms → Step c cs gs ms k j
+    → n + k ≡ c.from → k + c.gone ≡ j → length (all_below gs) ≡ length ms → Step n c cs gs ms k j
 step n c cs gs (stays m ds b hs t) ms k j e f s =
     stay_step n c cs b hs (step (n + 1) c cs hs t) (tell_from (n + 1) c cs hs t) ms k j e f s
 step n c cs gs (changes d ds g hs gone come t) ms k j e f s = change_step c cs g hs gone come t ms k j e f s
 
 -- behind the last change all strands stay
 all_stay : (n : ℕ) (gs : List Group) → Tell n [] gs → (ms : List Mark) → length (all_below gs) ≡ length ms
-    → AreTaken gs ms ms
-all_stay n gs (none m) [] s = taken_none
+    → AreTaken n [] gs ms ms
+all_stay n gs (none m) [] s = taken_none n
 all_stay n gs (none m) (x ∷ ms) s = absurd (omega (arith, s))
 all_stay n gs (stays m ds b hs t) [] s = absurd (omega (arith, s))
-all_stay n gs (stays m ds b hs t) (x ∷ ms) s = taken_stays b hs x ms ms (all_stay (n + 1) hs t ms (omega (arith, s)))
+all_stay n gs (stays m ds b hs t) (x ∷ ms) s = taken_stays n [] b hs x ms ms (all_stay (n + 1) hs t ms (omega (arith, s)))
 
 -- ---- change after change
 -- these marks stand above what is passed; what else is taken comes behind them
-pub record AreTakenTo (gs : List Group) (below : List Mark) (bs : List (List ℕ)) (cs : List Change) (passed : ℕ)
+pub record AreTakenTo (all : List Change) (gs : List Group) (below : List Mark) (bs : List (List ℕ)) (cs : List Change) (passed : ℕ)
     (above : List Mark) : Type 0 where
   pub right : List Group
   pub told : Tell (length above) cs right
@@ -113,11 +113,12 @@ pub record AreTakenTo (gs : List Group) (below : List Mark) (bs : List (List ℕ
   pub upper : length above ≤ length bs
   pub size : length (all_below right) ≡ length (drop passed below)
   pub rest : all_above right ≡ drop (length above) bs
-  pub taken : (ns : List Mark) → AreTaken right (drop passed below) ns → AreTaken gs below (above ++ ns)
+  pub taken : (ns : List Mark) → AreTaken (length above) cs right (drop passed below) ns
+      → AreTaken 0 all gs below (above ++ ns)
 
 pub none_taken : (below : List Mark) (bs : List (List ℕ)) (cs : List Change) (above : List Mark) → above ≡ []
-    → (t : IsTold below bs cs) → AreTakenTo t.groups below bs cs 0 above
-none_taken below bs cs above e t = subst (AreTakenTo t.groups below bs cs 0) (sym e) (record {
+    → (t : IsTold below bs cs) → AreTakenTo cs t.groups below bs cs 0 above
+none_taken below bs cs above e t = subst (AreTakenTo cs t.groups below bs cs 0) (sym e) (record {
   right = t.groups;
   told = t.told;
   within = omega arith;
@@ -127,14 +128,14 @@ none_taken below bs cs above e t = subst (AreTakenTo t.groups below bs cs 0) (sy
   taken = λ ns a. a;
 })
 
-pub here : (gs : List Group) (below : List Mark) (bs : List (List ℕ)) (cs : List Change) (i passed : ℕ)
-    (above : List Mark) → i < length cs → AreTakenTo gs below bs (drop i cs) passed above
-    → AreTakenTo gs below bs (get_or cs i no_change ∷ drop (i + 1) cs) passed above
-here gs below bs cs i passed above o t =
-    subst (λ (ds : List Change). AreTakenTo gs below bs ds passed above) (drop_more cs i no_change o) t
+pub here : (all : List Change) (gs : List Group) (below : List Mark) (bs : List (List ℕ)) (cs : List Change) (i passed : ℕ)
+    (above : List Mark) → i < length cs → AreTakenTo all gs below bs (drop i cs) passed above
+    → AreTakenTo all gs below bs (get_or cs i no_change ∷ drop (i + 1) cs) passed above
+here all gs below bs cs i passed above o t =
+    subst (λ (ds : List Change). AreTakenTo all gs below bs ds passed above) (drop_more cs i no_change o) t
 
-module _ (gs : List Group) (below : List Mark) (bs : List (List ℕ)) (c : Change) (cs : List Change) (passed : ℕ)
-    (above : List Mark) (t : AreTakenTo gs below bs (c ∷ cs) passed above) where
+module _ (all : List Change) (gs : List Group) (below : List Mark) (bs : List (List ℕ)) (c : Change) (cs : List Change) (passed : ℕ)
+    (above : List Mark) (t : AreTakenTo all gs below bs (c ∷ cs) passed above) where
   from : length above ≤ c.from
   from = tell_from (length above) c cs t.right t.told
 
@@ -144,7 +145,7 @@ module _ (gs : List Group) (below : List Mark) (bs : List (List ℕ)) (c : Chang
   abbrev ms : List Mark
   ms = drop passed below
 
-  next : Step c cs t.right ms k (k + c.gone)
+  next : Step (length above) c cs t.right ms k (k + c.gone)
   next =
       let o = from in
       step (length above) c cs t.right t.told ms k (k + c.gone) (omega (arith, o)) refl t.size
@@ -166,7 +167,7 @@ module _ (gs : List Group) (below : List Mark) (bs : List (List ℕ)) (c : Chang
   -- as the code pushes them
   pub one_taken : (n : ℕ) (new : List Mark) → n ≡ passed + (c.from - length above) + c.gone
       → new ≡ (above ++ take (c.from - length above) (drop passed below)) ++ map new_mark (take c.come (drop c.from bs))
-      → AreTakenTo gs below bs cs n new
+      → AreTakenTo all gs below bs cs n new
   one_taken n new ne we =
       let o = from in
       let q = next in
@@ -199,20 +200,21 @@ module _ (gs : List Group) (below : List Mark) (bs : List (List ℕ)) (c : Chang
         size = q.size ∙ ap length behind;
         rest = q.above ∙ ap (drop c.come) there ∙ drop-drop c.come c.from bs ∙ ap (λ (i : ℕ). drop i bs) (sym size);
         taken = λ ns a.
-            let a' = subst (λ (xs : List Mark). AreTaken q.rest xs ns) (sym behind) a in
+            let a' = subst (λ (xs : List Mark). AreTaken (c.from + c.come) cs q.rest xs ns) (sym behind)
+            (subst (λ (i : ℕ). AreTaken i cs q.rest (drop n below) ns) size a) in
             let whole = t.taken (way ++ (map new_mark (take c.come (drop k (all_above t.right))) ++ ns))
             (q.taken ns a') in
             let same : above ++ (way ++ (map new_mark (take c.come (drop k (all_above t.right))) ++ ns)) ≡ new ++ ns =
             ap (λ (cs : List (List ℕ)). above ++ (way ++ (map new_mark (take c.come cs) ++ ns))) there
             ∙ sym (append_assoc above way (come ++ ns)) ∙ sym (append_assoc (above ++ way) come ns)
             ∙ ap (λ (xs : List Mark). xs ++ ns) (sym we) in
-            subst (AreTaken gs below) same whole;
+            subst (AreTaken 0 all gs below) same whole;
       }
 
-pub all_taken : (gs : List Group) (below : List Mark) (bs : List (List ℕ)) (cs : List Change) (i passed : ℕ)
-    (above new : List Mark) → length cs ≤ i → AreTakenTo gs below bs (drop i cs) passed above
-    → new ≡ above ++ drop passed below → AreTaken gs below new
-all_taken gs below bs cs i passed above new o here e =
-    let t = subst (λ (ds : List Change). AreTakenTo gs below bs ds passed above) (drop_all i cs o) here in
-    subst (AreTaken gs below) (sym e) (t.taken (drop passed below)
+pub all_taken : (all : List Change) (gs : List Group) (below : List Mark) (bs : List (List ℕ)) (cs : List Change) (i passed : ℕ)
+    (above new : List Mark) → length cs ≤ i → AreTakenTo all gs below bs (drop i cs) passed above
+    → new ≡ above ++ drop passed below → AreTaken 0 all gs below new
+all_taken all gs below bs cs i passed above new o here e =
+    let t = subst (λ (ds : List Change). AreTakenTo all gs below bs ds passed above) (drop_all i cs o) here in
+    subst (AreTaken 0 all gs below) (sym e) (t.taken (drop passed below)
     (all_stay (length above) t.right t.told (drop passed below) t.size))

@@ -18,7 +18,7 @@ pub(crate) fn marks_above(
 ) -> Result<Vec<Mark>, AllocError>
     requires told { IsTold below.now (bundles_in front.now) changes.now }
     ensures { (t : IsTold below.now (bundles_in front.now) changes.now)
-        → IfOk result (λ v. AreTaken t.groups below.now v.items) }
+        → IfOk result (λ v. AreTaken 0 changes.now t.groups below.now v.items) }
 {
     let mut above = Vec::with_capacity(alloc, front.count())?;
     let mut passed = 0;

@@ -21,8 +21,8 @@ push_group-requires-clause-from c =
     let cs = c.args.changes.now in
     let i = c.changes.change-index in
     let t = c.requires.told in
-    (can_take t.groups c.args.below.now B (get_or cs i no_change) (drop (i + 1) cs) c.changes.passed
-    c.changes.above.items (here t.groups c.args.below.now B cs i c.changes.passed c.changes.above.items
+    (can_take cs t.groups c.args.below.now B (get_or cs i no_change) (drop (i + 1) cs) c.changes.passed
+    c.changes.above.items (here cs t.groups c.args.below.now B cs i c.changes.passed c.changes.above.items
     c.changes-test.true (c.changes.invariant.taken t))).0
 
 pub push_group-requires-clause-below : goal.push_group-requires-clause-below
@@ -31,8 +31,8 @@ push_group-requires-clause-below c =
     let cs = c.args.changes.now in
     let i = c.changes.change-index in
     let t = c.requires.told in
-    (can_take t.groups c.args.below.now B (get_or cs i no_change) (drop (i + 1) cs) c.changes.passed
-    c.changes.above.items (here t.groups c.args.below.now B cs i c.changes.passed c.changes.above.items
+    (can_take cs t.groups c.args.below.now B (get_or cs i no_change) (drop (i + 1) cs) c.changes.passed
+    c.changes.above.items (here cs t.groups c.args.below.now B cs i c.changes.passed c.changes.above.items
     c.changes-test.true (c.changes.invariant.taken t))).1
 
 pub push_group-requires-clause-above : goal.push_group-requires-clause-above
@@ -41,19 +41,19 @@ push_group-requires-clause-above c =
     let cs = c.args.changes.now in
     let i = c.changes.change-index in
     let t = c.requires.told in
-    (can_take t.groups c.args.below.now B (get_or cs i no_change) (drop (i + 1) cs) c.changes.passed
-    c.changes.above.items (here t.groups c.args.below.now B cs i c.changes.passed c.changes.above.items
+    (can_take cs t.groups c.args.below.now B (get_or cs i no_change) (drop (i + 1) cs) c.changes.passed
+    c.changes.above.items (here cs t.groups c.args.below.now B cs i c.changes.passed c.changes.above.items
     c.changes-test.true (c.changes.invariant.taken t))).2
 
 next : (c : In_ok-passed) (t : IsTold c.args.below.now (bundles_in c.args.front.now) c.args.changes.now)
-    → AreTakenTo t.groups c.args.below.now (bundles_in c.args.front.now)
+    → AreTakenTo c.args.changes.now t.groups c.args.below.now (bundles_in c.args.front.now)
     (drop (c.changes.change-index + 1) c.args.changes.now) c.in_ok-passed.passed c.push_group.new.above.items
 next c t =
     let B = bundles_in c.args.front.now in
     let cs = c.args.changes.now in
     let i = c.changes.change-index in
-    one_taken t.groups c.args.below.now B (get_or cs i no_change) (drop (i + 1) cs) c.changes.passed
-    c.changes.above.items (here t.groups c.args.below.now B cs i c.changes.passed c.changes.above.items
+    one_taken cs t.groups c.args.below.now B (get_or cs i no_change) (drop (i + 1) cs) c.changes.passed
+    c.changes.above.items (here cs t.groups c.args.below.now B cs i c.changes.passed c.changes.above.items
     c.changes-test.true (c.changes.invariant.taken t)) c.in_ok-passed.passed c.push_group.new.above.items
     c.in_ok-passed.ensures.passed c.in_ok-passed.ensures.marks
 
@@ -62,7 +62,7 @@ changes-preserved c = record { within = (next c c.requires.told).within; taken =
 
 pub returns : goal.returns
 returns c t =
-    all_taken t.groups c.args.below.now (bundles_in c.args.front.now) c.args.changes.now c.changes.change-index
+    all_taken c.args.changes.now t.groups c.args.below.now (bundles_in c.args.front.now) c.args.changes.now c.changes.change-index
     c.changes.passed c.changes.above.items c.extend_from_slice.new.self.items c.changes-test.false
     (c.changes.invariant.taken t)
     (c.in_ok-extend_from_slice.ensures.items
