@@ -23,3 +23,4 @@ mod Beginning
 mod Steady
 mod Counting
 mod Passage
+mod LevelAhead
