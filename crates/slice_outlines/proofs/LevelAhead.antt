@@ -19,7 +19,9 @@ use Rattle.slice_outlines.specs.declared.height.Height.{Height}
 use Rattle.slice_outlines.specs.Marks.{spot_at, IsNamed}
 use Rattle.slice_outlines.specs.Above.{new_mark, AreTaken}
 use Rattle.slice_outlines.specs.Above.AreTaken.{none as taken_none, stays as taken_stays, changes as taken_changes}
-use Rattle.slice_outlines.specs.Ahead.{first_spot, AreMarksAt, LieAhead, IsBehind}
+use Rattle.slice_outlines.specs.declared.groups.Passed.{Passed}
+use Rattle.slice_outlines.specs.Runs.{first}
+use Rattle.slice_outlines.specs.Ahead.{first_spot, AreMarksAt, LieAhead, IsBehind, AreBetween}
 use Rattle.slice_outlines.specs.Ahead.LieAhead.{none as no_more, stays as one_stays, changes as one_changes}
 use Rattle.slice_outlines.proofs.Placing.{AreNamed, all_append}
 
@@ -148,3 +150,46 @@ taken_behind limit n cs gs lower upper (taken_changes c ds g hs gone ms ns p q r
 pub is_behind : (limit : Run) (n : ℕ) (cs : List Change) (gs : List Group) (lower upper : List Mark)
     → AreTaken n cs gs lower upper → AllByRecursion (λ g. all_at g ≡ [] → ⊥) gs → limit.above ≡ n → IsBehind limit cs
 is_behind limit n cs gs lower upper t a e = taken_behind limit n cs gs lower upper t a (omega (arith, e))
+
+somes : (h : Height) (gs : List Group) → AllByRecursion (IsMet h) gs → AllByRecursion (λ g. all_at g ≡ [] → ⊥) gs
+somes h [] a = tt
+somes h (g ∷ gs) a = (a.0.some, somes h gs a.1)
+
+-- the groups from a place to a part of the height
+pub between_by : (h : Height) (ms : List Mark) (cs : List Change) (p : Passed) (limit : Run) (n m : ℕ)
+    (left right : List Group) → AreTaken m (drop p.count cs) (left ++ right) (drop n h.below.now) (drop m ms)
+    → AreNamed (drop n h.below.now) (all_below (left ++ right)) → AreNamed (drop m ms) (all_above (left ++ right))
+    → AllByRecursion (IsMet h) left → AllByRecursion (IsMet h) right → p.last.below_to ≤ n → p.last.above_to ≤ m
+    → n + p.last.above_to ≡ m + p.last.below_to → n ≤ length h.below.now → m ≤ length ms
+    → n + length (all_below left) ≡ limit.below → m + length (all_above left) ≡ limit.above
+    → AreBetween h ms cs p limit
+between_by h ms cs p limit n m left right t z y a b from from' alike there there' to to' =
+    let x : IsAhead h m (drop p.count cs) left right (drop n h.below.now) (drop m ms) =
+    ahead_by h m (drop p.count cs) left right (drop n h.below.now) (drop m ms) t z y a in
+    record {
+      below = n;
+      above = m;
+      groups = left;
+      rest = x.rest;
+      ahead = x.ahead;
+      behind = is_behind limit (m + length (all_above left)) x.rest right
+          (drop (length (all_below left)) (drop n h.below.now)) (drop (length (all_above left)) (drop m ms)) x.later
+          (somes h right b) (sym to');
+      from_below = from;
+      from_above = from';
+      alike = alike;
+      there_below = there;
+      there_above = there';
+      to_below = to;
+      to_above = to';
+    }
+
+-- at the left end of a height
+pub first_between : (h : Height) (ms : List Mark) (cs : List Change) (limit : Run) (left right : List Group)
+    → AreTaken 0 cs (left ++ right) h.below.now ms → AreNamed h.below.now (all_below (left ++ right))
+    → AreNamed ms (all_above (left ++ right)) → AllByRecursion (IsMet h) left → AllByRecursion (IsMet h) right
+    → length (all_below left) ≡ limit.below → length (all_above left) ≡ limit.above
+    → AreBetween h ms cs (record { count = 0; last = first }) limit
+first_between h ms cs limit left right t z y a b to to' =
+    between_by h ms cs (record { count = 0; last = first }) limit 0 0 left right t z y a b (omega arith) (omega arith)
+    refl (omega arith) (omega arith) (omega (arith, to)) (omega (arith, to'))

@@ -24,3 +24,5 @@ mod Steady
 mod Counting
 mod Passage
 mod LevelAhead
+mod GroupsMet
+mod Balancing
