@@ -26,3 +26,4 @@ mod Passage
 mod LevelAhead
 mod GroupsMet
 mod Balancing
+mod Fitting
