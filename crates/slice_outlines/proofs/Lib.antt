@@ -27,3 +27,4 @@ mod LevelAhead
 mod GroupsMet
 mod Balancing
 mod Fitting
+mod Climbing
