@@ -878,8 +878,7 @@ next_at h ms cs p limit b r o is left left' =
     let here : drop p.count cs ≡ d ∷ drop (p.count + 1) cs = drop_more cs p.count no_change o in
     let x = to_next h ms cs p limit b d (drop (p.count + 1) cs) here
     (subst (λ (u : Run). u.below_to ≤ limit.below) is left) (subst (λ (u : Run). u.above_to ≤ limit.above) is left') in
-    let same : d ∷ drop (p.count + 1) cs ≡ x.change ∷ x.later = sym here ∙ x.changes in
-    (
+    let same : d ∷ drop (p.count + 1) cs ≡ x.change ∷ x.later = sym here ∙ x.changes in (
       x,
       is ∙ ap (after p.last) (first_equal d x.change (drop (p.count + 1) cs) x.later same),
       sym (ap (drop 1) same),
