@@ -15,7 +15,7 @@ use Rattle.gcode_text.specs.declared.letters.Given.{Given}
 use Rattle.gcode_text.specs.declared.fault.GFault.{GFault}
 use Rattle.gcode_text.specs.declared.machine.Move.{Move}
 use Rattle.gcode_text.specs.declared.rates.Rates.{Rates}
-use Rattle.gcode_text.specs.Gcode.{travel_line, print_line, height_line, number_line, heat_line, setup, home, end, head}
+use Rattle.gcode_text.specs.Gcode.{travel_line, print_line, height_line, number_line, supports_line, heat_line, setup, home, end, head}
 use Rattle.gcode_text.specs.Numeral.{fixed, millimetres}
 use Rattle.gcode_text.specs.Reading.{lines, without_return, without_comment, words, number, size_of, whole_size, are_digits}
 use Rattle.gcode_text.specs.Machine.{State, After, any, origin, command_of, plain_commands, takes, was_given, with_number, with_word, with_words, command_line, words_line, line_step, onto_moves, moves_of_lines, stays, extrudes, obeyed}
@@ -212,6 +212,13 @@ unfolding number_line line_step
 goes_number at e layer h =
     goes_line at e (codes "; layer " ++ decimal layer) None at e (decimal_no_feed layer h)
     (λ n. ap (words_line any (standing at e (next n))) (comment_back (codes " layer " ++ decimal layer)))
+
+-- the line in front of supports is a comment
+pub goes_supports_line : (at : Pt3) (e : ℕ) → Goes at e supports_line [] at e
+unfolding supports_line line_step
+goes_supports_line at e =
+    goes_line at e (codes "; supports") None at e refl
+    (λ n. ap (words_line any (standing at e (next n))) (comment_back (codes " supports")))
 
 -- ---- the head and the end
 

@@ -67,12 +67,36 @@ layer_text rates volume layer paths =
     ++ height_line rates ((layer + 1) * rates.layer_height)
     ++ paths_text rates volume paths
 
+-- what is printed of a layer: its walls and its infill, and then its supports
+pub record Printed : Type 0 where
+  pub paths : List (List Pt)
+  pub supports : List (List Pt)
+
+-- all paths of a layer, in order
+abbrev pub printed_paths : Printed → List (List Pt)
+printed_paths layer = layer.paths ++ layer.supports
+
+-- the comment in front of supports
+unfoldable pub supports_line : List ℕ
+supports_line = codes "; supports\n"
+
+-- supports, behind moves of this volume; nothing where there are none
+abbrev pub supports_text : Rates → ℕ → List (List Pt) → List ℕ
+supports_text rates volume [] = []
+supports_text rates volume (path ∷ paths) = supports_line ++ paths_text rates volume (path ∷ paths)
+
+-- a layer with its supports
+abbrev pub printed_text : Rates → ℕ → ℕ → Printed → List ℕ
+printed_text rates volume layer printed =
+    layer_text rates volume layer printed.paths
+    ++ supports_text rates (volume + paths_volume rates printed.paths) printed.supports
+
 -- layers from this number on
-unfoldable pub layers_text : Rates → ℕ → ℕ → List (List (List Pt)) → List ℕ
+unfoldable pub layers_text : Rates → ℕ → ℕ → List Printed → List ℕ
 layers_text rates volume layer [] = []
-layers_text rates volume layer (paths ∷ layers) =
-    layer_text rates volume layer paths
-    ++ layers_text rates (volume + paths_volume rates paths) (layer + 1) layers
+layers_text rates volume layer (printed ∷ layers) =
+    printed_text rates volume layer printed
+    ++ layers_text rates (volume + paths_volume rates (printed_paths printed)) (layer + 1) layers
 
 -- lengths in millimetres, absolute coordinates and amounts, the fan off
 unfoldable pub setup : List ℕ
@@ -97,5 +121,5 @@ unfoldable pub end : List ℕ
 end = codes "M104 S0\n" ++ codes "M140 S0\n" ++ codes "M84\n"
 
 -- the text of a whole program
-abbrev pub gcode : Rates → ℕ → ℕ → List (List (List Pt)) → List ℕ
+abbrev pub gcode : Rates → ℕ → ℕ → List Printed → List ℕ
 gcode rates hot_end bed layers = head hot_end bed ++ layers_text rates 0 0 layers ++ end

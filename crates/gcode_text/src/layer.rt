@@ -3,12 +3,12 @@ ghost use Rattle.std.specs.Prelude.{◌≡◌, ◌+◌, ◌*◌, ◌^◌, ◌≤
 ghost use Rattle.std.specs.List.{sum_by};
 ghost use Rattle.scad_geom.specs.declared.point.Pt.{Pt};
 ghost use Rattle.gcode_text.specs.Amount.{paths_volume};
-ghost use Rattle.gcode_text.specs.Gcode.{layer_text, paths_text};
+ghost use Rattle.gcode_text.specs.Gcode.{layer_text, paths_text, supports_text};
 ghost use Rattle.scad_base.specs.Appends.{BeginsWith};
 
 use crate::path::push_path;
 use crate::rates::Rates;
-use crate::word::{push_height, push_layer_number};
+use crate::word::{push_height, push_layer_number, push_supports_line};
 use scad_geom::Path;
 use std::alloc::AllocError;
 
@@ -50,6 +50,32 @@ pub fn push_layer(
     push_layer_number(out, layer)?;
     push_height(out, rates, upper_surface(layer, rates.layer_height))?;
     push_paths(out, paths, rates, volume)
+}
+
+/// Appends the lines of supports behind a layer's: a comment and their paths, and nothing where there are none.
+#[tactic(auto, unfolding(crate::specs::Amount::paths_volume))]
+pub fn push_supports(
+    out: &mut Vec<u8>,
+    paths: &[Path],
+    rates: &Rates,
+    volume: &mut u128,
+) -> Result<(), AllocError>
+    requires width { rates.now.line_width ≤ 2000 }
+    requires height { rates.now.layer_height ≤ 2000 }
+    requires area { 1 ≤ rates.now.filament_area }
+    requires fits { volume.old + 2 ^ 55 * sum_by length paths.now ≤ 2 ^ 100 }
+    ensures ok { OnOk result
+        (out.new.items ≡ out.old.items ++ supports_text rates.now volume.old paths.now) }
+    ensures volume { OnOk result (volume.new ≡ volume.old + paths_volume rates.now paths.now) }
+    ensures err { OnErr result (BeginsWith out.old.items out.new.items) }
+{
+    match paths {
+        [] => Ok(()),
+        [_, ..] => {
+            push_supports_line(out)?;
+            push_paths(out, paths, rates, volume)
+        }
+    }
 }
 
 // The height of a layer's upper surface.

@@ -26,4 +26,4 @@ pub use layer::are_few;
 pub use machine::{Machine, Move};
 pub use numeral::push_hundred_thousandths;
 pub use rates::Rates;
-pub use writer::{write_end, write_head, write_layer};
+pub use writer::{write_end, write_head, write_layer, write_supports};

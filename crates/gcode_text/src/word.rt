@@ -1,6 +1,6 @@
 //! Words and lines.
 ghost use Rattle.std.specs.Prelude.{◌≡◌, List, ◌++◌, OnOk, OnErr};
-ghost use Rattle.gcode_text.specs.Gcode.{target, feed_end, amount, travel_line, print_line, height_line, heat_line, number_line};
+ghost use Rattle.gcode_text.specs.Gcode.{target, feed_end, amount, travel_line, print_line, height_line, heat_line, number_line, supports_line};
 ghost use Rattle.scad_base.specs.Appends.{BeginsWith};
 
 use crate::numeral::{push_hundred_thousandths, push_millimetres, push_thousandths, push_unsigned};
@@ -98,4 +98,13 @@ pub fn push_layer_number(out: &mut Vec<u8>, layer: u32) -> Result<(), AllocError
     push_unsigned(out, layer)?;
     out.push(b'\n')?;
     Ok(())
+}
+
+/// Appends the comment in front of supports.
+#[tactic(auto, unfolding(crate::specs::Gcode::supports_line))]
+pub fn push_supports_line(out: &mut Vec<u8>) -> Result<(), AllocError>
+    ensures ok { OnOk result (out.new.items ≡ out.old.items ++ supports_line) }
+    ensures err { OnErr result (out.new.items ≡ out.old.items) }
+{
+    out.extend_from_slice(b"; supports\n")
 }

@@ -3,10 +3,10 @@ ghost use Rattle.std.specs.Prelude.{◌≡◌, ◌+◌, ◌^◌, ◌<◌, ◌≤
 ghost use Rattle.std.specs.List.{sum_by};
 ghost use Rattle.scad_geom.specs.declared.point.Pt.{Pt};
 ghost use Rattle.gcode_text.specs.Amount.{paths_volume};
-ghost use Rattle.gcode_text.specs.Gcode.{setup, home, head, layer_text, end};
+ghost use Rattle.gcode_text.specs.Gcode.{setup, home, head, layer_text, supports_text, end};
 ghost use Rattle.scad_base.specs.Appends.{BeginsWith};
 
-use crate::layer::push_layer;
+use crate::layer::{push_layer, push_supports};
 use crate::rates::Rates;
 use crate::word::push_heat;
 use scad_geom::Path;
@@ -46,6 +46,34 @@ pub fn write_layer(
     let kept = out.len();
     let mut sum = *volume;
     let written = push_layer(out, layer, paths, rates, &mut sum);
+    if written.is_ok() {
+        *volume = sum;
+    }
+    whole_or_nothing(out, kept, written)
+}
+
+/// Appends the lines of supports, behind those of their layer: a comment and their paths; nothing where there are none.
+/// `volume` is as for `write_layer`. Where memory runs out, `out` and `volume` are as they were.
+pub fn write_supports(
+    out: &mut Vec<u8>,
+    paths: &[Path],
+    rates: &Rates,
+    volume: &mut u128,
+) -> Result<(), AllocError>
+    requires width { rates.now.line_width ≤ 2000 }
+    requires height { rates.now.layer_height ≤ 2000 }
+    requires area { 1 ≤ rates.now.filament_area }
+    requires count { sum_by length paths.now < 2 ^ 32 }
+    requires volume { volume.old ≤ 10 ^ 30 }
+    ensures ok { OnOk result
+        (out.new.items ≡ out.old.items ++ supports_text rates.now volume.old paths.now) }
+    ensures volume { OnOk result (volume.new ≡ volume.old + paths_volume rates.now paths.now) }
+    ensures err { OnErr result (out.new.items ≡ out.old.items) }
+    ensures kept { OnErr result (volume.new ≡ volume.old) }
+{
+    let kept = out.len();
+    let mut sum = *volume;
+    let written = push_supports(out, paths, rates, &mut sum);
     if written.is_ok() {
         *volume = sum;
     }

@@ -26,3 +26,9 @@ moves_more paths i d h =
     let m = length-append (moves path) [] in
     let n = length-moves path in
     omega (arith, e, l, m, n)
+
+-- those of one list of paths and of another
+pub moves_both : (paths more : List (List Pt))
+    → length (all_moves (paths ++ more)) ≡ length (all_moves paths) + length (all_moves more)
+moves_both paths more =
+    ap length (flat_map-append moves paths more) ∙ length-append (all_moves paths) (all_moves more)

@@ -1,5 +1,5 @@
 -- A layer has a plan that passes no limit, or it is refused: each number is compared with its limit.
-use Rattle.std.proofs.Common.{◌≡◌, ◌⊎◌, inl, inr, ℕ, zero, suc, ◌+◌, ◌<◌, ◌≤◌, List, length, refl, subst, arith}
+use Rattle.std.proofs.Common.{◌≡◌, ◌⊎◌, inl, inr, ℕ, zero, suc, ◌+◌, ◌<◌, ◌≤◌, List, ◌++◌, length, refl, subst, arith}
 use Rattle.std.proofs.lemmas.Bool.{cases_lt}
 use Rattle.scad_geom.specs.declared.point.Pt.{Pt}
 use Rattle.slice_events.specs.Limits.{crossing_limit}
@@ -58,11 +58,11 @@ module _ (outlines : List (List Pt)) where
           let e : n + 1 ≡ suc n = omega arith in
           inr (subst (AreAccepted outlines width) e (accepted_more outlines width n all last))
 
-  module _ (layer : ℕ) (s : Settings) where
-    by_wall : HasFirst s.line_width s.walls → HasRefusal outlines layer s
+  module _ (layer : ℕ) (s : Settings) (supports : List (List Pt)) where
+    by_wall : HasFirst s.line_width s.walls → HasRefusal outlines layer s supports
     by_wall f = by_limit f.passes
       where
-        by_limit : PassesLimit (distance s.line_width f.wall) → HasRefusal outlines layer s
+        by_limit : PassesLimit (distance s.line_width f.wall) → HasRefusal outlines layer s supports
         by_limit (inl many) = record {
           fault = Edges (edges_at (distance s.line_width f.wall));
           refused = record {
@@ -80,14 +80,14 @@ module _ (outlines : List (List Pt)) where
           };
         }
 
-    by_moves : AreAccepted outlines s.line_width s.walls → HasAccepted outlines layer s ⊎ HasRefusal outlines layer s
+    by_moves : AreAccepted outlines s.line_width s.walls → HasAccepted outlines layer s supports ⊎ HasRefusal outlines layer s supports
     by_moves walls = by_count (plans_are_there outlines layer s)
       where
         judged : (p : HasPlan outlines layer s)
-            → (move_limit < length (all_moves p.paths)) ⊎ (length (all_moves p.paths) ≤ move_limit)
-            → HasAccepted outlines layer s ⊎ HasRefusal outlines layer s
+            → (move_limit < length (all_moves (p.paths ++ supports))) ⊎ (length (all_moves (p.paths ++ supports)) ≤ move_limit)
+            → HasAccepted outlines layer s supports ⊎ HasRefusal outlines layer s supports
         judged p (inl many) = inr (record {
-          fault = Moves (length (all_moves p.paths));
+          fault = Moves (length (all_moves (p.paths ++ supports)));
           refused = record {
             known = λ e. cc;
             refusal = inr (record { paths = p.paths; runs = p.runs; plan = p.is_plan; accepted = walls; many = (refl, many) });
@@ -96,16 +96,16 @@ module _ (outlines : List (List Pt)) where
         judged p (inr few) = inl
             (record { paths = p.paths; runs = p.runs; accepted = record { plan = p.is_plan; walls = walls; moves = few } })
 
-        by_count : HasPlan outlines layer s → HasAccepted outlines layer s ⊎ HasRefusal outlines layer s
-        by_count p = judged p (cases_lt move_limit (length (all_moves p.paths)))
+        by_count : HasPlan outlines layer s → HasAccepted outlines layer s supports ⊎ HasRefusal outlines layer s supports
+        by_count p = judged p (cases_lt move_limit (length (all_moves (p.paths ++ supports))))
 
-    decided : HasAccepted outlines layer s ⊎ HasRefusal outlines layer s
+    decided : HasAccepted outlines layer s supports ⊎ HasRefusal outlines layer s supports
     decided = by_cases (walls_judged s.line_width s.walls)
       where
         by_cases : HasFirst s.line_width s.walls ⊎ AreAccepted outlines s.line_width s.walls
-            → HasAccepted outlines layer s ⊎ HasRefusal outlines layer s
+            → HasAccepted outlines layer s supports ⊎ HasRefusal outlines layer s supports
         by_cases (inl f) = inr (by_wall f)
         by_cases (inr walls) = by_moves walls
 
 pub plans_are_decided : PlansAreDecided
-plans_are_decided outlines layer s = decided outlines layer s
+plans_are_decided outlines layer s supports = decided outlines layer s supports

@@ -1,5 +1,5 @@
 -- A layer is refused by one fault, and by none where a plan passes no limit.
-use Rattle.std.proofs.Common.{◌≡◌, ◌≢◌, ◌⊎◌, inl, inr, ℕ, ◌<◌, ◌≤◌, List, length, refl, sym, ap, ◌∙◌, subst, arith}
+use Rattle.std.proofs.Common.{◌≡◌, ◌≢◌, ◌⊎◌, inl, inr, ℕ, ◌<◌, ◌≤◌, List, ◌++◌, length, refl, sym, ap, ◌∙◌, subst, arith}
 use Rattle.std.specs.Prelude.{All}
 use Rattle.std.proofs.lemmas.Bool.{cases_lt}
 use Rattle.scad_geom.specs.declared.point.Pt.{Pt}
@@ -92,9 +92,10 @@ module _ (outlines : List (List Pt)) where
     many_are paths (Crossings m) n h = absurd h
     many_are paths (Moves m) n h = let e = h.0 in let o = h.1 in (ap Moves e, omega (arith, e, o))
 
-    module _ (within : All (λ l. All (IsWithin point_limit) l) outlines) (range : AreInRange s) where
-      one_refusal : (a b : PlanFault) → a ≢ Memory → b ≢ Memory → IsRefusal outlines layer s a
-          → IsRefusal outlines layer s b → a ≡ b
+    module _ (within : All (λ l. All (IsWithin point_limit) l) outlines) (range : AreInRange s)
+        (supports : List (List Pt)) where
+      one_refusal : (a b : PlanFault) → a ≢ Memory → b ≢ Memory → IsRefusal outlines layer s supports a
+          → IsRefusal outlines layer s supports b → a ≡ b
       one_refusal a b m n (inl h) (inl k) =
           let v : IsByWall a = by_wall a m h in
           let w : IsByWall b = by_wall b n k in
@@ -104,29 +105,29 @@ module _ (outlines : List (List Pt)) where
       one_refusal a b m n (inr h) (inl k) =
           let w : IsByWall b = by_wall b n k in absurd (none_refused s w.of w.known h.accepted w.refused)
       one_refusal a b m n (inr h) (inr k) =
-          let v = many_are h.paths a m h.many in
-          let w = many_are k.paths b n k.many in
+          let v = many_are (h.paths ++ supports) a m h.many in
+          let w = many_are (k.paths ++ supports) b n k.many in
           let e : h.paths ≡ k.paths =
           (plans_are_one outlines within layer s range h.paths k.paths h.runs k.runs h.plan k.plan).0 in
-          v.0 ∙ ap (λ (paths : List (List Pt)). Moves (length (all_moves paths))) e ∙ sym w.0
+          v.0 ∙ ap (λ (paths : List (List Pt)). Moves (length (all_moves (paths ++ supports)))) e ∙ sym w.0
 
-      not_both : (paths : List (List Pt)) (runs : ℕ) (fault : PlanFault) → IsAccepted outlines layer s paths runs
+      not_both : (paths : List (List Pt)) (runs : ℕ) (fault : PlanFault) → IsAccepted outlines layer s supports paths runs
           → fault ≢ Memory
-          → IsRefusal outlines layer s fault → ⊥
+          → IsRefusal outlines layer s supports fault → ⊥
       not_both paths runs fault a n (inl h) =
           let v : IsByWall fault = by_wall fault n h in none_refused s v.of v.known a.walls v.refused
       not_both paths runs fault a n (inr h) =
-          let many = (many_are h.paths fault n h.many).1 in
+          let many = (many_are (h.paths ++ supports) fault n h.many).1 in
           let few = a.moves in
-          let e : length (all_moves paths) ≡ length (all_moves h.paths) =
-          ap (λ (ps : List (List Pt)). length (all_moves ps))
+          let e : length (all_moves (paths ++ supports)) ≡ length (all_moves (h.paths ++ supports)) =
+          ap (λ (ps : List (List Pt)). length (all_moves (ps ++ supports)))
           (plans_are_one outlines within layer s range paths h.paths runs h.runs a.plan h.plan).0 in
           omega (arith, few, many, e)
 
 pub refusals_are_one : RefusalsAreOne
-refusals_are_one outlines within layer s range a b h k =
-    one_refusal outlines layer s within range a b h.known k.known h.refusal k.refusal
+refusals_are_one outlines within layer s range supports a b h k =
+    one_refusal outlines layer s within range supports a b h.known k.known h.refusal k.refusal
 
 pub accepted_is_not_refused : AcceptedIsNotRefused
-accepted_is_not_refused outlines within layer s range paths runs fault h k =
-    not_both outlines layer s within range paths runs fault h k.known k.refusal
+accepted_is_not_refused outlines within layer s range supports paths runs fault h k =
+    not_both outlines layer s within range supports paths runs fault h k.known k.refusal

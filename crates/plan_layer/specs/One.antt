@@ -17,17 +17,18 @@ PlansAreOne =
     → AreInRange s
     → (a b : List (List Pt)) (m n : ℕ) → IsPlan outlines layer s a m → IsPlan outlines layer s b n → (a ≡ b) × (m ≡ n)
 
--- It is refused by one fault.
+-- With its supports it is refused by one fault.
 abbrev pub RefusalsAreOne : Type 0
 RefusalsAreOne =
     (outlines : List (List Pt)) → All (λ l. All (IsWithin point_limit) l) outlines → (layer : ℕ) (s : Settings)
     → AreInRange s
-    → (a b : PlanFault) → IsRefused outlines layer s a → IsRefused outlines layer s b → a ≡ b
+    → (supports : List (List Pt)) (a b : PlanFault) → IsRefused outlines layer s supports a
+    → IsRefused outlines layer s supports b → a ≡ b
 
 -- Where a plan passes no limit it isn't refused.
 abbrev pub AcceptedIsNotRefused : Type 0
 AcceptedIsNotRefused =
     (outlines : List (List Pt)) → All (λ l. All (IsWithin point_limit) l) outlines → (layer : ℕ) (s : Settings)
     → AreInRange s
-    → (paths : List (List Pt)) (runs : ℕ) (fault : PlanFault) → IsAccepted outlines layer s paths runs
-    → IsRefused outlines layer s fault → ⊥
+    → (supports paths : List (List Pt)) (runs : ℕ) (fault : PlanFault) → IsAccepted outlines layer s supports paths runs
+    → IsRefused outlines layer s supports fault → ⊥

@@ -1,5 +1,5 @@
 -- When a plan is accepted, and when it is refused.
-use Rattle.std.specs.Prelude.{◌≡◌, ◌≢◌, ◌⊎◌, ℕ, ◌<◌, ◌≤◌, List, length}
+use Rattle.std.specs.Prelude.{◌≡◌, ◌≢◌, ◌⊎◌, ℕ, ◌<◌, ◌≤◌, List, ◌++◌, length}
 use Rattle.scad_geom.specs.declared.point.Pt.{Pt}
 use Rattle.slice_events.specs.Limits.{crossing_limit}
 use Rattle.slice_events.specs.Levels.{crossings}
@@ -52,26 +52,30 @@ IsManyMoves paths (Edges n) = ⊥
 IsManyMoves paths (Crossings n) = ⊥
 IsManyMoves paths (Moves n) = (n ≡ length (all_moves paths)) × (move_limit < n)
 
--- the walls have no fault, but the plan has too many moves
-pub record HasManyMoves (outlines : List (List Pt)) (layer : ℕ) (s : Settings) (fault : PlanFault) : Type 0 where
+-- the walls have no fault, but the plan has too many moves, those of its supports counted
+pub record HasManyMoves (outlines : List (List Pt)) (layer : ℕ) (s : Settings) (supports : List (List Pt))
+    (fault : PlanFault)
+    : Type 0 where
   pub paths : List (List Pt)
   pub runs : ℕ
   pub plan : IsPlan outlines layer s paths runs
   pub accepted : AreAccepted outlines s.line_width s.walls
-  pub many : IsManyMoves paths fault
+  pub many : IsManyMoves (paths ++ supports) fault
 
 -- by the first wall that has a fault, then by the number of moves
-abbrev pub IsRefusal : List (List Pt) → ℕ → Settings → PlanFault → Type 0
-IsRefusal outlines layer s fault = IsWallsRefusal outlines s fault ⊎ HasManyMoves outlines layer s fault
+abbrev pub IsRefusal : List (List Pt) → ℕ → Settings → List (List Pt) → PlanFault → Type 0
+IsRefusal outlines layer s supports fault =
+    IsWallsRefusal outlines s fault ⊎ HasManyMoves outlines layer s supports fault
 
--- paths, of which so many are runs of infill, are a plan that passes no limit
-pub record IsAccepted (outlines : List (List Pt)) (layer : ℕ) (s : Settings) (paths : List (List Pt)) (runs : ℕ)
+-- paths, of which so many are runs of infill, are a plan that passes no limit with these supports
+pub record IsAccepted (outlines : List (List Pt)) (layer : ℕ) (s : Settings) (supports paths : List (List Pt)) (runs : ℕ)
     : Type 0 where
   pub plan : IsPlan outlines layer s paths runs
   pub walls : AreAccepted outlines s.line_width s.walls
-  pub moves : length (all_moves paths) ≤ move_limit
+  pub moves : length (all_moves (paths ++ supports)) ≤ move_limit
 
 -- a layer is refused by a fault that isn't want of memory
-pub record IsRefused (outlines : List (List Pt)) (layer : ℕ) (s : Settings) (fault : PlanFault) : Type 0 where
+pub record IsRefused (outlines : List (List Pt)) (layer : ℕ) (s : Settings) (supports : List (List Pt)) (fault : PlanFault)
+    : Type 0 where
   pub known : fault ≢ Memory
-  pub refusal : IsRefusal outlines layer s fault
+  pub refusal : IsRefusal outlines layer s supports fault

@@ -19,15 +19,15 @@ pub record HasPlan (outlines : List (List Pt)) (layer : ℕ) (s : Settings) : Ty
   pub is_plan : IsPlan outlines layer s paths runs
 
 -- there is a plan that passes no limit
-pub record HasAccepted (outlines : List (List Pt)) (layer : ℕ) (s : Settings) : Type 0 where
+pub record HasAccepted (outlines : List (List Pt)) (layer : ℕ) (s : Settings) (supports : List (List Pt)) : Type 0 where
   pub paths : List (List Pt)
   pub runs : ℕ
-  pub accepted : IsAccepted outlines layer s paths runs
+  pub accepted : IsAccepted outlines layer s supports paths runs
 
 -- there is a fault by which a layer is refused
-pub record HasRefusal (outlines : List (List Pt)) (layer : ℕ) (s : Settings) : Type 0 where
+pub record HasRefusal (outlines : List (List Pt)) (layer : ℕ) (s : Settings) (supports : List (List Pt)) : Type 0 where
   pub fault : PlanFault
-  pub refused : IsRefused outlines layer s fault
+  pub refused : IsRefused outlines layer s supports fault
 
 -- ---- the laws
 -- Outlines have walls at each distance.
@@ -38,7 +38,8 @@ WallsAreThere = (c : ℕ) (outlines : List (List Pt)) → HasWalls c outlines
 abbrev pub PlansAreThere : Type 0
 PlansAreThere = (outlines : List (List Pt)) (layer : ℕ) (s : Settings) → HasPlan outlines layer s
 
--- It has one that passes no limit, or a fault by which it is refused.
+-- With any supports it has one that passes no limit, or a fault by which it is refused.
 abbrev pub PlansAreDecided : Type 0
 PlansAreDecided =
-    (outlines : List (List Pt)) (layer : ℕ) (s : Settings) → HasAccepted outlines layer s ⊎ HasRefusal outlines layer s
+    (outlines : List (List Pt)) (layer : ℕ) (s : Settings) (supports : List (List Pt))
+    → HasAccepted outlines layer s supports ⊎ HasRefusal outlines layer s supports

@@ -25,6 +25,7 @@ impl Front {
     pub fn new(alloc: Global, edges: &[LeafEdge]) -> Result<Front, AllocError>
         requires within { All (λ e. IsEdgeWithin coordinate_limit e.edge) edges.now }
         requires few { length edges.now < 2 ^ 32 }
+        ensures none { IfOk result (λ f. bundles_in f ≡ []) }
         ensures ready { IfOk result (λ f. (at : Level) → IsReadyFor edges.now at f) }
         ensures begun { IfOk result (λ f. (at : Level) → StartFrom at edges.now → IsBegunTo edges.now at f) }
     {

@@ -7,6 +7,7 @@ use Rattle.plan_layer.specs.Infill.{LineRuns, infill_paths}
 use Rattle.plan_layer.specs.Moves.{all_moves, move_limit}
 use Rattle.plan_layer.specs.Plan.{IsPlan}
 use Rattle.plan_layer.specs.Refusal.{IsManyMoves, IsRefusal}
+use Rattle.plan_layer.proofs.Counted.{moves_both}
 use Rattle.plan_layer.proofs.Points.{plan_ways, few_points}
 use Rattle.plan_layer.proofs.layer_plan.plan.Goals as goal
 
@@ -45,17 +46,19 @@ returns-clause-ways c =
 pub returns-clause-points : goal.returns-clause-points
 returns-clause-points c =
     both c.judged.result (λ p. p.paths.items ≡ c.push_infill.new.paths.items)
-    (λ p. length (all_moves p.paths.items) ≤ move_limit) (λ p. sum_by length p.paths.items ≤ 2 * move_limit)
+    (λ p. length (all_moves (p.paths.items ++ c.args.supports.items)) ≤ move_limit)
+    (λ p. sum_by length p.paths.items ≤ 2 * move_limit)
     (λ p kept few.
+    let both = moves_both p.paths.items c.args.supports.items in
     let n = few_points p.paths.items (plan_ways c.args.outlines.now c.args.layer c.args.settings.now p.paths.items _
     (is_plan c p.paths.items kept)) in
-    omega (arith, n, few))
+    omega (arith, both, n, few))
     c.judged.ensures.kept c.judged.ensures.few
 
 pub returns-clause-refused : goal.returns-clause-refused
 returns-clause-refused c =
-    IfErr-weaker c.judged.result (IsManyMoves c.push_infill.new.paths.items)
-    (IsRefusal c.args.outlines.now c.args.layer c.args.settings.now)
+    IfErr-weaker c.judged.result (IsManyMoves (c.push_infill.new.paths.items ++ c.args.supports.items))
+    (IsRefusal c.args.outlines.now c.args.layer c.args.settings.now c.args.supports.items)
     (λ fault many. inr (record {
       paths = c.push_infill.new.paths.items;
       runs = length (infill_paths c.args.layer true c.in_ok-lines.lines.items);

@@ -1,14 +1,17 @@
 -- No edge has begun.
-use Rattle.std.proofs.Common.{sym, subst, arith, List}
+use Rattle.std.proofs.Common.{sym, ap, subst, arith, List}
 use Rattle.slice_slab.specs.declared.start.Start.{Start}
 use Rattle.slice_sweep.specs.declared.strand.Strand.{Strand}
 use Rattle.slice_sweep.specs.LowerEnds.{starts_of}
-use Rattle.slice_sweep.specs.Strands.{numbers_in, AreWaiting}
+use Rattle.slice_sweep.specs.Strands.{bundles_of, numbers_in, AreWaiting}
 use Rattle.std.specs.List.{AllByRecursion}
 use Rattle.slice_sweep.specs.Front.{AreAll, StartsBelow}
 use Rattle.slice_sweep.proofs.Begun.{starts_from}
 use Rattle.slice_sweep.proofs.Lifted.{none_yet, none_waiting}
 use Rattle.slice_sweep.proofs.front.Front.new.Goals as goal
+
+pub returns-clause-none : goal.returns-clause-none
+returns-clause-none c = ap (λ (ss : List Strand). bundles_of ss) c.new.ensures.items
 
 pub returns-clause-ready : goal.returns-clause-ready
 returns-clause-ready c =
