@@ -1,0 +1,3 @@
+pub mod Supports
+pub mod Apart
+pub mod Laws
