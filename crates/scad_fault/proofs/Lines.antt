@@ -2,7 +2,7 @@
 use Rattle.std.proofs.Common.{◌≡◌, [], codes, refl, pos, negsuc}
 use Rattle.std.specs.Fmt.{digits}
 use Rattle.scad_fault.specs.declared.fault.FaultKind.TheVariants.{LeftOut, NotClosed}
-use Rattle.scad_fault.specs.declared.budget.BudgetKind.TheVariants.{SourceLong, Depth, Layers, LayerEdges, FileLong}
+use Rattle.scad_fault.specs.declared.budget.BudgetKind.TheVariants.{SourceLong, Depth, Layers, LayerEdges, SupportRuns, FileLong}
 use Rattle.scad_fault.specs.declared.settings.SetKind.TheVariants.{NotToml, OutOfRange}
 use Rattle.scad_fault.specs.declared.verdict.BadKind.TheVariants.{CliLine, CliCount, GNumber}
 use Rattle.scad_fault.specs.Place.{no_place, first_place}
@@ -58,6 +58,12 @@ layer_edges_line :
     ≡ codes "budget 7 LayerEdges layer 4 count 20010\n"
 unfolding budget_line digits
 layer_edges_line = refl
+
+support_runs_line :
+    budget_line (record { kind = SupportRuns; at = no_place; layer = 0; count = 10000001 })
+    ≡ codes "budget 11 SupportRuns count 10000001\n"
+unfolding budget_line digits
+support_runs_line = refl
 
 pub file_long_line :
     budget_line (record { kind = FileLong; at = no_place; layer = 0; count = 0 }) ≡ codes "budget 12 FileLong\n"

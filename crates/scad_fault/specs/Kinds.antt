@@ -3,7 +3,7 @@ use Rattle.std.specs.Prelude.{ℕ, List, codes}
 use Rattle.scad_fault.specs.declared.fault.FaultKind.{FaultKind}
 use Rattle.scad_fault.specs.declared.fault.FaultKind.TheVariants.{BadText, Syntax, Nesting, LeftOut, UnknownModule, UnknownFunction, BadArgument, ZeroDivisor, NumberRange, AssertFailed, MixedDimensions, NotClosed, CoordinateRange, ZeroStep}
 use Rattle.scad_fault.specs.declared.budget.BudgetKind.{BudgetKind}
-use Rattle.scad_fault.specs.declared.budget.BudgetKind.TheVariants.{SourceLong, Steps, Depth, Leaves, Triangles, Layers, LayerEdges, LayerCrossings, LayerMoves, HullPoints, FileLong}
+use Rattle.scad_fault.specs.declared.budget.BudgetKind.TheVariants.{SourceLong, Steps, Depth, Leaves, Triangles, Layers, LayerEdges, LayerCrossings, LayerMoves, HullPoints, SupportRuns, FileLong}
 use Rattle.scad_fault.specs.declared.verdict.BadKind.{BadKind}
 use Rattle.scad_fault.specs.declared.verdict.BadKind.TheVariants.{CliLine, CliCount, CliOpen, GWord, GNumber}
 use Rattle.scad_fault.specs.declared.settings.SetKind.{SetKind}
@@ -55,6 +55,7 @@ budget_number LayerEdges = 7
 budget_number LayerCrossings = 8
 budget_number LayerMoves = 9
 budget_number HullPoints = 10
+budget_number SupportRuns = 11
 budget_number FileLong = 12
 
 -- the name of a budget
@@ -69,6 +70,7 @@ budget_name LayerEdges = codes "LayerEdges"
 budget_name LayerCrossings = codes "LayerCrossings"
 budget_name LayerMoves = codes "LayerMoves"
 budget_name HullPoints = codes "HullPoints"
+budget_name SupportRuns = codes "SupportRuns"
 budget_name FileLong = codes "FileLong"
 
 -- the number of a settings fault

@@ -10,7 +10,7 @@ use Rattle.scad_fault.specs.declared.status.Status.TheVariants.{Done, Source, Us
 use Rattle.scad_fault.specs.declared.fault.FaultKind.{FaultKind}
 use Rattle.scad_fault.specs.declared.fault.FaultKind.TheVariants.{LeftOut, UnknownModule, UnknownFunction, BadArgument}
 use Rattle.scad_fault.specs.declared.budget.BudgetKind.{BudgetKind}
-use Rattle.scad_fault.specs.declared.budget.BudgetKind.TheVariants.{SourceLong, Steps, Depth, Leaves, Triangles, Layers, LayerEdges, LayerCrossings, LayerMoves, HullPoints, FileLong}
+use Rattle.scad_fault.specs.declared.budget.BudgetKind.TheVariants.{SourceLong, Steps, Depth, Leaves, Triangles, Layers, LayerEdges, LayerCrossings, LayerMoves, HullPoints, SupportRuns, FileLong}
 use Rattle.scad_fault.specs.declared.verdict.BadKind.{BadKind}
 use Rattle.scad_fault.specs.declared.verdict.BadKind.TheVariants.{CliLine, CliCount, CliOpen, GWord, GNumber}
 use Rattle.scad_fault.specs.declared.settings.SetKind.{SetKind}
@@ -76,6 +76,7 @@ passed_text LayerEdges at layer count = layer_text layer ++ count_text count
 passed_text LayerCrossings at layer count = layer_text layer ++ count_text count
 passed_text LayerMoves at layer count = layer_text layer ++ count_text count
 passed_text HullPoints at layer count = place_text at
+passed_text SupportRuns at layer count = count_text count
 passed_text FileLong at layer count = []
 
 -- `budget N Name`, then where it was passed and by what count

@@ -32,6 +32,8 @@ pub enum BudgetKind {
     LayerMoves = 9,
     /// The distinct points of a hull.
     HullPoints = 10,
+    /// The stretches of support lines below higher layers, over all layers.
+    SupportRuns = 11,
     /// The bytes of a file that is to be judged.
     FileLong = 12,
 }
@@ -57,14 +59,15 @@ impl BudgetKind {
             BudgetKind::LayerCrossings => "LayerCrossings",
             BudgetKind::LayerMoves => "LayerMoves",
             BudgetKind::HullPoints => "HullPoints",
+            BudgetKind::SupportRuns => "SupportRuns",
             BudgetKind::FileLong => "FileLong",
         }
     }
 }
 
 /// A budget that was passed: the place in the source for `Steps` to `Triangles` and `HullPoints`, the count for
-/// `Layers` to `LayerMoves`, the layer for `LayerEdges` to `LayerMoves`. The fields that a kind does
-/// not use are 0.
+/// `Layers` to `LayerMoves` and `SupportRuns`, the layer for `LayerEdges` to `LayerMoves`. The fields that a kind
+/// does not use are 0.
 #[derive(Clone, Copy, Debug, PartialEq, Eq)]
 pub struct Budget {
     pub kind: BudgetKind,
@@ -125,6 +128,19 @@ impl Budget {
         }
     }
 
+    /// More stretches below higher layers than the limit.
+    pub fn support_runs(count: u64) -> Budget
+        ensures { result ≡
+            record { kind = BudgetKind.SupportRuns; at = no_place; layer = 0; count = count } }
+    {
+        Budget {
+            kind: BudgetKind::SupportRuns,
+            at: Place::NONE,
+            layer: 0,
+            count,
+        }
+    }
+
     /// A budget of one layer.
     pub fn of_layer(kind: BudgetKind, layer: u32, count: u64) -> Budget
         ensures { result ≡ record { kind = kind; at = no_place; layer = layer; count = count } }
@@ -160,7 +176,7 @@ impl Budget {
             | BudgetKind::Leaves
             | BudgetKind::Triangles
             | BudgetKind::HullPoints => line::push_place(text, self.at),
-            BudgetKind::Layers => line::push_count(text, self.count),
+            BudgetKind::Layers | BudgetKind::SupportRuns => line::push_count(text, self.count),
             BudgetKind::LayerEdges | BudgetKind::LayerCrossings | BudgetKind::LayerMoves => {
                 line::push_layer(text, self.layer)?;
                 line::push_count(text, self.count)

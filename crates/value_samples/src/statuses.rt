@@ -136,6 +136,13 @@ fn other_budgets_end_with_their_lines(rt: HostRuntime) {
             "budget 6 Layers count 50000\n"
         )
     );
+    assert!(rt;
+        budget_ends_with(
+            alloc,
+            Budget::support_runs(10_000_001),
+            "budget 11 SupportRuns count 10000001\n",
+        )
+    );
     assert!(rt; budget_ends_with(alloc, Budget::file_long(), "budget 12 FileLong\n"));
 }
 
