@@ -1,0 +1,7 @@
+pub mod Rows
+pub mod One
+pub mod Decided
+pub mod Extents
+pub mod Complete
+pub mod OnLines
+pub mod Covered
