@@ -49,8 +49,8 @@ module _ (Holds : ℤ → Type 0) (decided : (x : ℤ) → IsDecided (Holds x)) 
         long = omega (arith, ints, low, high);
         holds = λ z a b. held (decided z)
             (by_order (order z x) (λ o. s.holds z a o) (λ o. e.holds z (omega (arith, ints, o)) b));
-        before = λ k. both_ways _ s.before (holding (decided (s.from -ℤ pos 1)) k);
-        after = λ k. both_ways _ e.after (holding (decided (e.to +ℤ pos 1)) k);
+        before = λ k. both_ways (test (s.from -ℤ pos 1)) s.before (holding (decided (s.from -ℤ pos 1)) k);
+        after = λ k. both_ways (test (e.to +ℤ pos 1)) e.after (holding (decided (e.to +ℤ pos 1)) k);
       } in
       place_on rs r x (are.all r stretch) low high
 
@@ -59,8 +59,8 @@ module _ (Holds : ℤ → Type 0) (decided : (x : ℤ) → IsDecided (Holds x)) 
   stretch_of least r s = record {
     long = s.long;
     holds = λ z a b. held (decided z) (s.holds z a b);
-    before = λ k. both_ways _ s.before (holding (decided (r.from -ℤ pos 1)) k);
-    after = λ k. both_ways _ s.after (holding (decided (r.to +ℤ pos 1)) k);
+    before = λ k. both_ways (test (r.from -ℤ pos 1)) s.before (holding (decided (r.from -ℤ pos 1)) k);
+    after = λ k. both_ways (test (r.to +ℤ pos 1)) s.after (holding (decided (r.to +ℤ pos 1)) k);
   }
 
   of_stretch : (least : ℕ) (r : Run) → IsStretch Holds least r → tested.IsStretch test least r

@@ -5,3 +5,7 @@ pub mod Extents
 pub mod Complete
 pub mod OnLines
 pub mod Covered
+pub mod Between
+pub mod Apart
+pub mod Paths
+pub mod Kept
