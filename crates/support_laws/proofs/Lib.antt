@@ -9,3 +9,5 @@ pub mod Between
 pub mod Apart
 pub mod Paths
 pub mod Kept
+pub mod SomeRows
+pub mod There
