@@ -35,6 +35,9 @@ module _ (Holds : ℤ → Type 0) (decided : (x : ℤ) → IsDecided (Holds x)) 
   far : (x : ℤ) → n < unsigned_abs x → test x ≡ false
   far x o = failing (decided x) (λ h. let k = near x h in omega (arith, o, k))
 
+  not_tested : (x : ℤ) → test x ≡ false → Holds x → ⊥
+  not_tested x e h = both_ways (test x) e (holding (decided x) h)
+
   -- what holds is covered
   pub on_if : (rs : List Run) → AreStretches Holds 0 rs → (x : ℤ) → Holds x → is_on rs x ≡ true
   on_if rs are x h =
@@ -49,8 +52,8 @@ module _ (Holds : ℤ → Type 0) (decided : (x : ℤ) → IsDecided (Holds x)) 
         long = omega (arith, ints, low, high);
         holds = λ z a b. held (decided z)
             (by_order (order z x) (λ o. s.holds z a o) (λ o. e.holds z (omega (arith, ints, o)) b));
-        before = λ k. both_ways (test (s.from -ℤ pos 1)) s.before (holding (decided (s.from -ℤ pos 1)) k);
-        after = λ k. both_ways (test (e.to +ℤ pos 1)) e.after (holding (decided (e.to +ℤ pos 1)) k);
+        before = λ k. not_tested (s.from -ℤ pos 1) s.before k;
+        after = λ k. not_tested (e.to +ℤ pos 1) e.after k;
       } in
       place_on rs r x (are.all r stretch) low high
 
@@ -59,8 +62,8 @@ module _ (Holds : ℤ → Type 0) (decided : (x : ℤ) → IsDecided (Holds x)) 
   stretch_of least r s = record {
     long = s.long;
     holds = λ z a b. held (decided z) (s.holds z a b);
-    before = λ k. both_ways (test (r.from -ℤ pos 1)) s.before (holding (decided (r.from -ℤ pos 1)) k);
-    after = λ k. both_ways (test (r.to +ℤ pos 1)) s.after (holding (decided (r.to +ℤ pos 1)) k);
+    before = λ k. not_tested (r.from -ℤ pos 1) s.before k;
+    after = λ k. not_tested (r.to +ℤ pos 1) s.after k;
   }
 
   of_stretch : (least : ℕ) (r : Run) → IsStretch Holds least r → tested.IsStretch test least r
