@@ -1,5 +1,6 @@
--- An exact point between two whole points of a row has one of the whole places from the first to the second at it or before it.
-use Rattle.std.proofs.Common.{◌≡◌, [], ◌∷◌, refl, ap, ap₂, ◌∙◌, sym, subst, arith, ℤ, pos, ◌+ℤ◌, ◌-ℤ◌, ◌*ℤ◌, ◌<ℤ◌}
+-- An exact point between two whole points of a row has a whole place at it or less than one before it, from the first on
+-- and up to the second.
+use Rattle.std.proofs.Common.{◌≡◌, [], ◌∷◌, refl, ap₂, ◌∙◌, arith, ℤ, pos, ◌+ℤ◌, ◌-ℤ◌, ◌*ℤ◌, ◌<ℤ◌}
 use lib.Signed.{◌≤ℤ◌}
 use Rattle.std.specs.Int.{int_div_euclid}
 use Rattle.std.proofs.lemmas.Int.{ints}

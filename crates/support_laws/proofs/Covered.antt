@@ -1,18 +1,18 @@
 -- What lies below the runs of higher layers stands below their outlines.
-use Rattle.std.proofs.Common.{◌≡◌, ◌⊎◌, inl, inr, ℕ, zero, suc, ◌+◌, ◌<◌, Bool, true, false, List, [], ◌∷◌, length, refl, sym, ap, subst, ◌∙◌, arith, ℤ}
+use Rattle.std.proofs.Common.{◌≡◌, inl, inr, ℕ, zero, suc, ◌+◌, ◌<◌, Bool, true, false, List, [], ◌∷◌, length, refl, sym, ap, subst, ◌∙◌, arith, ℤ}
 use Rattle.std.specs.Prelude.{drop, slice_index_or, flat_map, ◌||◌}
 use Rattle.std.proofs.lemmas.Bool.{both_ways}
 use Rattle.scad_geom.specs.declared.point.Pt.{Pt}
 use Rattle.scad_geom.specs.Loop.{sides}
 use Rattle.plan_infill.proofs.Beyond.{extent}
-use Rattle.plan_support.specs.Covers.{IsCovered, AreCovers}
+use Rattle.plan_support.specs.Covers.{IsCovered}
 use Rattle.plan_support.specs.On.{is_on, is_on_some}
-use Rattle.plan_support.specs.Rows.{Row, runs_at, AreRowsOf}
+use Rattle.plan_support.specs.Rows.{Row, runs_at}
 use Rattle.plan_support.specs.Spans.{point_at, IsWound, IsSpanned, AreSpans}
-use Rattle.plan_support.specs.Supports.{IsSupported, AreSupports}
+use Rattle.plan_support.specs.Supports.{IsSupported}
 use Rattle.plan_layer.proofs.Ascending.{first_in, other_in, first_or_other}
-use Rattle.support_laws.specs.Supports.{IsBelow, IsOverhung, NeedsSupport, AreOverhung}
-use Rattle.support_laws.specs.Laws.{AreSpansOf, CoversAreOverhung, RunsAreSupports}
+use Rattle.support_laws.specs.Supports.{IsOverhung, NeedsSupport}
+use Rattle.support_laws.specs.Laws.{CoversAreOverhung, RunsAreSupports}
 use Rattle.support_laws.proofs.Extents.{extents}
 use Rattle.support_laws.proofs.OnLines.{rows_hold, held_on, spanned_lines, overhung_lines}
 use Rattle.support_laws.proofs.Rows.{rows_alike}
@@ -87,7 +87,10 @@ module _ (spacing : ℕ) where
       elim (first_or_other o os b.outlines b.there) [
         | inl e ↦
             let s : IsSpanned o spacing x y =
-            record { line = h.line; wound = subst (λ (z : List (List Pt)). IsWound z (point_at x y)) (sym e) b.wound } in
+            record {
+              line = h.line;
+              wound = subst (λ (z : List (List Pt)). IsWound z (point_at x y)) (sym e) b.wound;
+            } in
             ap (λ (t : Bool). t || is_on_some layers x y)
             (held_on (IsSpanned o spacing) spacing (extent (flat_map sides o)) (spanned_lines o spacing) rows a.0 x y s)
         | inr c ↦ or_second (is_on (runs_at y rows) x) (is_on_some layers x y) (below_covered os layers a.1 x y
@@ -101,7 +104,8 @@ covers_are_overhung all spacing layers covers spaced spans are =
     let each = all_spans spacing all layers spans.as_many spans.each in
     record {
       as_many = m ∙ k;
-      each = λ n l. rows_alike (IsCovered layers n) (IsOverhung (drop (n + 1) all) spacing) 0 (slice_index_or covers n [])
+      each = λ n l. rows_alike (IsCovered layers n) (IsOverhung (drop (n + 1) all) spacing) 0
+          (slice_index_or covers n [])
           (λ x y c. covered_below spacing (drop (n + 1) all) (drop (n + 1) layers)
           (dropped_spans spacing (n + 1) all layers each) x y c)
           (λ x y h. below_covered spacing (drop (n + 1) all) (drop (n + 1) layers)
@@ -118,7 +122,10 @@ runs_are_supports all spacing gap least n covers paths spaced over l are =
     record {
       rows = are.rows;
       are_rows = rows_alike (IsSupported outlines cover gap) (NeedsSupport above outlines spacing gap) least are.rows
-          (λ x y s. record { overhung = rows_hold (IsOverhung above spacing) 0 cover (over.each n l) x y s.covered; free = s.free })
+          (λ x y s. record {
+            overhung = rows_hold (IsOverhung above spacing) 0 cover (over.each n l) x y s.covered;
+            free = s.free;
+          })
           (λ x y h. record {
             covered = held_on (IsOverhung above spacing) spacing (extents above) (overhung_lines above spacing) cover
                 (over.each n l) x y h.overhung;

@@ -1,5 +1,5 @@
 -- Outlines wind round no point that lies farther out than all of their sides.
-use Rattle.std.proofs.Common.{◌≡◌, ℕ, ◌+◌, ◌≤◌, List, [], ◌∷◌, flat_map, arith, ℤ, pos, ◌-ℤ◌, ◌<ℤ◌}
+use Rattle.std.proofs.Common.{ℕ, ◌+◌, ◌≤◌, List, [], ◌∷◌, flat_map, arith, ℤ, pos, ◌-ℤ◌, ◌<ℤ◌}
 use lib.Signed.{◌≤ℤ◌}
 use Rattle.std.specs.Prelude.{All}
 use Rattle.std.proofs.lemmas.Int.{ints}
@@ -31,8 +31,8 @@ module _ (limit : ℕ) (outlines : List (List Pt)) (within : AreWithin limit out
       (flat_map sides outlines) within))))
 
   not_below : (pos 0 -ℤ pos limit) ≤ℤ y
-  not_below = by_order (order (pos 0 -ℤ pos limit) y) (λ o. o) (λ o. absurd (wound (below_all x y (flat_map sides outlines)
-      (All-weaker (IsEdgeWithin limit) (λ e. (y <ℤ e.a.y) × (y <ℤ e.b.y))
+  not_below = by_order (order (pos 0 -ℤ pos limit) y) (λ o. o) (λ o. absurd (wound (below_all x y
+      (flat_map sides outlines) (All-weaker (IsEdgeWithin limit) (λ e. (y <ℤ e.a.y) × (y <ℤ e.b.y))
       (λ e k. let f = k.a.y in let g = k.b.y in (omega (arith, ints, f, o), omega (arith, ints, g, o)))
       (flat_map sides outlines) within))))
 

@@ -1,12 +1,12 @@
--- What support runs keep: they stand apart from their layer's outlines, have lengths, and lie within what they stand below.
-use Rattle.std.proofs.Common.{◌≡◌, ℕ, ◌<◌, ◌≤◌, true, List, [], ◌∷◌, ap, sym, subst, arith, ℤ, pos, ◌-ℤ◌}
+-- Support runs stand apart from their layer's outlines, have lengths, and lie no farther out than what they stand below.
+use Rattle.std.proofs.Common.{◌≡◌, ℕ, ◌<◌, true, List, [], ◌∷◌, ap, sym, subst, arith, ℤ}
 use lib.Signed.{◌≤ℤ◌}
 use Rattle.std.specs.Prelude.{All}
 use Rattle.std.proofs.lemmas.Int.{ints}
 use Rattle.std.proofs.lemmas.List.Elements.{All-nil, All-cons, All-weaker}
 use Rattle.scad_geom.specs.declared.point.Pt.{Pt}
 use Rattle.scad_geom.specs.declared.point.Edge.{Edge}
-use Rattle.scad_geom.specs.Point.{Point, whole}
+use Rattle.scad_geom.specs.Point.{whole}
 use Rattle.scad_geom.specs.Within.{IsWithin}
 use Rattle.slice_loops.specs.Lengths.{HasLength}
 use Rattle.winding_laws.proofs.Parts.{on_turned}
@@ -16,7 +16,7 @@ use Rattle.plan_sides.proofs.Within.{outlines_within}
 use Rattle.plan_support.specs.Rows.{Row}
 use Rattle.plan_support.specs.Spans.{point_at}
 use Rattle.plan_support.specs.Stretches.{IsStretch}
-use Rattle.plan_support.specs.Supports.{IsFree, rightwards, leftwards, paths_of}
+use Rattle.plan_support.specs.Supports.{IsFree, rightwards, leftwards}
 use Rattle.support_laws.specs.Supports.{NeedsSupport, AreSupportsBelow}
 use Rattle.support_laws.specs.Apart.{KeepsApart, SupportsStandApart, SupportsHaveLengths, SupportsLieWithin}
 use Rattle.support_laws.proofs.Apart.{stands_apart}
@@ -129,4 +129,5 @@ supports_lie_within above outlines spacing gap least limit paths within are =
     paths are
   where
     pair : (limit : ℕ) (p q : Pt) → IsWithin limit p → IsWithin limit q → All (IsWithin limit) (p ∷ q ∷ [])
-    pair limit p q a b = All-cons (IsWithin limit) p (q ∷ []) a (All-cons (IsWithin limit) q [] b (All-nil (IsWithin limit)))
+    pair limit p q a b =
+        All-cons (IsWithin limit) p (q ∷ []) a (All-cons (IsWithin limit) q [] b (All-nil (IsWithin limit)))

@@ -19,7 +19,7 @@ pub record IsOnLines (Holds : ℤ → ℤ → Type 0) (spacing n : ℕ) : Type 0
   pub decided : (y : ℤ) → IsMultiple spacing y → (x : ℤ) → IsDecided (Holds x y)
   pub within : (x y : ℤ) → Holds x y → IsWithin n (point_at x y)
 
--- a row covers exactly the points where it holds
+-- rows with all its stretches cover exactly the points where it holds
 pub rows_hold : (Holds : ℤ → ℤ → Type 0) (least : ℕ) (rows : List Row) → AreRowsOf Holds least rows → (x y : ℤ)
     → is_on (runs_at y rows) x ≡ true → Holds x y
 rows_hold Holds least rows are x y o = if_on (λ z. Holds z y) least (runs_at y rows) (are.each y) x o
@@ -27,7 +27,8 @@ rows_hold Holds least rows are x y o = if_on (λ z. Holds z y) least (runs_at y 
 pub held_on : (Holds : ℤ → ℤ → Type 0) (spacing n : ℕ) → IsOnLines Holds spacing n → (rows : List Row)
     → AreRowsOf Holds 0 rows → (x y : ℤ) → Holds x y → is_on (runs_at y rows) x ≡ true
 held_on Holds spacing n on rows are x y h =
-    on_if (λ z. Holds z y) (on.decided y (on.line x y h)) n (λ z k. (on.within z y k).x) (runs_at y rows) (are.each y) x h
+    on_if (λ z. Holds z y) (on.decided y (on.line x y h)) n (λ z k. (on.within z y k).x) (runs_at y rows) (are.each y)
+    x h
 
 -- ---- of what is asked here
 pub spanned_lines : (outlines : List (List Pt)) (spacing : ℕ)

@@ -1,5 +1,5 @@
 -- What stands below higher layers, and the support runs of a layer, are one.
-use Rattle.std.proofs.Common.{◌≡◌, ℕ, ◌<◌, true, [], ap, sym, ◌∙◌, arith}
+use Rattle.std.proofs.Common.{true, [], ap, sym, ◌∙◌, arith}
 use Rattle.std.proofs.lemmas.List.{ext_get_or}
 use Rattle.plan_support.specs.Supports.{paths_of}
 use Rattle.support_laws.specs.Supports.{IsOverhung, NeedsSupport}

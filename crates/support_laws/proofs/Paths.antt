@@ -1,5 +1,5 @@
 -- What holds of the paths along the runs of rows, to the right and to the left.
-use Rattle.std.proofs.Common.{Bool, true, false, not, List, [], ◌∷◌, map, reverse, ℤ}
+use Rattle.std.proofs.Common.{Bool, true, false, not, List, [], ◌∷◌, reverse, ℤ}
 use Rattle.std.specs.Prelude.{All}
 use Rattle.std.proofs.lemmas.List.Elements.{All-nil, All-head, All-tail, All-append, All-map, All-weaker}
 use Rattle.std.proofs.lemmas.List.Sorted.{All-permutation, IsPermutation-reverse}

@@ -1,4 +1,5 @@
--- What holds on support lines alone, is decided there, and doesn't hold far out, has its rows: from far below on, line by line.
+-- What holds on support lines alone, is decided there, and doesn't hold far out, has its rows: from far below on, line by
+-- line.
 use Rattle.std.proofs.Common.{◌≡◌, ◌≢◌, ℕ, zero, suc, ◌+◌, ◌*◌, ◌<◌, ◌≤◌, List, [], ◌∷◌, ◌++◌, sym, subst, ◌∙◌, arith, ℤ, pos, ◌+ℤ◌, ◌-ℤ◌, ◌<ℤ◌}
 use lib.Signed.{◌≤ℤ◌}
 use Rattle.std.specs.Prelude.{All, unsigned_abs}
