@@ -1,9 +1,9 @@
 -- What holds on support lines alone, is decided there, and doesn't hold far out.
 use Rattle.std.proofs.Common.{◌≡◌, ℕ, true, List, ℤ}
+use Rattle.std.specs.Prelude.{flat_map}
 use Rattle.scad_geom.specs.declared.point.Pt.{Pt}
 use Rattle.scad_geom.specs.Loop.{sides}
 use Rattle.scad_geom.specs.Within.{IsWithin}
-use Rattle.std.specs.Prelude.{flat_map}
 use Rattle.plan_infill.proofs.Beyond.{extent, extent_within}
 use Rattle.plan_support.specs.Multiple.{IsMultiple}
 use Rattle.plan_support.specs.On.{is_on}

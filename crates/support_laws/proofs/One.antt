@@ -1,10 +1,10 @@
 -- What stands below higher layers, and the support runs of a layer, are one.
 use Rattle.std.proofs.Common.{true, [], ap, sym, ◌∙◌, arith}
+use Rattle.std.specs.Prelude.{drop, ◌+◌, slice_index_or}
 use Rattle.std.proofs.lemmas.List.{ext_get_or}
 use Rattle.plan_support.specs.Supports.{paths_of}
 use Rattle.support_laws.specs.Supports.{IsOverhung, NeedsSupport}
 use Rattle.support_laws.specs.Laws.{OverhungAreOne, SupportsAreOne}
-use Rattle.std.specs.Prelude.{drop, ◌+◌, slice_index_or}
 use Rattle.support_laws.proofs.Rows.{rows_are_one}
 
 pub overhung_are_one : OverhungAreOne
