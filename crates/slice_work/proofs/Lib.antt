@@ -6,3 +6,4 @@ mod Rounds
 mod Counting
 mod Written
 mod Stopping
+mod Surveyed
