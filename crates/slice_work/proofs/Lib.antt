@@ -7,3 +7,4 @@ mod Counting
 mod Written
 mod Stopping
 mod Surveyed
+mod Pooled
