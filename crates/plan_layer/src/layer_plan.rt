@@ -82,7 +82,11 @@ fn judged(paths: Vec<Path>, walls: usize, supports: Vec<Path>) -> Result<LayerPl
         Some(count) if count > MOVE_LIMIT => Err(PlanFault::Moves(count)),
         Some(_) => {
             let runs = (paths.len() - walls) as u64;
-            Ok(LayerPlan { paths, runs, supports })
+            Ok(LayerPlan {
+                paths,
+                runs,
+                supports,
+            })
         }
         None => Err(PlanFault::Memory),
     }
