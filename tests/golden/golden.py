@@ -1,4 +1,4 @@
-"""golden.py REPO [--write] [--old] [NAME..]: the golden cases of `plan` and `sample` by scadref, stage first+octagon+hatches.
+"""golden.py REPO [--write] [--old] [NAME..]: the golden cases of `plan` and `sample` by scadref, with all stages.
 Without --write it tells which cases change (what in: status, report, outlines, print). With --write it makes the files of
 those cases anew, in the form that they have (whole, or their checksum). --old compares with stage first+octagon in place of it:
 nothing must change then. A case that takes more than SECONDS is told as slow and left."""
@@ -11,7 +11,7 @@ SECONDS = int(os.environ.get("SECONDS_A_CASE", "120"))
 args = sys.argv[1:]
 repo = args.pop(0)
 write = "--write" in args
-stage = "first+octagon" if "--old" in args else "first+octagon+hatches"
+stage = "first+octagon" if "--old" in args else "first+octagon+hatches+hull+supports+depth+verify"
 profile = profile_of(stage)
 names = [a for a in args if not a.startswith("--")]
 folder = os.path.join(repo, "tests/cases")

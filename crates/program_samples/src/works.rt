@@ -1,15 +1,20 @@
 //! Parts of squares, some of whose layers pass a budget.
-ghost use Rattle.std.specs.Prelude.{◌≡◌, ◌≤◌, ◌<◌, true, Some, [], IfOk, OnOk};
+ghost use Rattle.std.specs.Prelude.{◌≡◌, ◌≤◌, ◌<◌, true, Some, [], IfOk, OnOk, All};
+ghost use Rattle.scad_geom.specs.Limits.{coordinate_limit};
+ghost use Rattle.scad_geom.specs.Within.{IsWithin};
 ghost use Rattle.scad_io.specs.Desk.{unused};
 ghost use Rattle.scad_script.specs.Run.{Sound};
 ghost use Rattle.slice_work.specs.Part.{layer_limit};
 
+use plan_support::Rows;
 use scad_fault::{Budget, BudgetKind};
 use scad_geom::{Loop, Path, Pt};
 use scad_io::{Desk, MemoryDesk, Out};
 use scad_script::make;
 use scad_words::Settings;
-use slice_work::{LayerEnd, LayerPlan, LayerWork, Print, Summary, Want, WorkFault, work};
+use slice_work::{
+    LayerEnd, LayerPlan, LayerWork, Print, Summary, SurveyFault, Want, WorkFault, survey, work,
+};
 use std::alloc::{AllocError, Global};
 use std::process::Abort;
 use std::sync::atomic::{AtomicU64, Ordering};
@@ -22,6 +27,22 @@ const CORNERS: [Pt; 4] = [
     Pt { x: 3000, y: 3000 },
     Pt { x: 0, y: 3000 },
 ];
+
+/// The square, counter-clockwise from its lower left corner.
+fn square(alloc: Global) -> Result<Vec<Loop>, AllocError>
+    ensures { IfOk result (λ v. All (λ l. All (IsWithin coordinate_limit) l) v.items) }
+{
+    let mut loops = Vec::new(alloc);
+    loops.push(Loop::from_vec(Vec::from_slice(alloc, &CORNERS)?))?;
+    Ok(loops)
+}
+
+/// One path.
+fn path(alloc: Global, points: &[Pt]) -> Result<Vec<Path>, AllocError> {
+    let mut paths = Vec::new(alloc);
+    paths.push(Path::from_vec(Vec::from_slice(alloc, points)?))?;
+    Ok(paths)
+}
 
 /// A square in each layer, and a path along two of its sides. The layers from a number on that are even pass a budget.
 #[derive(Drop)]
@@ -37,16 +58,12 @@ impl LayerWork for Squares {
             let budget = Budget::of_layer(BudgetKind::LayerEdges, layer, 20_010);
             return Ok(LayerEnd::Over(budget));
         }
-        let square = Loop::from_vec(Vec::from_slice(alloc, &CORNERS)?);
-        let path = Path::from_vec(Vec::from_slice(alloc, &CORNERS[..3])?);
-        let loops = vec![in alloc; square]?;
-        let paths = vec![in alloc; path]?;
         let plan = LayerPlan {
-            paths,
+            paths: path(alloc, &CORNERS[..3])?,
             runs: 0,
             supports: Vec::new(alloc),
         };
-        Ok(LayerEnd::Made(loops, plan))
+        Ok(LayerEnd::Made(square(alloc)?, plan))
     }
 }
 
@@ -286,5 +303,81 @@ fn is_held<R: Threads + Sync + Abort>(rt: &R, alloc: Global, layer: u32) -> bool
 fn two_at_once(rt: HostRuntime) {
     for layer in 0..5 {
         assert!(rt; is_held(&rt, rt.alloc(), layer), "layer {layer}");
+    }
+}
+
+/// The square in one layer with a support run beside it.
+#[derive(Drop)]
+struct Supported;
+
+impl LayerWork for Supported {
+    ghost draws = { λ _ _. ⊥ };
+
+    fn draw(&self, alloc: Global, _layer: u32) -> Result<LayerEnd, AllocError> {
+        let plan = LayerPlan {
+            paths: path(alloc, &CORNERS[..3])?,
+            runs: 0,
+            supports: path(alloc, &[Pt { x: 3301, y: 0 }, Pt { x: 5999, y: 0 }])?,
+        };
+        Ok(LayerEnd::Made(square(alloc)?, plan))
+    }
+}
+
+const SUPPORTED_LAYER: &[u8] = b"; layer 0\n\
+    G1 Z0.200 F7200\n\
+    G1 X0.000 Y0.000 F7200\n\
+    G1 X3.000 Y0.000 E0.11225 F1800\n\
+    G1 X3.000 Y3.000 E0.22450 F1800\n\
+    ; supports\n\
+    G1 X3.301 Y0.000 F7200\n\
+    G1 X5.999 Y0.000 E0.32545 F1800\n";
+
+/// Whether the moves of supports are written behind the others, and counted.
+fn supports_are_written<R: Threads + Sync + Abort>(rt: &R, alloc: Global) -> bool {
+    let mut desk = desk(rt, alloc, &[]);
+    let told = work(rt, alloc, 1, &Supported, &print(Want::Plan, 1), &mut desk);
+    matches!(&told, Ok(told) if told.moves == 3 && told.e == 32_545)
+        && desk.written(Out::Gcode) == SUPPORTED_LAYER
+}
+
+#[test]
+fn supports_stand_behind_the_paths(rt: HostRuntime) {
+    assert!(rt; supports_are_written(&rt, rt.alloc()));
+}
+
+/// Whether the rows are those of the square: from its lower border on, at each millimetre below the upper one.
+fn is_square(rows: &Rows) -> bool {
+    let mut height: i32 = 0;
+    for i in 0..rows.len() {
+        let all = rows.runs(i);
+        if rows.y(i) != height || all.len() != 1 || all[0].from != 0 || all[0].to != 2999 {
+            return false;
+        }
+        height = height.wrapping_add(1000);
+    }
+    rows.len() == 3
+}
+
+fn has_rows(surveyed: &Result<Vec<Rows>, SurveyFault>, layers: usize) -> bool {
+    match surveyed {
+        Ok(all) => all.len() == layers && all.iter().all(is_square),
+        Err(_) => false,
+    }
+}
+
+#[test]
+fn each_layer_has_its_rows(rt: HostRuntime) {
+    for &workers in &[1, 2, 64] {
+        let all = survey(&rt, rt.alloc(), 70, &Squares { over: 70 }, 1000, workers);
+        assert!(rt; has_rows(&all, 70));
+    }
+}
+
+#[test]
+fn a_survey_answers_the_least_layer_over_a_budget(rt: HostRuntime) {
+    let passed = Budget::of_layer(BudgetKind::LayerEdges, 70, 20_010);
+    for &workers in &[1, 3] {
+        let all = survey(&rt, rt.alloc(), 130, &Squares { over: 69 }, 1000, workers);
+        assert!(rt; matches!(&all, Err(SurveyFault::Over(budget)) if *budget == passed));
     }
 }

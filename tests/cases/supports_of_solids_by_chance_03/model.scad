@@ -1,0 +1,1 @@
+difference() { union() { translate([-5,-6,5]) rotate([0,0,15]) cylinder(h=6,r=7,$fn=6); translate([6,5,6]) rotate([30,0,0]) cube([4,5,8]); translate([8,-2,8]) rotate([30,0,15]) cylinder(h=3,r=1,$fn=8); } translate([-1,5,7]) rotate([0,0,15]) cylinder(h=5,r=1,$fn=7); }

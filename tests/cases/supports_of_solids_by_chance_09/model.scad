@@ -1,0 +1,1 @@
+difference() { union() { translate([6,3,4]) rotate([0,0,15]) sphere(r=6,$fn=6); translate([0,7,0]) rotate([30,0,45]) cylinder(h=3,r=4,$fn=7); translate([6,2,5]) rotate([30,0,0]) cube([2,1,1]); } translate([2,-6,1]) rotate([30,0,0]) cylinder(h=1,r=1,$fn=6); }

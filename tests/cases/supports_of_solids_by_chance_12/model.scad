@@ -1,0 +1,1 @@
+difference() { union() { translate([1,8,3]) rotate([0,0,45]) cylinder(h=4,r=5,$fn=4); translate([-5,-3,2]) rotate([30,0,0]) cube([4,6,8]); translate([6,-4,7]) rotate([30,0,0]) cube([2,4,1]); translate([2,7,2]) rotate([30,0,0]) cylinder(h=9,r=8,$fn=5); } translate([1,-1,7]) rotate([0,0,0]) cube([8,4,1]); }

@@ -1,0 +1,1 @@
+difference() { union() { translate([2,-1,1]) rotate([0,0,45]) cylinder(h=5,r=2,$fn=3); translate([-6,0,3]) rotate([0,0,15]) cylinder(h=1,r=8,$fn=3); translate([8,-1,4]) rotate([0,0,15]) sphere(r=1,$fn=5); translate([-3,-1,4]) rotate([0,0,45]) cylinder(h=4,r=7,$fn=6); } translate([7,0,5]) rotate([30,0,15]) cylinder(h=8,r=8,$fn=9); }

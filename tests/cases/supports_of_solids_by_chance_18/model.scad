@@ -1,0 +1,1 @@
+difference() { union() { translate([1,-1,5]) rotate([30,0,15]) cube([1,2,9]); translate([8,7,6]) rotate([0,0,15]) cylinder(h=7,r=9,$fn=6); translate([-3,-6,4]) rotate([0,0,45]) cylinder(h=9,r=3,$fn=6); } translate([0,0,3]) rotate([30,0,45]) sphere(r=9,$fn=7); }

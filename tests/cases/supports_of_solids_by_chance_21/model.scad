@@ -1,0 +1,1 @@
+difference() { union() { translate([1,3,4]) rotate([0,0,0]) sphere(r=7,$fn=5); translate([-5,1,2]) rotate([0,0,45]) sphere(r=7,$fn=5); translate([-1,5,1]) rotate([30,0,15]) cube([1,6,9]); } translate([-3,-1,4]) rotate([0,0,0]) cylinder(h=7,r=9,$fn=3); }

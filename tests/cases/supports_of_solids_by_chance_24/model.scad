@@ -1,0 +1,1 @@
+difference() { union() { translate([6,-2,5]) rotate([0,0,15]) sphere(r=6,$fn=7); translate([4,1,1]) rotate([0,0,45]) cylinder(h=5,r=9,$fn=3); translate([5,0,6]) rotate([0,0,15]) cylinder(h=4,r=9,$fn=4); translate([-4,8,8]) rotate([0,0,0]) sphere(r=2,$fn=7); } translate([-3,0,5]) rotate([0,0,15]) cylinder(h=5,r=4,$fn=5); }

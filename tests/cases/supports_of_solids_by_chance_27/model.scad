@@ -1,0 +1,1 @@
+difference() { union() { translate([6,3,1]) rotate([30,0,45]) cube([7,1,9]); translate([7,1,1]) rotate([30,0,45]) cylinder(h=2,r=6,$fn=5); translate([-2,-4,8]) rotate([0,0,45]) sphere(r=9,$fn=6); translate([5,0,4]) rotate([0,0,45]) sphere(r=6,$fn=6); } translate([5,2,5]) rotate([0,0,45]) cylinder(h=4,r=4,$fn=3); }

@@ -1,0 +1,1 @@
+difference() { union() { translate([5,7,5]) rotate([30,0,45]) cylinder(h=8,r=7,$fn=7); translate([1,2,3]) rotate([0,0,15]) cube([2,7,8]); } translate([1,-6,7]) rotate([0,0,0]) cylinder(h=1,r=7,$fn=8); }
