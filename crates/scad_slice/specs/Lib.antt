@@ -1,4 +1,5 @@
 pub mod Budgets
+pub mod Supports
 pub mod Layer
 pub mod Parts
 pub mod Script
