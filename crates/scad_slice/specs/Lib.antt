@@ -1,5 +1,6 @@
 pub mod Budgets
 pub mod Supports
+pub mod Covers
 pub mod Layer
 pub mod Parts
 pub mod Script

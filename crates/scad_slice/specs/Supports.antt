@@ -58,17 +58,18 @@ stretches_passed count = record { kind = SupportRuns; at = no_place; layer = 0; 
 abbrev pub stretch_budget : ℕ → Option Budget
 stretch_budget count = if nat_lt stretch_limit count then Some (stretches_passed (min count greatest_count)) else None
 
--- the budget that the stretches of support lines below higher layers pass, those of all layers counted
-pub record IsStretchBudget (s : Settings) (tree : Solid) (passed : Option Budget) : Type 0 where
+-- The budget that the stretches of support lines below higher layers pass, those of all layers counted; and then that of
+-- the outlines of layer i itself, which is left where it lies above the tree's layers, none of which passes one here.
+pub record IsStretchBudget (s : Settings) (tree : Solid) (i : ℕ) (passed : Option Budget) : Type 0 where
   pub all : List (List (List Pt))
   pub are_all : AreAllOutlines s.layer_height tree all
   pub covers : List (List Row)
   pub overhung : AreOverhung all s.support_spacing covers
-  pub is : passed ≡ stretch_budget (run_count covers)
+  pub is : passed ≡ first_of (stretch_budget (run_count covers) ∷ layer_budget s.layer_height tree i ∷ [])
 
-abbrev pub IsBudgetUnless : Option Budget → Settings → Solid → Option Budget → Type 0
-IsBudgetUnless (Some budget) s tree passed = passed ≡ Some budget
-IsBudgetUnless None s tree passed = IsStretchBudget s tree passed
+abbrev pub IsBudgetUnless : Option Budget → Settings → Solid → ℕ → Option Budget → Type 0
+IsBudgetUnless (Some budget) s tree i passed = passed ≡ Some budget
+IsBudgetUnless None s tree i passed = IsStretchBudget s tree i passed
 
 -- without supports a layer passes the budget of its own outlines,
 pub record PassesOwn (s : Settings) (tree : Solid) (i : ℕ) (passed : Option Budget) : Type 0 where
@@ -77,11 +78,11 @@ pub record PassesOwn (s : Settings) (tree : Solid) (i : ℕ) (passed : Option Bu
 
 -- with supports each layer that of all: the outlines of all layers are judged before the first is written, and then the
 -- stretches
-pub record PassesOfAll (s : Settings) (tree : Solid) (passed : Option Budget) : Type 0 where
+pub record PassesOfAll (s : Settings) (tree : Solid) (i : ℕ) (passed : Option Budget) : Type 0 where
   pub spacing : 0 < s.support_spacing
-  pub is : IsBudgetUnless (outlines_budget s.layer_height tree) s tree passed
+  pub is : IsBudgetUnless (outlines_budget s.layer_height tree) s tree i passed
 
 -- the budget, if any, that is passed before what is wanted of layer i over its outlines
 abbrev pub IsPassedBefore : Want → Settings → Solid → ℕ → Option Budget → Type 0
 IsPassedBefore Outlines s tree i passed = passed ≡ layer_budget s.layer_height tree i
-IsPassedBefore Plan s tree i passed = PassesOwn s tree i passed ⊎ PassesOfAll s tree passed
+IsPassedBefore Plan s tree i passed = PassesOwn s tree i passed ⊎ PassesOfAll s tree i passed
