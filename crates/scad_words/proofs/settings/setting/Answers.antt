@@ -5,14 +5,14 @@ use Rattle.toml.proofs.Views.{table_get}
 use Rattle.scad_words.specs.Settings.{value_or}
 use Rattle.scad_words.proofs.settings.setting.Goals as goal
 
-pub returns-in-Some-clause-value : goal.returns-in-Some-clause-value
-returns-in-Some-clause-value c =
+pub returns-in-Some : goal.returns-in-Some
+returns-in-Some c =
     let found = table_get c.get.result c.args.key.now c.args.table.now.entries c.get.ensures.value in
     let here = rw c.in-Some.is at found in
-    c.value_or.ensures.value ∙ ap (value_or c.args.row) (c.as_integer.ensures ∙ ap (λ (o : Option Data). option_and_then as_integer o) here)
+    c.value_or.ensures ∙ ap (value_or c.args.row) (c.as_integer.ensures ∙ ap (λ (o : Option Data). option_and_then as_integer o) here)
 
-pub returns-in-None-clause-value : goal.returns-in-None-clause-value
-returns-in-None-clause-value c =
+pub returns-in-None : goal.returns-in-None
+returns-in-None c =
     let found = table_get c.get.result c.args.key.now c.args.table.now.entries c.get.ensures.value in
     let here = rw c.in-None.is at found in
     ap (λ (o : Option Data). value_or c.args.row (option_and_then as_integer o)) here
