@@ -1,3 +1,6 @@
+pub mod AllOutlines
+pub mod OneBudget
+pub mod SomeSupports
 pub mod OneLayer
 pub mod SomeParts
 pub mod Drawn

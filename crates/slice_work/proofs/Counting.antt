@@ -4,9 +4,10 @@ use Rattle.std.proofs.lemmas.List.FromFn.{sum_by-map-range_with_len_more}
 use Rattle.scad_io.specs.declared.desk.Out.TheVariants.{Cli, Gcode}
 use Rattle.gcode_text.specs.declared.rates.Rates.{Rates}
 use Rattle.gcode_text.specs.Amount.{paths_volume}
+use Rattle.gcode_text.specs.Gcode.{printed_paths}
 use Rattle.slice_work.specs.declared.want.Want.{Want}
 use Rattle.slice_work.specs.declared.sums.Sums.{Sums}
-use Rattle.slice_work.specs.Part.{Layout, Part, outlines_of, paths_of, move_count}
+use Rattle.slice_work.specs.Part.{Layout, Part, outlines_of, printed_of, move_count}
 use Rattle.slice_work.specs.Script.{volume_below, written, written_unless, layer_steps}
 use Rattle.slice_work.specs.Sums.{step_size, with_layer, AreSums}
 
@@ -22,10 +23,10 @@ one_more want rates part i layout s laid sums =
     record {
       loops = ap₂ (λ a b. a + b) sums.loops (ap (λ it. length (outlines_of it)) (sym laid))
           ∙ sym (sum_by-map-range_with_len_more (λ it. length (outlines_of it)) part 0 i i (omega arith));
-      moves = ap₂ (λ a b. a + b) sums.moves (ap (λ it. move_count (paths_of want it)) (sym laid))
-          ∙ sym (sum_by-map-range_with_len_more (λ it. move_count (paths_of want it)) part 0 i i (omega arith));
-      volume = ap₂ (λ a b. a + b) sums.volume (ap (λ it. paths_volume rates (paths_of want it)) (sym laid))
-          ∙ sym (sum_by-map-range_with_len_more (λ it. paths_volume rates (paths_of want it)) part 0 i i (omega arith));
+      moves = ap₂ (λ a b. a + b) sums.moves (ap (λ it. move_count (printed_paths (printed_of want it))) (sym laid))
+          ∙ sym (sum_by-map-range_with_len_more (λ it. move_count (printed_paths (printed_of want it))) part 0 i i (omega arith));
+      volume = ap₂ (λ a b. a + b) sums.volume (ap (λ it. paths_volume rates (printed_paths (printed_of want it))) (sym laid))
+          ∙ sym (sum_by-map-range_with_len_more (λ it. paths_volume rates (printed_paths (printed_of want it))) part 0 i i (omega arith));
       cli = ap₂ (λ a b. a + b) sums.cli (ap (step_size Cli) (sym steps))
           ∙ sym (sum_by-map-range_with_len_more (step_size Cli) (layer_steps want rates part) 0 i i (omega arith));
       gcode = ap₂ (λ a b. a + b) sums.gcode (ap (step_size Gcode) (sym steps))

@@ -1,6 +1,7 @@
 -- The steps of one layer, and what is counted of them.
 use Rattle.std.proofs.Common.{◌≡◌, ◌+◌, ◌++◌, ℕ, List, [], ◌∷◌, length, refl, ap, ◌∙◌, arith}
 use Rattle.std.proofs.lemmas.List.{append-nil}
+use Rattle.scad_geom.specs.declared.point.Pt.{Pt}
 use Rattle.scad_io.specs.Desk.{View}
 use Rattle.scad_io.specs.declared.desk.Out.TheVariants.{Cli, Gcode}
 use Rattle.scad_script.specs.Steps.{Sends}
@@ -18,7 +19,7 @@ use Rattle.slice_work.specs.Sums.{with_layer}
 -- what comes behind a layer's outlines: its moves, where they are wanted, and then a script
 abbrev pub behind : Want → Rates → ℕ → ℕ → Layout → Script → Script
 behind Outlines rates volume i layout rest = rest
-behind Plan rates volume i layout rest = first (Sends Gcode (move_lines rates volume i layout.paths) ∷ []) rest
+behind Plan rates volume i layout rest = first (Sends Gcode (move_lines rates volume i layout) ∷ []) rest
 
 pub outlines_first : (want : Want) (rates : Rates) (volume i : ℕ) (layout : Layout) (rest : Script)
     → first (written want rates volume i layout) rest
@@ -26,6 +27,14 @@ pub outlines_first : (want : Want) (rates : Rates) (volume i : ℕ) (layout : La
     (behind want rates volume i layout rest)
 outlines_first Outlines rates volume i layout rest = refl
 outlines_first Plan rates volume i layout rest = refl
+
+-- ---- the volume of two lists of paths
+
+pub volume_both : (rates : Rates) (paths more : List (List Pt))
+    → paths_volume rates (paths ++ more) ≡ paths_volume rates paths + paths_volume rates more
+unfolding paths_volume
+volume_both rates [] more = omega arith
+volume_both rates (path ∷ paths) more = let rest = volume_both rates paths more in omega (arith, rest)
 
 -- ---- the outputs that are wanted
 

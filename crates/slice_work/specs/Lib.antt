@@ -5,3 +5,4 @@ pub mod Rounds
 pub mod Rates
 pub mod Script
 pub mod Sums
+pub mod Survey

@@ -9,7 +9,7 @@ use Rattle.slice_work.specs.declared.layer.LayerEnd.{LayerEnd}
 use Rattle.slice_work.specs.declared.layer.LayerEnd.TheVariants.{Made, Over}
 use Rattle.slice_work.specs.declared.layer.Drawn.{Drawn}
 use Rattle.slice_work.specs.declared.workers.Share.{Share}
-use Rattle.slice_work.specs.Part.{Part, Ends}
+use Rattle.slice_work.specs.Part.{Part, Ends, EndsWithin}
 
 -- the number, where the layer was made
 abbrev pub if_made : ℕ → LayerEnd → List ℕ
@@ -41,10 +41,15 @@ pub record IsThrough (board : Board) (pass : Pass) : Type 0 where
   pub free : (view pass).pending ≡ None
   pub ended : (view pass).ended ≡ true
 
+-- the outlines of all layers of the list lie within the limit of coordinates
+abbrev pub AreWithin : List Drawn → Type 0
+AreWithin done = All (λ d. EndsWithin d.end) done
+
 -- what was done of a round whose layers start at `first`
 pub record IsShare (board : Board) (first : ℕ) (s : Share) : Type 0 where
   pub through : IsThrough board s.pass
   pub noted : IsNoted first (view s.pass) s.done.items
+  pub within : AreWithin s.done.items
 
 -- the work on each layer of the list ended as the part is drawn
 abbrev pub AreDrawnOf : Part → List Drawn → Type 0

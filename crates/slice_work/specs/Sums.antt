@@ -7,19 +7,21 @@ use Rattle.scad_io.specs.declared.desk.Out.TheVariants.{Cli, Gcode}
 use Rattle.scad_script.specs.Steps.{Step, text_of}
 use Rattle.gcode_text.specs.declared.rates.Rates.{Rates}
 use Rattle.gcode_text.specs.Amount.{paths_volume, filament}
+use Rattle.gcode_text.specs.Gcode.{printed_paths}
 use Rattle.slice_work.specs.declared.want.Want.{Want}
 use Rattle.slice_work.specs.declared.sums.Sums.{Sums}
 use Rattle.slice_work.specs.declared.summary.Summary.{Summary}
-use Rattle.slice_work.specs.Part.{Layout, Part, outlines_of, paths_of, move_count}
+use Rattle.slice_work.specs.Part.{Layout, Part, outlines_of, printed_of, move_count}
 use Rattle.slice_work.specs.Script.{written, layer_steps, volume_below}
 
 -- the outlines of the first n layers
 abbrev pub loop_count : Part → ℕ → ℕ
 loop_count part n = sum_by (λ layer. length (outlines_of layer)) (map part (range_with_len 0 n))
 
--- the moves of the first n layers
+-- the moves of the first n layers, those of supports counted
 abbrev pub moves_below : Want → Part → ℕ → ℕ
-moves_below want part n = sum_by (λ layer. move_count (paths_of want layer)) (map part (range_with_len 0 n))
+moves_below want part n = sum_by (λ layer. move_count (printed_paths (printed_of want layer)))
+    (map part (range_with_len 0 n))
 
 -- how many bytes a layer's steps write to an output
 abbrev pub step_size : Out → Result (List Step) Budget → ℕ
@@ -33,7 +35,7 @@ size_below out want rates part n = sum_by (step_size out) (map (layer_steps want
 -- what is counted with one layer more, which is laid out so
 abbrev pub with_layer : Want → Rates → ℕ → Layout → Sums → Sums
 with_layer want rates i layout s =
-    let paths = paths_of want (Ok layout) in
+    let paths = printed_paths (printed_of want (Ok layout)) in
     record {
       loops = s.loops + length layout.outlines;
       moves = s.moves + move_count paths;

@@ -1,5 +1,5 @@
 //! One layer is written.
-ghost use Rattle.std.specs.Prelude.{◌≡◌, ◌≢◌, ◌+◌, ◌*◌, ◌^◌, ◌<◌, ◌≤◌, ◌∷◌, [], true, length, IfOk};
+ghost use Rattle.std.specs.Prelude.{◌≡◌, ◌≢◌, ◌+◌, ◌*◌, ◌^◌, ◌<◌, ◌≤◌, ◌++◌, ◌∷◌, [], true, length, IfOk, OnOk};
 ghost use Rattle.std.specs.List.{sum_by};
 ghost use Rattle.scad_io.specs.Desk.{side};
 ghost use Rattle.scad_script.specs.Steps.{Sends};
@@ -14,26 +14,17 @@ ghost use Rattle.slice_work.specs.Sums.{with_layer};
 
 use crate::fault::WorkFault;
 use crate::hatches::last_moves;
-use crate::sums::{Sums, moves_of};
+use crate::laid_layer::LaidLayer;
+use crate::sums::{Sums, moves_of_both};
 use crate::want::Want;
 use gcode_text::{Rates, are_few};
-use scad_geom::{Loop, Path};
+use scad_geom::Path;
 use scad_io::{Desk, Failed, Out, write_all};
 use std::alloc::{AllocError, Global};
 
 /// The greatest volume of all moves so far behind which a layer is written, in cubic micrometres. It is more than
 /// 10^12 cubic metres.
 const VOLUME_LIMIT: u128 = 1_000_000_000_000_000_000_000_000_000_000;
-
-/// A layer as it is written: its number, its outlines, and the paths of its moves, the last `runs` of which are runs of
-/// infill.
-#[derive(Clone, Copy, Debug)]
-pub struct LaidLayer<'a> {
-    pub number: u32,
-    pub loops: &'a [Loop],
-    pub paths: &'a [Path],
-    pub runs: u64,
-}
 
 /// Writes a layer: the lines of its outlines and of its infill, and then those of its moves, where they are wanted. What
 /// is counted of the layers so far then counts this one too.
@@ -50,11 +41,9 @@ pub fn send_layer<D: Desk>(
     requires sound { Sound (D.view desk.old) }
     requires there { AreThere want (D.view desk.old) }
 
-    ensures carries { Carries (first (written want rates.now sums.volume layer.now.number
-        (laid_out layer.now.loops.now layer.now.paths.now layer.now.runs)))
+    ensures carries { Carries (first (written want rates.now sums.volume layer.now.number (laid_out layer.now)))
         (stopped result) (D.view desk.old) (D.view desk.new) }
-    ensures sums { IfOk result (λ s. s ≡ with_layer want rates.now layer.now.number
-        (laid_out layer.now.loops.now layer.now.paths.now layer.now.runs) sums) }
+    ensures sums { IfOk result (λ s. s ≡ with_layer want rates.now layer.now.number (laid_out layer.now) sums) }
     ensures kept { Keeps D.files D.view D.faults desk.old desk.new (stopped result) }
 {
     let cli = send_outlines(alloc, rates, layer, desk)?;
@@ -63,7 +52,7 @@ pub fn send_layer<D: Desk>(
     };
     match want {
         Want::Outlines => Ok(sums),
-        Want::Plan => send_moves(alloc, rates, layer.number, layer.paths, sums, desk),
+        Want::Plan => send_moves(alloc, rates, layer, sums, desk),
     }
 }
 
@@ -79,11 +68,10 @@ fn send_outlines<D: Desk>(
     requires sound { Sound (D.view desk.old) }
     requires made { (D.view desk.old).cli.created ≡ true }
 
-    ensures carries { Carries (first (Sends Out.Cli (layout_lines rates.now layer.now.number
-        (laid_out layer.now.loops.now layer.now.paths.now layer.now.runs)) ∷ []))
+    ensures carries { Carries
+        (first (Sends Out.Cli (layout_lines rates.now layer.now.number (laid_out layer.now)) ∷ []))
         (stopped result) (D.view desk.old) (D.view desk.new) }
-    ensures size { IfOk result (λ n. n ≡ length (layout_lines rates.now layer.now.number
-        (laid_out layer.now.loops.now layer.now.paths.now layer.now.runs))) }
+    ensures size { IfOk result (λ n. n ≡ length (layout_lines rates.now layer.now.number (laid_out layer.now))) }
     ensures kept { Keeps D.files D.view D.faults desk.old desk.new (stopped result) }
 {
     let text = outline_text(alloc, rates, layer)?;
@@ -96,8 +84,7 @@ fn outline_text(alloc: Global, rates: &Rates, layer: &LaidLayer) -> Result<Vec<u
     requires rates { AreRates rates.now }
     requires layer { layer.now.number < layer_limit }
 
-    ensures { IfOk result (λ v. v.items ≡ layout_lines rates.now layer.now.number
-        (laid_out layer.now.loops.now layer.now.paths.now layer.now.runs)) }
+    ensures { IfOk result (λ v. v.items ≡ layout_lines rates.now layer.now.number (laid_out layer.now)) }
 {
     let hatches = last_moves(alloc, layer.paths, layer.runs)?;
     let height = rates.layer_height * (layer.number + 1);
@@ -106,13 +93,11 @@ fn outline_text(alloc: Global, rates: &Rates, layer: &LaidLayer) -> Result<Vec<u
     Ok(text)
 }
 
-// Writes the lines of a layer's moves. No memory holds so many points, or is so far through a part, that they can't
-// be written.
+// Writes the lines of a layer's moves, and of those of its supports.
 fn send_moves<D: Desk>(
     alloc: Global,
     rates: &Rates,
-    layer: u32,
-    paths: &[Path],
+    layer: &LaidLayer,
     sums: Sums,
     desk: &mut D,
 ) -> Result<Sums, WorkFault>
@@ -120,29 +105,58 @@ fn send_moves<D: Desk>(
     requires sound { Sound (D.view desk.old) }
     requires made { (D.view desk.old).gcode.created ≡ true }
 
-    ensures carries { Carries (first (Sends Out.Gcode (move_lines rates.now sums.volume layer paths.now) ∷ []))
+    ensures carries { Carries
+        (first (Sends Out.Gcode (move_lines rates.now sums.volume layer.now.number (laid_out layer.now)) ∷ []))
         (stopped result) (D.view desk.old) (D.view desk.new) }
     ensures sums { IfOk result (λ s. s ≡ record sums {
-      moves = sums.moves + move_count paths.now;
-      volume = sums.volume + paths_volume rates.now paths.now;
-      gcode = sums.gcode + length (move_lines rates.now sums.volume layer paths.now);
+      moves = sums.moves + move_count (layer.now.paths.now ++ layer.now.supports.now);
+      volume = sums.volume + paths_volume rates.now (layer.now.paths.now ++ layer.now.supports.now);
+      gcode = sums.gcode + length (move_lines rates.now sums.volume layer.now.number (laid_out layer.now));
     }) }
     ensures kept { Keeps D.files D.view D.faults desk.old desk.new (stopped result) }
 {
-    if sums.volume > VOLUME_LIMIT || !are_few(paths) {
-        return Err(WorkFault::Memory);
-    }
-    let mut text = Vec::new(alloc);
     let mut volume = sums.volume;
-    gcode_text::write_layer(&mut text, layer, paths, rates, &mut volume)?;
+    let text = move_text(alloc, rates, layer, &mut volume)?;
     send(desk, Out::Gcode, &text)?;
-    let Some(moves) = moves_of(paths) else {
+    let Some(moves) = moves_of_both(layer.paths, layer.supports) else {
         return Err(WorkFault::Memory);
     };
     match sums.with_moves(moves, volume, text.len()) {
         Some(sums) => Ok(sums),
         None => Err(WorkFault::Memory),
     }
+}
+
+// The lines of a layer's moves, and of those of its supports, behind a volume that rises by theirs.
+fn move_text(
+    alloc: Global,
+    rates: &Rates,
+    layer: &LaidLayer,
+    volume: &mut u128,
+) -> Result<Vec<u8>, AllocError>
+    requires rates { AreRates rates.now }
+
+    ensures text { IfOk result (λ v. v.items ≡ move_lines rates.now volume.old layer.now.number (laid_out layer.now)) }
+    ensures volume { OnOk result (volume.new ≡ volume.old
+        + paths_volume rates.now (layer.now.paths.now ++ layer.now.supports.now)) }
+{
+    let mut text = Vec::new(alloc);
+    check(*volume, layer.paths)?;
+    gcode_text::write_layer(&mut text, layer.number, layer.paths, rates, volume)?;
+    check(*volume, layer.supports)?;
+    gcode_text::write_supports(&mut text, layer.supports, rates, volume)?;
+    Ok(text)
+}
+
+// No memory holds so many points, or is so far through a part, that paths can't be written behind a volume.
+fn check(volume: u128, paths: &[Path]) -> Result<(), AllocError>
+    ensures volume { OnOk result (volume ≤ 10 ^ 30) }
+    ensures points { OnOk result (sum_by length paths.now < 2 ^ 32) }
+{
+    if volume > VOLUME_LIMIT || !are_few(paths) {
+        return Err(AllocError);
+    }
+    Ok(())
 }
 
 // Writes a piece to an output that isn't the report.

@@ -12,10 +12,10 @@ ghost use Rattle.slice_work.specs.Rates.{rates_of};
 ghost use Rattle.slice_work.specs.Sums.{AreSums, IsSummary};
 
 use crate::fault::WorkFault;
-use crate::layer_lines::{LaidLayer, send_layer};
+use crate::layer_lines::send_layer;
 use crate::layer_work::LayerWork;
 use crate::print::Print;
-use crate::round::{Round, work_round};
+use crate::round::{ROUND, Round, work_round};
 use crate::round_layers::{budget_of, layout_of};
 use crate::summary::Summary;
 use crate::sums::Sums;
@@ -25,9 +25,6 @@ use scad_io::Desk;
 use scad_words::Settings;
 use std::alloc::Global;
 use std::thread::Threads;
-
-/// The most layers of a round.
-const ROUND: u32 = 64;
 
 /// Works so many layers of a part and writes them in order.
 ///
@@ -93,13 +90,7 @@ fn send_round<D: Desk>(
 {
     let mut sums = sums;
     'layers: for n in 0..round.least {
-        let (loops, paths, runs) = layout_of(round, n);
-        let layer = LaidLayer {
-            number: round.first + n,
-            loops,
-            paths,
-            runs,
-        };
+        let layer = layout_of(round, n);
         sums = send_layer(alloc, want, rates, &layer, sums, desk)?;
     }
     if round.least < round.count {

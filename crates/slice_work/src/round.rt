@@ -1,7 +1,7 @@
 //! A round of layers.
 ghost use Rattle.std.specs.Prelude.{◌≡◌, ◌+◌, ◌<◌, ◌≤◌, IfOk};
 ghost use Rattle.slice_work.specs.Part.{Part, layer_limit};
-ghost use Rattle.slice_work.specs.Shares.{AreDrawnOf};
+ghost use Rattle.slice_work.specs.Shares.{AreDrawnOf, AreWithin};
 ghost use Rattle.slice_work.specs.Rounds.{IsRound, round_limit};
 
 use crate::layer::Drawn;
@@ -10,6 +10,9 @@ use crate::workers::{Share, pool};
 use layer_board::Board;
 use std::alloc::{AllocError, Global};
 use std::thread::Threads;
+
+/// The most layers of a round.
+pub const ROUND: u32 = 64;
 
 /// So many layers from the first one on, and what those ended with that weren't skipped. The least number in the
 /// round of a layer that passes a budget is their number where none does.
@@ -37,6 +40,7 @@ pub fn work_round<R: Threads + Sync, W: LayerWork>(
 
     ensures round { IfOk result (IsRound first count) }
     ensures drawn { IfOk result (λ r. (part : Part) → W.draws work.now part → AreDrawnOf part r.done.items) }
+    ensures within { IfOk result (λ r. AreWithin r.done.items) }
 {
     let (board, passes) = Board::new(alloc, count, workers)?;
     let Share { pass, done } = pool(rt, alloc, &board, passes, first, work)?;

@@ -1,38 +1,59 @@
 //! The layers of a round by their number.
-ghost use Rattle.std.specs.Prelude.{◌≡◌, ◌+◌, ◌<◌, Ok, Err};
+ghost use Rattle.std.specs.Prelude.{◌≡◌, ◌+◌, ◌<◌, Ok, Err, All};
+ghost use Rattle.scad_geom.specs.Limits.{coordinate_limit};
+ghost use Rattle.scad_geom.specs.Within.{IsWithin};
 ghost use Rattle.slice_work.specs.Part.{Part};
-ghost use Rattle.slice_work.specs.Shares.{AreDrawnOf};
+ghost use Rattle.slice_work.specs.Shares.{AreDrawnOf, AreWithin};
 ghost use Rattle.slice_work.specs.Rounds.{IsWhole};
+ghost use Rattle.slice_work.specs.Script.{laid_out};
 
+use crate::laid_layer::LaidLayer;
 use crate::layer::LayerEnd;
 use crate::round::Round;
+use plan_layer::LayerPlan;
 use scad_fault::Budget;
-use scad_geom::{Loop, Path};
+use scad_geom::Loop;
 
-/// The outlines and the paths of a layer below the least that passes a budget, and how many of the last paths are runs of
-/// infill.
-pub fn layout_of(round: &Round, n: u32) -> (&[Loop], &[Path], u64)
+/// A layer below the least that passes a budget.
+pub fn layout_of(round: &Round, n: u32) -> LaidLayer<'_>
     requires whole { IsWhole round.now }
     requires made { n < round.now.least }
 
-    ensures { (part : Part) → AreDrawnOf part round.now.done.items
-        → part (round.now.first + n) ≡ Ok (record { outlines = result.0.now; paths = result.1.now; runs = result.2 }) }
+    ensures number { result.number ≡ round.now.first + n }
+    ensures layout { (part : Part) → AreDrawnOf part round.now.done.items
+        → part (round.now.first + n) ≡ Ok (laid_out result) }
+    ensures within { AreWithin round.now.done.items → All (λ l. All (IsWithin coordinate_limit) l) result.loops.now }
 {
-    let layer = round.first + n;
+    let number = round.first + n;
     'layers: for drawn in &round.done {
-        if drawn.layer != layer {
+        if drawn.layer != number {
             continue;
         }
         match &drawn.end {
-            LayerEnd::Made(loops, plan) => return (
-                loops.as_slice(),
-                plan.paths.as_slice(),
-                plan.runs,
-            ),
+            LayerEnd::Made(loops, plan) => return laid(number, loops, plan),
             LayerEnd::Over(_) => {}
         }
     }
     unreachable!()
+}
+
+// The layer of a number with these outlines and this plan.
+fn laid<'a>(number: u32, loops: &'a [Loop], plan: &'a LayerPlan) -> LaidLayer<'a>
+    ensures number { result.number ≡ number }
+    ensures layout { laid_out result ≡ record {
+      outlines = loops.now;
+      paths = plan.now.paths.items;
+      runs = plan.now.runs;
+      supports = plan.now.supports.items;
+    } }
+{
+    LaidLayer {
+        number,
+        loops,
+        paths: plan.paths.as_slice(),
+        runs: plan.runs,
+        supports: plan.supports.as_slice(),
+    }
 }
 
 /// The budget that the least such layer passes, where the round has one.

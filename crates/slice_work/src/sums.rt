@@ -1,5 +1,5 @@
 //! What is counted of layers that were written.
-ghost use Rattle.std.specs.Prelude.{◌≡◌, ◌+◌, ◌≤◌, IfSome};
+ghost use Rattle.std.specs.Prelude.{◌≡◌, ◌+◌, ◌++◌, ◌≤◌, IfSome};
 ghost use Rattle.gcode_text.specs.Amount.{filament};
 ghost use Rattle.slice_work.specs.Part.{move_count};
 
@@ -80,8 +80,14 @@ impl Sums {
     }
 }
 
-/// The moves along paths: one from each point to the next.
-pub fn moves_of(paths: &[Path]) -> Option<u64>
+/// The moves along paths and further ones: one from each point to the next.
+pub fn moves_of_both(paths: &[Path], more: &[Path]) -> Option<u64>
+    ensures { IfSome result (λ n. n ≡ move_count (paths.now ++ more.now)) }
+{
+    moves_of(paths)?.checked_add(moves_of(more)?)
+}
+
+fn moves_of(paths: &[Path]) -> Option<u64>
     ensures { IfSome result (λ n. n ≡ move_count paths.now) }
 {
     let mut moves: u64 = 0;

@@ -10,7 +10,7 @@ use Rattle.slice_work.proofs.layer_lines.send_outlines.Goals as goal
 pub returns-in_err-send-clause-carries : goal.returns-in_err-send-clause-carries
 returns-in_err-send-clause-carries g c whole rest start left =
     let same : c.deref.result.now ≡ layout_lines c.args.rates.now c.args.layer.now.number
-    (laid_out c.args.layer.now.loops.now c.args.layer.now.paths.now c.args.layer.now.runs) = search rules in
+    (laid_out c.args.layer.now) = search rules in
     stops_work whole rest _ _ start _ (search rules)
     (c.in_err-send.ensures.carries whole rest start (as_left
     (ap (λ (p : List ℕ). first (Sends Cli p ∷ []) rest) (sym same)) left))

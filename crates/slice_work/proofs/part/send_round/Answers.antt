@@ -13,14 +13,14 @@ returns-in_err-sums-clause-carries g c part drawn sums whole rest start left =
     let round = c.args.round.now in
     let i = round.first + c.layers.n in
     let n = round.count - c.layers.n in
-    let layout = laid_out c.layout_of-runs.result.0.now c.layout_of-runs.result.1.now c.layout_of-runs.result.2 in
+    let layout = laid_out c.layout_of-layer.result in
     let below : c.layers.n < round.least = search rules in
     let within : round.least ≤ round.count = c.requires.round.within in
     stops_work whole rest _ _ start _ (search rules)
     (next_written c.args.want c.args.rates.now part {T = Sums} i n (i + 1)
     (n - 1) c.layers.sums layout (stopped (Err c.in_err-sums.field-0.0))
     (g.D.Desk.view c.layers.desk) (g.D.Desk.view c.send_layer.new.desk) (omega arith) refl refl
-    (c.layers.invariant.sums part drawn sums) (c.layout_of-runs.ensures part drawn) c.in_err-sums.ensures.carries
+    (c.layers.invariant.sums part drawn sums) (c.layout_of-layer.ensures.layout part drawn) c.in_err-sums.ensures.carries
     whole rest start (c.layers.invariant.carries part drawn sums whole rest start left))
 
 pub layers-preserved : goal.layers-preserved
@@ -30,7 +30,7 @@ layers-preserved g c =
     let i = round.first + c.layers.n in
     let n = round.count - c.layers.n in
     let j = round.first + (c.layers.n + 1) in
-    let layout = laid_out c.layout_of-runs.result.0.now c.layout_of-runs.result.1.now c.layout_of-runs.result.2 in
+    let layout = laid_out c.layout_of-layer.result in
     let below : c.layers.n < round.least = search rules in
     let within : round.least ≤ round.count = c.requires.round.within in
     record {
@@ -38,12 +38,12 @@ layers-preserved g c =
           next_written c.args.want c.args.rates.now part {T = Sums} i n j (round.count - (c.layers.n + 1))
           c.layers.sums layout (stopped (Ok c.in_ok-sums.sums))
           (g.D.Desk.view c.layers.desk) (g.D.Desk.view c.send_layer.new.desk) (omega arith) (omega arith) (omega arith)
-          (kept.sums part drawn sums) (c.layout_of-runs.ensures part drawn) c.in_ok-sums.ensures.carries
+          (kept.sums part drawn sums) (c.layout_of-layer.ensures.layout part drawn) c.in_ok-sums.ensures.carries
           whole rest start (kept.carries part drawn sums whole rest start left);
       sums = λ part drawn sums.
           next_counted c.args.want c.args.rates.now part i j layout c.layers.sums c.in_ok-sums.sums (omega arith)
           c.in_ok-sums.ensures.sums
-          (c.layout_of-runs.ensures part drawn) (kept.sums part drawn sums);
+          (c.layout_of-layer.ensures.layout part drawn) (kept.sums part drawn sums);
       sound = search rules;
       there = still_there c.args.want (g.D.Desk.view c.layers.desk)
           (g.D.Desk.view c.send_layer.new.desk) c.in_ok-sums.ensures.kept.creates kept.there;

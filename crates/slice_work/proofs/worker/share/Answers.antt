@@ -4,7 +4,7 @@ use Rattle.layer_board.specs.declared.view.View.{View}
 use Rattle.layer_board.specs.Pass.{draws, skips}
 use Rattle.layer_board.specs.Calls.{view, Looks}
 use Rattle.slice_work.specs.declared.layer.Drawn.{Drawn}
-use Rattle.slice_work.specs.Part.{Ends}
+use Rattle.slice_work.specs.Part.{Ends, EndsWithin}
 use Rattle.slice_work.specs.Shares.{IsNoted, SkipsAbove, settled}
 use Rattle.slice_work.proofs.Noting.{IsDrawnBefore, noted_layer, drawn_notes, skipped_notes, none_failed, settled_skips, skipped_before, settled_before, settled_free, settled_members}
 use Rattle.slice_work.proofs.worker.share.Goals as goal
@@ -26,6 +26,7 @@ layers-preserved-then-look g c =
       noted = subst (λ (w : View). IsNoted c.args.first w c.layers.done.items) (sym now)
           (skipped_notes c.args.first n v c.layers.done.items kept.noted);
       drawn = kept.drawn;
+      within = kept.within;
       skips = subst SkipsAbove (sym now) kept.skips;
       before = subst IsDrawnBefore (sym now) (skipped_before n v kept.before);
     }
@@ -60,6 +61,8 @@ layers-preserved g c =
           All-same (λ (e : Drawn). Ends (part e.layer) e.end) c.push.new.self.items (c.layers.done.items ++ d ∷ []) more
           (All-push (λ (e : Drawn). Ends (part e.layer) e.end) c.layers.done.items d (kept.drawn part draws_so)
           (c.in_ok-end.ensures.end part draws_so));
+      within = All-same (λ (e : Drawn). EndsWithin e.end) c.push.new.self.items (c.layers.done.items ++ d ∷ []) more
+          (All-push (λ (e : Drawn). EndsWithin e.end) c.layers.done.items d kept.within c.in_ok-end.ensures.within);
       skips = subst SkipsAbove (sym now) (settled_skips n end v kept.before c.in-Layer.ensures.ascends none);
       before = subst IsDrawnBefore (sym now) (settled_before n end v kept.before);
     }

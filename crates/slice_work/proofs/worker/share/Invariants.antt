@@ -1,7 +1,7 @@
 use Rattle.std.proofs.Common.{◌≡◌, ◌-◌, length, None}
 use Rattle.layer_board.specs.Calls.{view, layers_of, IsOf}
 use Rattle.slice_work.specs.Part.{Part}
-use Rattle.slice_work.specs.Shares.{IsNoted, AreDrawnOf, SkipsAbove}
+use Rattle.slice_work.specs.Shares.{IsNoted, AreDrawnOf, AreWithin, SkipsAbove}
 use Rattle.slice_work.proofs.Noting.{IsDrawnBefore}
 use Rattle.slice_work.proofs.worker.share.Given as goal
 
@@ -12,6 +12,7 @@ invariant-layers g l = record {
   members : (view l.pass).members ≡ (view l.fn.pass).members;
   noted : IsNoted l.first (view l.pass) l.done.items;
   drawn : (part : Part) → g.W.LayerWork.draws l.work part → AreDrawnOf part l.done.items;
+  within : AreWithin l.done.items;
   skips : SkipsAbove (view l.pass);
   before : IsDrawnBefore (view l.pass);
 }

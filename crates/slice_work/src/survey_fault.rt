@@ -1,0 +1,24 @@
+//! Why a survey stops before its end.
+
+use scad_fault::Budget;
+use std::alloc::{AllocError, AllocFailed};
+
+/// Why a survey stops before its end.
+#[derive(Debug, Drop)]
+pub enum SurveyFault {
+    /// There was too little memory.
+    Memory,
+    /// The budget that the least layer passes which passes one.
+    Over(Budget),
+}
+
+impl From<AllocError> for SurveyFault {
+    ghost use Rattle.std.specs.Prelude.{◌≡◌};
+    ghost use Rattle.slice_work.specs.declared.survey_fault.SurveyFault.TheVariants.{Memory};
+
+    ghost from_gives = { λ _ fault. fault ≡ Memory };
+
+    fn from(_error: AllocError) -> SurveyFault {
+        SurveyFault::Memory
+    }
+}
