@@ -90,7 +90,7 @@ module _ (rates : Rates) where
       ∙ volume_behind (map (side_at b z) (moves path)) (sides_at b z paths)
       ∙ ap₂ (λ (m n : ℕ). m + n) (one_volume b z path) (all_volume b z paths)
 
-  both_volumes : (paths more : List (List Pt))
+  pub both_volumes : (paths more : List (List Pt))
       → paths_volume rates (paths ++ more) ≡ paths_volume rates paths + paths_volume rates more
   unfolding paths_volume
   both_volumes [] more = omega arith
