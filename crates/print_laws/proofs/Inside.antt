@@ -25,6 +25,10 @@ use Rattle.print_laws.specs.Laws.{SidesAreExtruded, MovesKeepPlaces, MovesStayIn
 use Rattle.print_laws.proofs.Lengths.{have_lengths}
 use Rattle.print_laws.proofs.Numbered.{AreFrom, from_first}
 
+-- a side of a path that is no support
+abbrev IsNoSupport : PathSide → Type 0
+IsNoSupport side = side.support ≡ false
+
 module _ (s : Settings) (outlines : List (List (List Pt))) where
   -- the move along a side keeps its place, behind any volume
   abbrev SideKeeps : PathSide → Type 0
@@ -89,7 +93,7 @@ module _ (s : Settings) (outlines : List (List (List Pt))) where
       let e : (i + 1) + k ≡ i + suc k = omega arith in ap (slice_get outlines) e ∙ are (suc k)) h.1)
 
   -- ---- where no side is a support's
-  all_stay : (sides : List PathSide) (moves : List Move) → AllByRecursion (λ side. side.support ≡ false) sides
+  all_stay : (sides : List PathSide) (moves : List Move) → AllByRecursion IsNoSupport sides
       → KeepPlaces s outlines sides moves → AllByRecursion (StaysInside s outlines) moves
   all_stay [] [] none kept = tt
   all_stay [] (m ∷ ms) none kept = absurd kept
@@ -102,31 +106,34 @@ module _ (s : Settings) (outlines : List (List (List Pt))) where
   if_extruding : (moves : List Move) → AllByRecursion (StaysInside s outlines) (extruding moves)
       → AllByRecursion (λ m. m.extruding ≡ true → StaysInside s outlines m) moves
   if_extruding [] h = tt
-  if_extruding (m ∷ ms) h = by_test m.extruding refl h
+  if_extruding (m ∷ ms) h = by_test m.extruding refl (if_extruding ms) h
     where
       by_test : (b : Bool) → m.extruding ≡ b
+          → (AllByRecursion (StaysInside s outlines) (extruding ms)
+          → AllByRecursion (λ m. m.extruding ≡ true → StaysInside s outlines m) ms)
           → AllByRecursion (StaysInside s outlines) (cond b (m ∷ extruding ms) (extruding ms))
           → AllByRecursion (λ m. m.extruding ≡ true → StaysInside s outlines m) (m ∷ ms)
-      by_test true is all = (λ extrudes. all.0, if_extruding ms all.1)
-      by_test false is all = (λ extrudes. let never : false ≡ true = sym is ∙ extrudes in absurd (cc), if_extruding ms all)
+      by_test true is rest all = (λ extrudes. all.0, rest all.1)
+      by_test false is rest all =
+          (λ extrudes. let never : false ≡ true = sym is ∙ extrudes in absurd (cc), rest all)
 
 -- the sides of paths are no support's
 no_supports_at : (z : ℕ) (es : List Edge)
-    → AllByRecursion (λ side. side.support ≡ false) (map (λ e. record { z = z; edge = e; support = false }) es)
+    → AllByRecursion IsNoSupport (map (λ e. record { z = z; edge = e; support = false }) es)
 no_supports_at z [] = tt
 no_supports_at z (e ∷ es) = (refl, no_supports_at z es)
 
 no_supports : (s : Settings) → s.support_spacing ≡ 0 → (i : ℕ) (layers : List Layout) → AreFrom (IsPlanned s) i layers
-    → AllByRecursion (λ side. side.support ≡ false) (sides_from s.layer_height i (all_printed layers))
+    → AllByRecursion IsNoSupport (sides_from s.layer_height i (all_printed layers))
 no_supports s spacing i [] h = tt
 no_supports s spacing i (l ∷ ls) h =
     let z : ℕ = (i + 1) * s.layer_height in
     let none = h.0.supports.none spacing in
-    AllByRecursion-append (λ side. side.support ≡ false) (sides_at false z l.paths ++ sides_at true z l.supports)
+    AllByRecursion-append IsNoSupport (sides_at false z l.paths ++ sides_at true z l.supports)
     (sides_from s.layer_height (i + 1) (all_printed ls))
-    (AllByRecursion-append (λ side. side.support ≡ false) (sides_at false z l.paths) (sides_at true z l.supports)
+    (AllByRecursion-append IsNoSupport (sides_at false z l.paths) (sides_at true z l.supports)
     (no_supports_at z (all_moves l.paths))
-    (subst (λ (ps : List (List Pt)). AllByRecursion (λ side. side.support ≡ false) (sides_at true z ps)) (sym none) tt))
+    (subst (λ (ps : List (List Pt)). AllByRecursion IsNoSupport (sides_at true z ps)) (sym none) tt))
     (no_supports s spacing (i + 1) ls h.1)
 
 -- ---- the laws
