@@ -1,7 +1,7 @@
 -- A layer that the code has drawn is the part's.
 use Rattle.std.proofs.Common.{◌≡◌, ◌≢◌, inl, inr, ◌<◌, ◌≤◌, ◌++◌, List, [], ◌∷◌, ℕ, true, false, Vec, Option, Some, None, Result, Ok, Err}
 use Rattle.std.proofs.Common.{refl, sym, ap, ◌∙◌, subst, length, nat_lt, arith}
-use Rattle.std.specs.Prelude.{min, if◌then◌else◌}
+use Rattle.std.specs.Prelude.{if◌then◌else◌}
 use Rattle.std.proofs.lemmas.Bool.Decides.{nat_tests}
 use Rattle.std.specs.Global.{Global}
 use Rattle.scad_fault.specs.declared.budget.Budget.{Budget}
@@ -22,8 +22,7 @@ use Rattle.plan_layer.specs.declared.fault.PlanFault.TheVariants.{Memory}
 use Rattle.plan_layer.specs.Moves.{all_moves, move_limit}
 use Rattle.plan_layer.specs.Plan.{IsPlan}
 use Rattle.plan_layer.specs.Refusal.{AreAccepted, IsRefusal as IsPlanRefusal, IsAccepted}
-use Rattle.plan_support.specs.Covers.{run_count, stretch_limit}
-use Rattle.plan_support.specs.Lines.{greatest_count}
+use Rattle.plan_support.specs.Covers.{run_count}
 use Rattle.plan_support.specs.Rows.{Row}
 use Rattle.slice_work.specs.declared.want.Want.{Want}
 use Rattle.slice_work.specs.declared.want.Want.TheVariants.{Outlines, Plan}
@@ -34,9 +33,12 @@ use Rattle.slice_work.specs.Part.{Layout, Part, Ends}
 use Rattle.scad_slice.specs.Budgets.{edge_limit, edges_passed, crossings_passed, budget_passed, layer_budget}
 use Rattle.scad_slice.specs.Budgets.{plan_budget}
 use Rattle.scad_slice.specs.Parts.{IsPart}
-use Rattle.scad_slice.specs.Supports.{AreSupportsOf, first_of, stretches_passed, stretch_budget, IsBudgetUnless, IsPassedBefore}
+use Rattle.scad_slice.specs.Supports.{AreSupportsOf, first_of, IsBudgetUnless, IsPassedBefore}
 use Rattle.scad_slice.specs.Covers.{CoversFit}
+use Rattle.scad_slice.specs.Drawn.{DrawsLayer, LaysOut}
 use Rattle.scad_slice.specs.Layer.{IsLaidOut, IsLayerUnless, IsLayer}
+use Rattle.scad_slice.proofs.FirstOf.{first_alone}
+use Rattle.scad_slice.proofs.Stretches.{few_stretches}
 use Rattle.scad_slice.proofs.OneLayer.{layer_is_one}
 
 -- ---- the budget of outlines, by what is counted
@@ -62,16 +64,6 @@ crossings_budget i edges crossed few many =
 
 -- ---- the budget that is passed before what is wanted of a layer
 
--- few stretches pass none
-few_stretches : (count : ℕ) → count ≤ stretch_limit → stretch_budget count ≡ None
-few_stretches count few =
-    let a : nat_lt stretch_limit count ≡ false = grind (arith, nat_tests) in
-    (λ k. if a k then Some (stretches_passed (min count greatest_count)) else None)
-
-first_alone : (own : Option Budget) → own ≡ first_of (own ∷ [])
-first_alone None = refl
-first_alone (Some budget) = refl
-
 -- with covers that fit, it is that of its own outlines
 pub before_fits : (want : Want) (s : Settings) (tree : Solid) (i : ℕ) (covers : Option (List (List Row)))
     → CoversFit want s tree covers → IsPassedBefore want s tree i (layer_budget s.layer_height tree i)
@@ -96,10 +88,6 @@ before_fits Plan s tree i (Some covers) fits =
     })
 
 -- ---- how the work on a layer ends
-
--- it ends as a layer of the tree
-abbrev pub DrawsLayer : Want → Settings → Solid → ℕ → LayerEnd → Type 0
-DrawsLayer want s tree i end = (layout : Result Layout Budget) × IsLayer want s tree i layout × Ends layout end
 
 module _ (want : Want) (s : Settings) (tree : Solid) (i : ℕ)
   (before : IsPassedBefore want s tree i (layer_budget s.layer_height tree i)) where
@@ -152,11 +140,6 @@ module _ (want : Want) (s : Settings) (tree : Solid) (i : ℕ)
   )
 
 -- ---- a plan
-
--- the work on a layer ends with what is wanted over its outlines
-abbrev pub LaysOut : Want → Settings → Solid → ℕ → List (List Pt) → LayerEnd → Type 0
-LaysOut want s tree i outlines end =
-    (layout : Result Layout Budget) × IsLaidOut want s tree i outlines layout × Ends layout end
 
 -- no plan is wanted
 pub lays_none : (want : Want) (s : Settings) (tree : Solid) (i : ℕ) (loops : Vec Loop Global) (plan : LayerPlan)

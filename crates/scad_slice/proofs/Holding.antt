@@ -52,7 +52,7 @@ pub laid_over : (want : Want) (s : Settings) (tree : Solid) (i : ℕ) (layout : 
     → IsLayer want s tree i (Ok layout) → AreLayerOutlines i s.layer_height tree layout.outlines
 laid_over want s tree i layout layer = outlines_by layer.before want s tree i layout layer.is
 
-layer_outlines : (want : Want) (s : Settings) (tree : Solid) (part : Part) (i : ℕ) (layout : Layout)
+pub layer_outlines : (want : Want) (s : Settings) (tree : Solid) (part : Part) (i : ℕ) (layout : Layout)
     → IsPart want s tree part → part i ≡ Ok layout → AreLayerOutlines i s.layer_height tree (outlines_of (part i))
 layer_outlines want s tree part i layout of_part is =
     subst (λ (l : Result Layout Budget). AreLayerOutlines i s.layer_height tree (outlines_of l)) (sym is)

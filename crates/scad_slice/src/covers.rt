@@ -64,6 +64,7 @@ fn surveyed<R: Threads + Sync, G: Gate>(
     ensures over { (budget : Budget) → result ≡ Err (Over budget)
         → IsPassedByAll Plan workpiece.now.settings (solid_of workpiece.now.tree.now) budget }
 {
+    workpiece.tree.are_solids();
     let layers = work_on(workpiece, Want::Outlines, count, None);
     let spacing = workpiece.settings.support_spacing;
     survey(rt, alloc, count, &layers, spacing, workpiece.workers)

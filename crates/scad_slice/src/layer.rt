@@ -1,7 +1,7 @@
 //! The work on one layer of a tree.
-ghost use Rattle.std.specs.Prelude.{◌≡◌, ◌<◌, ◌≤◌, All, Result, IfOk};
+ghost use Rattle.std.specs.Prelude.{◌≡◌, All, IfOk};
+ghost use Rattle.std.specs.Option.{option_copied};
 ghost use Rattle.scad_fault.specs.Place.{no_place};
-ghost use Rattle.scad_fault.specs.declared.budget.Budget.{Budget};
 ghost use Rattle.scad_geom.specs.Limits.{point_limit};
 ghost use Rattle.scad_geom.specs.Within.{IsWithin};
 ghost use Rattle.scad_tree.specs.View.{solid_of};
@@ -9,9 +9,10 @@ ghost use Rattle.scad_tree.specs.Solids.{AreSolids};
 ghost use Rattle.slice_layer.specs.Outlines.{AreLayerOutlines};
 ghost use Rattle.slice_work.specs.declared.layer.LayerEnd.TheVariants.{Over};
 ghost use Rattle.slice_work.specs.declared.want.Want.TheVariants.{Plan};
-ghost use Rattle.slice_work.specs.Part.{Layout, Ends, EndsWithin};
+ghost use Rattle.slice_work.specs.Part.{EndsWithin};
+ghost use Rattle.scad_slice.specs.Covers.{CoversFit};
+ghost use Rattle.scad_slice.specs.Drawn.{DrawsLayer, LaysOut};
 ghost use Rattle.scad_slice.specs.Parts.{IsPart};
-ghost use Rattle.scad_slice.specs.Layer.{IsLaidOut, IsLayer};
 ghost use Rattle.scad_slice.specs.Supports.{AreSupportsOf};
 
 use crate::tree_work::TreeWork;
@@ -29,7 +30,9 @@ use std::alloc::{AllocError, Global};
 const EDGE_LIMIT: u32 = 20_000;
 
 impl<G: Gate> LayerWork for TreeWork<'_, '_, G> {
-    ghost draws = { λ work part. IsPart work.print.want work.print.settings (solid_of work.tree.now) part };
+    ghost draws = { λ work part.
+        CoversFit work.print.want work.print.settings (solid_of work.tree.now) (option_copied work.covers)
+        × IsPart work.print.want work.print.settings (solid_of work.tree.now) part };
 
     fn draw(&self, alloc: Global, layer: u32) -> Result<LayerEnd, AllocError> {
         self.tree.are_solids();
@@ -44,9 +47,10 @@ impl<G: Gate> LayerWork for TreeWork<'_, '_, G> {
 fn draw_layer<G>(work: &TreeWork<'_, '_, G>, alloc: Global, layer: u32) -> Result<LayerEnd, AllocError>
     requires solids { AreSolids (solid_of work.now.tree.now) }
 
-    ensures end { IfOk result (λ end. (layout : Result Layout Budget)
-        × IsLayer work.now.print.want work.now.print.settings (solid_of work.now.tree.now) layer layout
-        × Ends layout end) }
+    ensures end { IfOk result (λ end.
+        CoversFit work.now.print.want work.now.print.settings (solid_of work.now.tree.now)
+        (option_copied work.now.covers)
+        → DrawsLayer work.now.print.want work.now.print.settings (solid_of work.now.tree.now) layer end) }
     ensures within { IfOk result EndsWithin }
 {
     let height = work.print.settings.layer_height;
@@ -70,9 +74,10 @@ fn lay_out<G>(
         loops.items }
     requires within { All (λ l. All (IsWithin point_limit) l) loops.items }
 
-    ensures end { IfOk result (λ end. (layout : Result Layout Budget)
-        × IsLaidOut work.now.print.want work.now.print.settings (solid_of work.now.tree.now) layer loops.items layout
-        × Ends layout end) }
+    ensures end { IfOk result (λ end.
+        CoversFit work.now.print.want work.now.print.settings (solid_of work.now.tree.now)
+        (option_copied work.now.covers)
+        → LaysOut work.now.print.want work.now.print.settings (solid_of work.now.tree.now) layer loops.items end) }
     ensures within { IfOk result EndsWithin }
 {
     match work.print.want {
@@ -95,15 +100,14 @@ fn plan_out<G>(
     loops: Vec<Loop>,
     layer: u32,
 ) -> Result<LayerEnd, AllocError>
-    requires wanted { work.now.print.want ≡ Plan }
     requires solids { AreSolids (solid_of work.now.tree.now) }
     requires outlines { AreLayerOutlines layer work.now.print.settings.layer_height (solid_of work.now.tree.now)
         loops.items }
     requires within { All (λ l. All (IsWithin point_limit) l) loops.items }
 
-    ensures end { IfOk result (λ end. (layout : Result Layout Budget)
-        × IsLaidOut Plan work.now.print.settings (solid_of work.now.tree.now) layer loops.items layout
-        × Ends layout end) }
+    ensures end { IfOk result (λ end.
+        CoversFit Plan work.now.print.settings (solid_of work.now.tree.now) (option_copied work.now.covers)
+        → LaysOut Plan work.now.print.settings (solid_of work.now.tree.now) layer loops.items end) }
     ensures within { IfOk result EndsWithin }
 {
     let supports = supports_of(work, alloc, &loops, layer)?;
@@ -123,23 +127,24 @@ fn supports_of<G>(
     outlines: &[Loop],
     layer: u32,
 ) -> Result<Vec<Path>, AllocError>
-    requires wanted { work.now.print.want ≡ Plan }
     requires solids { AreSolids (solid_of work.now.tree.now) }
     requires outlines { AreLayerOutlines layer work.now.print.settings.layer_height (solid_of work.now.tree.now)
         outlines.now }
     requires within { All (λ l. All (IsWithin point_limit) l) outlines.now }
 
-    ensures { IfOk result (λ v. AreSupportsOf work.now.print.settings (solid_of work.now.tree.now) layer outlines.now
-        v.items) }
+    ensures { IfOk result (λ v.
+        CoversFit Plan work.now.print.settings (solid_of work.now.tree.now) (option_copied work.now.covers)
+        → AreSupportsOf work.now.print.settings (solid_of work.now.tree.now) layer outlines.now v.items) }
 {
-    let settings = &work.print.settings;
-    match work.covers {
-        Some(covers) if layer < work.count => {
-            let cover = covers.at(layer);
-            supports(alloc, outlines, cover, settings.support_gap, settings.line_width)
-        }
-        _ => Ok(Vec::new(alloc)),
+    let Some(covers) = work.covers else {
+        return Ok(Vec::new(alloc));
+    };
+    if layer >= work.count {
+        return Ok(Vec::new(alloc));
     }
+    let settings = &work.print.settings;
+    let cover = covers.at(layer);
+    supports(alloc, outlines, cover, settings.support_gap, settings.line_width)
 }
 
 fn over(kind: BudgetKind, layer: u32, count: u64) -> LayerEnd

@@ -89,6 +89,7 @@ fn send_layers<R: Threads + Sync, D: Desk, G: Gate>(
         → IsSummary want (rates_of workpiece.now.settings) part count s) }
     ensures kept { Keeps D.files D.view D.faults desk.old desk.new result }
 {
+    workpiece.tree.are_solids();
     let covers = match covers_of(rt, alloc, workpiece, want, count) {
         Ok(covers) => covers,
         Err(SurveyFault::Memory) => return Err(Stop::Memory),

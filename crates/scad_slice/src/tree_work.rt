@@ -1,9 +1,7 @@
 //! A tree whose layers are worked.
 ghost use Rattle.std.specs.Prelude.{◌≡◌};
-ghost use Rattle.std.specs.Option.{option_copied};
-ghost use Rattle.scad_tree.specs.View.{solid_of};
-ghost use Rattle.scad_slice.specs.Budgets.{layer_count};
-ghost use Rattle.scad_slice.specs.Covers.{CoversFit};
+ghost use Rattle.std.specs.Option.{ForSome, option_copied};
+ghost use Rattle.scad_slice.specs.Covers.{AreGiven, given-prop};
 
 use crate::workpiece::Workpiece;
 use plan_support::Covers;
@@ -18,10 +16,9 @@ pub struct TreeWork<'a, 'c, G> {
     pub gate: &'a G,
     /// How many layers the tree has.
     pub count: u32,
-    /// What stands below higher layers, exactly where a plan with supports is wanted.
+    /// What stands below higher layers, where a plan with supports is wanted.
     pub covers: Option<&'c Covers>,
-    ghost counted: { count ≡ layer_count print.settings.layer_height (solid_of tree.now) },
-    ghost fits: { CoversFit print.want print.settings (solid_of tree.now) (option_copied covers) },
+    ghost given: { ForSome (option_copied covers) (AreGiven count) } by { given-prop count (option_copied covers) },
 }
 
 /// The work on the layers of a workpiece.
@@ -31,12 +28,12 @@ pub fn work_on<'a, 'c, G>(
     count: u32,
     covers: Option<&'c Covers>,
 ) -> TreeWork<'a, 'c, G>
-    requires counted { count ≡ layer_count workpiece.now.settings.layer_height (solid_of workpiece.now.tree.now) }
-    requires fits { CoversFit want workpiece.now.settings (solid_of workpiece.now.tree.now) (option_copied covers) }
+    requires given { ForSome (option_copied covers) (AreGiven count) }
 
     ensures tree { result.tree.now ≡ workpiece.now.tree.now }
     ensures settings { result.print.settings ≡ workpiece.now.settings }
     ensures want { result.print.want ≡ want }
+    ensures covers { result.covers ≡ covers }
 {
     TreeWork {
         tree: workpiece.tree,

@@ -17,33 +17,37 @@ either : (a b : Bool) → (a || b) ≡ true → (a ≡ true) ⊎ (b ≡ true)
 either true b is = inl refl
 either false b is = inr is
 
+-- a number lies in its row's range, or is the 0 besides
+abbrev IsOneOf : Row → ℕ → Type 0
+IsOneOf row n = ((row.or_none ≡ true) × (n ≡ 0)) ⊎ IsWithin row n
+
 -- a number in range lies between the least and the greatest, or is the 0 besides
-is_one : (row : Row) (z : ℤ) → is_in_range row z ≡ true → IsNoneOrWithin row (unsigned_abs z)
+is_one : (row : Row) (z : ℤ) → is_in_range row z ≡ true → IsOneOf row (unsigned_abs z)
 is_one row (pos n) is =
     by_case (either (int_le (pos row.least) (pos n) && int_le (pos n) (pos row.most)) (row.or_none && int_eq (pos n) (pos 0)) is)
   where
     by_case : ((int_le (pos row.least) (pos n) && int_le (pos n) (pos row.most)) ≡ true)
-        ⊎ ((row.or_none && int_eq (pos n) (pos 0)) ≡ true) → IsNoneOrWithin row n
+        ⊎ ((row.or_none && int_eq (pos n) (pos 0)) ≡ true) → IsOneOf row n
     by_case (inl between) = inr (record { least = grind (arith, ints); most = grind (arith, ints) })
     by_case (inr none) = inl (grind (arith, ints), grind (arith, ints))
 is_one row (negsuc n) is = let never : ⊥ = grind (arith, ints) in absurd never
 
-number_within : (row : Row) (z : ℤ) (b : Bool) → is_in_range row z ≡ b → IsNoneOrWithin row row.default
-    → IsNoneOrWithin row (if b then unsigned_abs z else row.default)
+number_within : (row : Row) (z : ℤ) (b : Bool) → is_in_range row z ≡ b → IsOneOf row row.default
+    → IsOneOf row (if b then unsigned_abs z else row.default)
 number_within row z false is default = default
 number_within row z true is default = is_one row z is
 
-value_within : (row : Row) → IsNoneOrWithin row row.default → (number : Option ℤ)
-    → IsNoneOrWithin row (value_or row number)
+value_within : (row : Row) → IsOneOf row row.default → (number : Option ℤ)
+    → IsOneOf row (value_or row number)
 value_within row default None = default
 value_within row default (Some z) = number_within row z (is_in_range row z) refl default
 
-none_or_within : (ms : Members) (key : List ℕ) (row : Row) → IsNoneOrWithin row row.default
-    → IsNoneOrWithin row (setting ms key row)
+none_or_within : (ms : Members) (key : List ℕ) (row : Row) → IsOneOf row row.default
+    → IsOneOf row (setting ms key row)
 none_or_within ms key row default = value_within row default (option_and_then as_integer (get_member key ms))
 
 -- where there is no 0 besides
-within : (row : Row) (n : ℕ) → row.or_none ≡ false → IsNoneOrWithin row n → IsWithin row n
+within : (row : Row) (n : ℕ) → row.or_none ≡ false → IsOneOf row n → IsWithin row n
 within row n never (inl h) = absurd (false≢true (sym never ∙ h.0))
 within row n never (inr h) = h
 
@@ -51,6 +55,12 @@ setting_within : (ms : Members) (key : List ℕ) (row : Row) → row.or_none ≡
     → row.default ≤ row.most → IsWithin row (setting ms key row)
 setting_within ms key row never least most =
     within row (setting ms key row) never (none_or_within ms key row (inr (record { least = least; most = most })))
+
+none_or : (row : Row) (n : ℕ) → IsOneOf row n → IsNoneOrWithin row n
+none_or row n (inl h) =
+    let none = h.1 in
+    record { least = λ some. absurd (omega (arith, none, some)); most = omega (arith, none) }
+none_or row n (inr h) = record { least = λ some. h.least; most = h.most }
 
 pub settings_in_range : (ms : Members) → AreInRange (settings_in ms)
 settings_in_range ms =
@@ -63,7 +73,9 @@ settings_in_range ms =
       line_width = setting_within ms (codes "line_width") line_width refl (omega arith) (omega arith);
       print_feed = setting_within ms (codes "print_feed") print_feed refl (omega arith) (omega arith);
       support_gap = setting_within ms (codes "support_gap") support_gap refl (omega arith) (omega arith);
-      support_spacing = none_or_within ms (codes "support_spacing") support_spacing (inl (refl, refl));
+      support_spacing =
+          none_or support_spacing (setting ms (codes "support_spacing") support_spacing)
+          (none_or_within ms (codes "support_spacing") support_spacing (inl (refl, refl)));
       travel_feed = setting_within ms (codes "travel_feed") travel_feed refl (omega arith) (omega arith);
       walls = setting_within ms (codes "walls") walls refl (omega arith) (omega arith);
     }

@@ -1,6 +1,6 @@
 -- What a settings text gives: a TOML table with whole numbers, each under a key of the settings and in its range. The members
 -- of a table stand in byte order of their keys.
-use Rattle.std.specs.Prelude.{◌≡◌, ◌⊎◌, true, ℕ, ◌≤◌, if◌then◌else◌, List, [], codes, Option, Some, None, option_and_then, Result, Ok, Err, ℤ, pos, unsigned_abs}
+use Rattle.std.specs.Prelude.{◌≡◌, ℕ, ◌<◌, ◌≤◌, if◌then◌else◌, List, [], codes, Option, Some, None, option_and_then, Result, Ok, Err, ℤ, pos, unsigned_abs}
 use Rattle.std.specs.Str.{is_utf8}
 use Rattle.toml.specs.Data.{Data, Members, no_members, member, as_integer, get_member}
 use Rattle.toml.specs.Parse.{parse_document}
@@ -93,9 +93,10 @@ pub record IsWithin (row : Row) (n : ℕ) : Type 0 where
   pub least : row.least ≤ n
   pub most : n ≤ row.most
 
--- or is the 0 besides
-abbrev pub IsNoneOrWithin : Row → ℕ → Type 0
-IsNoneOrWithin row n = ((row.or_none ≡ true) × (n ≡ 0)) ⊎ IsWithin row n
+-- a value is 0, for none, or lies in its row's range
+pub record IsNoneOrWithin (row : Row) (n : ℕ) : Type 0 where
+  pub least : 0 < n → row.least ≤ n
+  pub most : n ≤ row.most
 
 -- each setting is in its range
 pub record AreInRange (s : Settings) : Type 0 where
