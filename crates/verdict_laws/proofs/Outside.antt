@@ -55,17 +55,19 @@ module _ (width h : ℕ) (m : Move) where
 
   in_written : (i : ℕ) (ls : List Layout) → Any (IsInLayer width m) (written_from h i ls) → IsAt i ls
   in_written i [] (k, y, l, e, p) = absurd (omega (arith, l))
-  in_written i (l ∷ ls) any = by_item (any_either (IsInLayer width m) first (written_from h (i + 1) ls) any)
+  in_written i (l ∷ ls) any =
+      by_item (in_written (i + 1) ls) (any_either (IsInLayer width m) first (written_from h (i + 1) ls) any)
     where
       first : Layer
       first = record { z = h * (i + 1); loops = l.outlines; hatches = hatches_of (Ok l) }
 
-      by_item : IsInLayer width m first ⊎ Any (IsInLayer width m) (written_from h (i + 1) ls) → IsAt i (l ∷ ls)
-      by_item (inl here) =
+      by_item : (Any (IsInLayer width m) (written_from h (i + 1) ls) → IsAt (i + 1) ls)
+          → IsInLayer width m first ⊎ Any (IsInLayer width m) (written_from h (i + 1) ls) → IsAt i (l ∷ ls)
+      by_item rest (inl here) =
           let same : h * (i + 1) ≡ ((i + 0) + 1) * h = grind arith in
           (0, sym here.height ∙ ap pos same, here.clear)
-      by_item (inr there) =
-          let found = in_written (i + 1) ls there in
+      by_item rest (inr there) =
+          let found = rest there in
           let next : (i + 1) + found.0 ≡ i + suc found.0 = omega arith in
           (suc found.0, found.1 ∙ ap (λ (n : ℕ). pos ((n + 1) * h)) next, found.2)
 
@@ -75,7 +77,7 @@ same_layer h n k some same =
     let products : (n + 1) * h ≡ (k + 1) * h = omega (arith, ints, same) in
     let positive : 0 < h = omega (arith, some) in
     let quotients : n + 1 ≡ k + 1 =
-    sym (mul-div_cancel (n + 1) {h} positive) ∙ ap (λ (m : ℕ). m / h) products ∙ mul-div_cancel (k + 1) {h} positive
+    sym (mul-div_cancel (n + 1) {n = h} positive) ∙ ap (λ (m : ℕ). m / h) products ∙ mul-div_cancel (k + 1) {n = h} positive
     in
     omega (arith, quotients)
 
@@ -142,9 +144,11 @@ module _ (s : Settings) (layers : List Layout) (some : 1 ≤ s.layer_height) whe
   )
   first_out (side ∷ before) first behind [] others is kept = absurd kept
   first_out (side ∷ before) first behind (t ∷ ts) others is kept =
-      behind_one t ts (length before + 1)
+      let next : suc (length before + 1) ≡ length (side ∷ before) + 1 = omega arith in
+      subst (λ (n : ℕ). GoesOut (t ∷ ts) n) next
+      (behind_one t ts (length before + 1)
       (stays s layers t.move (subst (λ (b : Bool). KeepsPlace b s (all_outlines layers) t.move) others.0 kept.0))
-      (first_out before first behind ts others.1 is kept.1)
+      (first_out before first behind ts others.1 is kept.1))
 
 -- ---- the laws
 pub supports_go_outside : SupportLaws → PlansKeepClear → PlansArePrintable → TextsSayOneList → SupportsGoOutside
