@@ -81,7 +81,7 @@ module _ (law : PlansKeepClear) (s : Settings) (range : AreInRange s) where
       → paths_volume (rates_of s) (l.paths ++ l.supports) ≤ layer_volume
   layer_most i l h =
       let v = paths_most (rates_of s) range.line_width.most range.layer_height.most (l.paths ++ l.supports)
-          (all_ends_within i l h)
+      (all_ends_within i l h)
       in
       let n = h.moves in
       omega (arith, v, n)
