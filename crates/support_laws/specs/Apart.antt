@@ -1,5 +1,5 @@
 -- What support runs keep from their layer's outlines.
-use Rattle.std.specs.Prelude.{◌≡◌, ◌-◌, ◌*◌, ◌<◌, ◌≤◌, ℕ, List, flat_map, pos, ◌<ℤ◌, All}
+use Rattle.std.specs.Prelude.{◌≡◌, ◌-◌, ◌*◌, ◌<◌, ℕ, List, flat_map, pos, ◌<ℤ◌, All}
 use Rattle.scad_geom.specs.declared.point.Pt.{Pt}
 use Rattle.scad_geom.specs.declared.point.Edge.{Edge}
 use Rattle.scad_geom.specs.Point.{Point, whole}
@@ -19,8 +19,8 @@ pub record StandsApart (outlines : List (List Pt)) (gap : ℕ) (q : Point) : Typ
   pub outside : wind q (segments (flat_map sides outlines)) ≡ pos 0
   pub clear : All (λ e. IsClear (pos (2 * gap)) q (whole e.a) (whole e.b)) (flat_map sides outlines)
 
--- at each whole point of an edge outlines leave it free by the gap; with a gap each exact point of it stands apart from them by
--- one micrometre less
+-- at each whole point of an edge outlines leave it free by the gap; with a gap each exact point of it stands apart from
+-- them by one micrometre less
 pub record KeepsApart (outlines : List (List Pt)) (gap : ℕ) (e : Edge) : Type 0 where
   pub free : (q : Pt) → IsOn (whole e.a) (whole e.b) (whole q) → IsFree outlines gap q
   pub apart : 0 < gap → (q : Point) → pos 0 <ℤ q.d → IsOn (whole e.a) (whole e.b) q → StandsApart outlines (gap - 1) q
@@ -35,8 +35,8 @@ SupportsStandApart =
 -- It has a length, where each run is to have one.
 abbrev pub SupportsHaveLengths : Type 0
 SupportsHaveLengths =
-    (above : List (List (List Pt))) (outlines : List (List Pt)) (spacing gap least : ℕ) (paths : List (List Pt)) → 0 < least
-    → AreSupportsBelow above outlines spacing gap least paths → All HasLength (all_moves paths)
+    (above : List (List (List Pt))) (outlines : List (List Pt)) (spacing gap least : ℕ) (paths : List (List Pt))
+    → 0 < least → AreSupportsBelow above outlines spacing gap least paths → All HasLength (all_moves paths)
 
 -- Support runs lie no farther out than what they stand below.
 abbrev pub SupportsLieWithin : Type 0

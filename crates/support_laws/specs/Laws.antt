@@ -18,13 +18,14 @@ pub record HasOverhung (all : List (List (List Pt))) (spacing : ℕ) : Type 0 wh
   pub are_overhung : AreOverhung all spacing covers
 
 -- a layer has support runs
-pub record HasSupports (above : List (List (List Pt))) (outlines : List (List Pt)) (spacing gap least : ℕ) : Type 0 where
-  pub paths : List (List Pt)
-  pub are_supports : AreSupportsBelow above outlines spacing gap least paths
+pub record HasSupports (above : List (List (List Pt))) (outlines : List (List Pt)) (spacing gap least : ℕ) : Type 0
+  where
+    pub paths : List (List Pt)
+    pub are_supports : AreSupportsBelow above outlines spacing gap least paths
 
 -- ---- the laws
--- What lies below runs of higher layers, where the runs are all that outlines wind round, stands below the outlines of higher
--- layers.
+-- What lies below runs of higher layers, where the runs are all that outlines wind round, stands below the outlines of
+-- higher layers.
 abbrev pub CoversAreOverhung : Type 0
 CoversAreOverhung =
     (all : List (List (List Pt))) (spacing : ℕ) (layers covers : List (List Row)) → 0 < spacing
@@ -45,8 +46,8 @@ OverhungAreThere = (all : List (List (List Pt))) (spacing : ℕ) → 0 < spacing
 -- and one list of them for each.
 abbrev pub OverhungAreOne : Type 0
 OverhungAreOne =
-    (all : List (List (List Pt))) (spacing : ℕ) (a b : List (List Row)) → AreOverhung all spacing a → AreOverhung all spacing b
-    → a ≡ b
+    (all : List (List (List Pt))) (spacing : ℕ) (a b : List (List Row)) → AreOverhung all spacing a
+    → AreOverhung all spacing b → a ≡ b
 
 -- A layer has support runs,
 abbrev pub SupportsAreThere : Type 0

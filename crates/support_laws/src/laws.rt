@@ -22,8 +22,8 @@ pub fn supports_are_one()
     ensures one { SupportsAreOne }
 {}
 
-/// Each move along support runs keeps apart from its layer's outlines, has a length, and lies no farther out than what it
-/// stands below.
+/// Each move along support runs keeps apart from its layer's outlines, has a length, and lies no farther out than what
+/// it stands below.
 pub fn supports_stand_apart()
     ensures apart { SupportsStandApart }
     ensures lengths { SupportsHaveLengths }
