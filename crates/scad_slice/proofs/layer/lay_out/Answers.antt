@@ -1,20 +1,10 @@
-use Rattle.std.proofs.Common.{rules, ◌≡◌, All, IfOk, ℕ, ◌+◌, ◌-◌, ◌*◌, ◌<◌, ◌≤◌, length, ◌/◌, ◌%◌, Bool, true, false, nat_eq, nat_lt, List, [], ◌∷◌, ◌++◌, slice_index_or, slice_set, bit_and, bit_or, Fits, w8, w32, w64, Bor, MutBor}
-use Rattle.std.specs.Option.{option_copied}
-use Rattle.scad_fault.specs.Place.{no_place}
-use Rattle.scad_geom.specs.Limits.{point_limit}
-use Rattle.scad_geom.specs.Within.{IsWithin}
+use Rattle.std.proofs.Common.{refl}
 use Rattle.scad_tree.specs.View.{solid_of}
-use Rattle.scad_tree.specs.Solids.{AreSolids}
-use Rattle.slice_layer.specs.Outlines.{AreLayerOutlines}
-use Rattle.slice_work.specs.declared.layer.LayerEnd.TheVariants.{Over}
-use Rattle.slice_work.specs.declared.want.Want.TheVariants.{Plan}
-use Rattle.slice_work.specs.Part.{EndsWithin}
-use Rattle.scad_slice.specs.Covers.{CoversFit}
-use Rattle.scad_slice.specs.Drawn.{DrawsLayer, LaysOut}
-use Rattle.scad_slice.specs.Parts.{IsPart}
-use Rattle.scad_slice.specs.Supports.{AreSupportsOf}
+use Rattle.scad_slice.proofs.Drawn.{lays_none}
 use Rattle.scad_slice.proofs.layer.lay_out.Goals as goal
 
--- src/layer.rt:66:1
 pub returns-in-Outlines-clause-end : goal.returns-in-Outlines-clause-end
-returns-in-Outlines-clause-end g c = ?
+returns-in-Outlines-clause-end g c fits =
+    lays_none c.args.work.now.print.want c.args.work.now.print.settings (solid_of c.args.work.now.tree.now) c.args.layer
+    c.args.loops (record { paths = c.new.result; runs = 0; supports = c.new-in-Outlines.result }) c.in-Outlines.is
+    c.new.ensures.items refl c.new-in-Outlines.ensures.items

@@ -1,20 +1,23 @@
-use Rattle.std.proofs.Common.{rules, ◌≡◌, All, IfOk, ℕ, ◌+◌, ◌-◌, ◌*◌, ◌<◌, ◌≤◌, length, ◌/◌, ◌%◌, Bool, true, false, nat_eq, nat_lt, List, [], ◌∷◌, ◌++◌, slice_index_or, slice_set, bit_and, bit_or, Fits, w8, w32, w64, Bor, MutBor}
 use Rattle.std.specs.Option.{option_copied}
-use Rattle.scad_fault.specs.Place.{no_place}
-use Rattle.scad_geom.specs.Limits.{point_limit}
-use Rattle.scad_geom.specs.Within.{IsWithin}
+use Rattle.std.proofs.lemmas.Result.{IfOk-weaker}
 use Rattle.scad_tree.specs.View.{solid_of}
-use Rattle.scad_tree.specs.Solids.{AreSolids}
-use Rattle.slice_layer.specs.Outlines.{AreLayerOutlines}
-use Rattle.slice_work.specs.declared.layer.LayerEnd.TheVariants.{Over}
-use Rattle.slice_work.specs.declared.want.Want.TheVariants.{Plan}
-use Rattle.slice_work.specs.Part.{EndsWithin}
+use Rattle.slice_work.specs.Part.{Part, Ends}
 use Rattle.scad_slice.specs.Covers.{CoversFit}
-use Rattle.scad_slice.specs.Drawn.{DrawsLayer, LaysOut}
+use Rattle.scad_slice.specs.Drawn.{DrawsLayer}
 use Rattle.scad_slice.specs.Parts.{IsPart}
-use Rattle.scad_slice.specs.Supports.{AreSupportsOf}
+use Rattle.scad_slice.proofs.Drawn.{ends_so}
 use Rattle.scad_slice.proofs.layer.TreeWorkLayerWork.draw.Goals as goal
 
--- src/layer.rt:37:5
 pub returns-clause-end : goal.returns-clause-end
-returns-clause-end g c = ?
+returns-clause-end g c =
+    let want = c.args.self.now.print.want in
+    let s = c.args.self.now.print.settings in
+    let tree = solid_of c.args.self.now.tree.now in
+    let covers = option_copied c.args.self.now.covers in
+    IfOk-weaker c.draw_layer-end.result
+    (λ end. CoversFit want s tree covers → DrawsLayer want s tree c.args.layer end)
+    (λ end. (part : Part) → CoversFit want s tree covers × IsPart want s tree part → Ends (part c.args.layer) end)
+    (λ end draws part given.
+    ends_so want s tree c.args.layer part end c.are_solids.ensures c.args.self.now.print.in_range given.1
+    (draws given.0))
+    c.draw_layer-end.ensures.end
