@@ -66,7 +66,7 @@ module _ (s : Settings) (tree : Solid) where
   -- ---- the outlines of all layers
 
   module _ (part : Part) (of_part : IsPart Outlines s tree part) (layers : List (List Row))
-    (found : AreSurveyed part s.support_spacing count layers) where
+      (found : AreSurveyed part s.support_spacing count layers) where
     abbrev outlines_at : ℕ → List (List Pt)
     outlines_at n = outlines_of (part n)
 
@@ -211,7 +211,7 @@ abbrev pub outlines_drawn : Settings → Solid → Drawing
 outlines_drawn s tree = drawing Outlines s tree None
 
 module _ (s : Settings) (tree : Solid) (n : ℕ)
-  (counted : n ≡ layer_count s.layer_height tree) (d : Drawing) (same : d ≡ outlines_drawn s tree) where
+    (counted : n ≡ layer_count s.layer_height tree) (d : Drawing) (same : d ≡ outlines_drawn s tree) where
   drawn : (part : Part) → IsPart Outlines s tree part → Draws part d
   drawn part of_part = subst (Draws part) (sym same) (refl, of_part)
 

@@ -28,9 +28,9 @@ returns-in-Ok-work-clause-told g c part of_part =
     let made = c.work_on-layers.result in
     let is = c.work_on-layers.ensures in
     let same = drawing_same
-        (drawing made.print.want made.print.settings (solid_of made.tree.now) (option_copied made.covers))
-        (drawing c.args.want c.args.workpiece.now.settings (solid_of c.args.workpiece.now.tree.now) c.in-Ok.covers)
-        is.want is.settings (ap solid_of is.tree) (is.covers ∙ c.as_ref.ensures.value) in
+    (drawing made.print.want made.print.settings (solid_of made.tree.now) (option_copied made.covers))
+    (drawing c.args.want c.args.workpiece.now.settings (solid_of c.args.workpiece.now.tree.now) c.in-Ok.covers)
+    is.want is.settings (ap solid_of is.tree) (is.covers ∙ c.as_ref.ensures.value) in
     subst (λ (d : Drawing). IsSummary d.want (rates_of d.s) part c.args.count c.in-Ok-work.told) same
     (c.in-Ok-work.ensures.summary part (subst (Draws part) (sym same) (c.in-Ok.ensures.fits, of_part)))
 
@@ -39,9 +39,9 @@ returns-clause-carries g c part of_part whole rest start left =
     let made = c.work_on-layers.result in
     let is = c.work_on-layers.ensures in
     let same = drawing_same
-        (drawing made.print.want made.print.settings (solid_of made.tree.now) (option_copied made.covers))
-        (drawing c.args.want c.args.workpiece.now.settings (solid_of c.args.workpiece.now.tree.now) c.in-Ok.covers)
-        is.want is.settings (ap solid_of is.tree) (is.covers ∙ c.as_ref.ensures.value) in
+    (drawing made.print.want made.print.settings (solid_of made.tree.now) (option_copied made.covers))
+    (drawing c.args.want c.args.workpiece.now.settings (solid_of c.args.workpiece.now.tree.now) c.in-Ok.covers)
+    is.want is.settings (ap solid_of is.tree) (is.covers ∙ c.as_ref.ensures.value) in
     subst (λ (stop : Stop). Stops whole stop start (g.D.Desk.view c.work.new.desk)) (sym c.stop_of.ensures)
     (subst (λ (d : Drawing).
     Carries {T = Summary} (layers (layer_steps d.want (rates_of d.s) part) 0 c.args.count)
