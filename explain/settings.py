@@ -50,7 +50,9 @@ def rule(key, row):
     """What a setting may be, and for one in millimetres its value in micrometres."""
     unit, least, most, default, does = SETTINGS[key]
     of_unit = f" {unit}" if unit else ""
-    told = f"{key}, {does}: {least:,} to {most:,}{of_unit}, {default:,} where it isn't given"
+    # A default below the range stands for none.
+    of_range = f"{least:,} to {most:,}" if least <= default else f"{default:,}, or {least:,} to {most:,}"
+    told = f"{key}, {does}: {of_range}{of_unit}, {default:,} where it isn't given"
     written = re.search(rb"=\s*(\d*\.\d{1,3})\s*(?:#.*)?$", row)
     value = Decimal(written[1].decode()) if written else 1
     return told + (f"; {value} mm is {int(value * 1000)}" if unit == "micrometres" else "")

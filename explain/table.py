@@ -87,8 +87,10 @@ BUDGETS = {
         "a smaller `$fn`; fewer parts at one height"),
     8: ("LayerCrossings", "more than 2,000,000 pairs of a layer's edges, or of a wall's, cross",
         "fewer parts that lie across one another; a smaller `line_width`, fewer `walls`"),
-    9: ("LayerMoves", "a layer has more than 200,000 extruding moves", "a greater `infill_spacing`"),
+    9: ("LayerMoves", "a layer has more than 200,000 extruding moves", "a greater `infill_spacing` or `support_spacing`"),
     10: ("HullPoints", "a hull has more than 20,000 distinct points", "a smaller `$fn` of what it is round"),
+    11: ("SupportRuns", "the lines of support have more than 10,000,000 stretches below higher layers",
+         "a greater `support_spacing` or `layer_height`"),
     12: ("FileLong", "one of the two files has more than 268,435,456 bytes",
          "judge the parts of a plate one by one, each with its own outlines"),
 }
@@ -136,6 +138,8 @@ SETTINGS = {
     "layer_height": ("micrometres", 20, 1_000, 200, "the height of each layer"),
     "line_width": ("micrometres", 100, 2_000, 450, "the width of an extruded line"),
     "print_feed": ("millimetres a minute", 1, 60_000, 1_800, "the feed while extruding"),
+    "support_gap": ("micrometres", 0, 10_000, 300, "how far supports keep from the outlines of their layer"),
+    "support_spacing": ("micrometres", 500, 100_000, 0, "the distance between lines of support, 0 for none"),
     "travel_feed": ("millimetres a minute", 1, 60_000, 7_200, "the feed of moves that don't extrude"),
     "walls": ("", 1, 10, 2, "how many walls line each outline"),
 }

@@ -88,10 +88,10 @@ def check_settings(hold, rows, code):
     number = lambda text: int(text.replace(",", "").replace("_", ""))
     of_docs = {}
     for row in rows:
-        least, _, most = row["Range"].partition(" to ")
+        least, _, most = row["Range"].removeprefix("0, or ").partition(" to ")
         of_docs[row["Key"].strip("`")] = (row["Unit"], number(least), number(most), number(row["Default"]))
     hold("settings of docs/formats.md", {key: it[:4] for key, it in table.SETTINGS.items()}, of_docs)
-    form = r"const (\w+): Row = Row \{\s*least: ([\d_]+),\s*most: ([\d_]+),\s*default: ([\d_]+),"
+    form = r"const (\w+): Row = Row \{\s*least: ([\d_]+),\s*most: ([\d_]+),\s*or_none: \w+,\s*default: ([\d_]+),"
     of_code = {key.lower(): tuple(map(number, values)) for key, *values in re.findall(form, code)}
     hold("settings of the program", {key: it[1:4] for key, it in table.SETTINGS.items()}, of_code)
 

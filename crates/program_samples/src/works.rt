@@ -41,7 +41,12 @@ impl LayerWork for Squares {
         let path = Path::from_vec(Vec::from_slice(alloc, &CORNERS[..3])?);
         let loops = vec![in alloc; square]?;
         let paths = vec![in alloc; path]?;
-        Ok(LayerEnd::Made(loops, LayerPlan { paths, runs: 0 }))
+        let plan = LayerPlan {
+            paths,
+            runs: 0,
+            supports: Vec::new(alloc),
+        };
+        Ok(LayerEnd::Made(loops, plan))
     }
 }
 

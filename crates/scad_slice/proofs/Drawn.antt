@@ -90,7 +90,7 @@ before_fits Plan s tree i (Some covers) fits =
 -- ---- how the work on a layer ends
 
 module _ (want : Want) (s : Settings) (tree : Solid) (i : ℕ)
-  (before : IsPassedBefore want s tree i (layer_budget s.layer_height tree i)) where
+    (before : IsPassedBefore want s tree i (layer_budget s.layer_height tree i)) where
   by_budget : (passed : Option Budget) (layout : Result Layout Budget) → layer_budget s.layer_height tree i ≡ passed
       → IsLayerUnless passed want s tree i layout → IsLayer want s tree i layout
   by_budget passed layout is layer =

@@ -29,7 +29,7 @@ one_held a b same = ap (λ o. unwrap_or o a) same
 
 -- ---- a plan over outlines
 module _ (s : Settings) (tree : Solid) (i : ℕ) (outlines : List (List Pt)) (solids : AreSolids tree)
-  (within : All (λ l. All (IsWithin point_limit) l) outlines) (range : AreInRange s) where
+    (within : All (λ l. All (IsWithin point_limit) l) outlines) (range : AreInRange s) where
   planned_is_one : (a b : Layout) → IsPlannedOver outlines i s tree a → IsPlannedOver outlines i s tree b → a ≡ b
   planned_is_one a b of_a of_b =
       let loops : a.outlines ≡ b.outlines = of_a.outlines_are ∙ sym of_b.outlines_are in

@@ -1,6 +1,6 @@
 -- What a survey of all layers' outlines says of a tree, and what stands below higher layers then.
 use Rattle.std.proofs.Common.{◌≡◌, inr, ◌<◌, ◌≤◌, ℕ, List, [], ◌∷◌, length, Option, Some, None, Result, Ok, Err, refl, sym, ap, ◌∙◌, subst, arith}
-use Rattle.std.specs.Prelude.{All, map, slice_index_or}
+use Rattle.std.specs.Prelude.{All, IfOk, map, slice_index_or}
 use Rattle.std.specs.List.{range_with_len}
 use Rattle.std.proofs.lemmas.List.FromFn.{length-map-range_with_len, get_or-map-range_with_len}
 use Rattle.scad_fault.specs.declared.budget.Budget.{Budget}
@@ -15,12 +15,15 @@ use Rattle.plan_support.specs.Spans.{AreSpans}
 use Rattle.support_laws.specs.Supports.{AreOverhung}
 use Rattle.support_laws.specs.Laws.{AreSpansOf}
 use Rattle.support_laws.proofs.Covered.{covers_are_overhung}
+use Rattle.slice_work.specs.declared.want.Want.{Want}
 use Rattle.slice_work.specs.declared.want.Want.TheVariants.{Outlines, Plan}
+use Rattle.slice_work.specs.declared.survey_fault.SurveyFault.{SurveyFault}
+use Rattle.slice_work.specs.declared.survey_fault.SurveyFault.TheVariants.{Memory, Over}
 use Rattle.slice_work.specs.Part.{Layout, Part, outlines_of}
 use Rattle.slice_work.specs.Survey.{AreSurveyed, IsLeastOver}
 use Rattle.scad_slice.specs.Budgets.{layer_count, layer_budget}
 use Rattle.scad_slice.specs.Supports.{AreAllOutlines, outlines_budget, first_of, stretches_passed, stretch_budget, IsStretchBudget, IsBudgetUnless}
-use Rattle.scad_slice.specs.Covers.{AreSurveyedOf, AreCoversOf, IsPassedByAll}
+use Rattle.scad_slice.specs.Covers.{AreSurveyedOf, AreCoversOf, CoversFit, IsPassedByAll}
 use Rattle.scad_slice.specs.Layer.{IsLayerUnless, IsLayer}
 use Rattle.scad_slice.specs.Parts.{IsPart}
 use Rattle.scad_slice.proofs.AllOutlines.{all_from}
@@ -63,7 +66,7 @@ module _ (s : Settings) (tree : Solid) where
   -- ---- the outlines of all layers
 
   module _ (part : Part) (of_part : IsPart Outlines s tree part) (layers : List (List Row))
-    (found : AreSurveyed part s.support_spacing count layers) where
+      (found : AreSurveyed part s.support_spacing count layers) where
     abbrev outlines_at : ℕ → List (List Pt)
     outlines_at n = outlines_of (part n)
 
@@ -184,3 +187,57 @@ module _ (s : Settings) (tree : Solid) where
               });
         });
       }
+
+-- ---- what the survey answers
+
+-- a drawing of a tree's layers, by what it is given
+pub record Drawing : Type 0 where
+  pub want : Want
+  pub s : Settings
+  pub tree : Solid
+  pub covers : Option (List (List Row))
+
+abbrev pub Draws : Part → Drawing → Type 0
+Draws part d = CoversFit d.want d.s d.tree d.covers × IsPart d.want d.s d.tree part
+
+abbrev pub drawing : Want → Settings → Solid → Option (List (List Row)) → Drawing
+drawing want s tree covers = record { want = want; s = s; tree = tree; covers = covers }
+
+pub drawing_same : (a b : Drawing) → a.want ≡ b.want → a.s ≡ b.s → a.tree ≡ b.tree → a.covers ≡ b.covers → a ≡ b
+drawing_same a b want s tree covers k =
+    record { want = want k; s = s k; tree = tree k; covers = covers k }
+
+abbrev pub outlines_drawn : Settings → Solid → Drawing
+outlines_drawn s tree = drawing Outlines s tree None
+
+module _ (s : Settings) (tree : Solid) (n : ℕ)
+    (counted : n ≡ layer_count s.layer_height tree) (d : Drawing) (same : d ≡ outlines_drawn s tree) where
+  drawn : (part : Part) → IsPart Outlines s tree part → Draws part d
+  drawn part of_part = subst (Draws part) (sym same) (refl, of_part)
+
+  pub surveyed_if : {V E : Type 0} (items : V → List (List Row)) (result : Result V E) → AreSolids tree
+      → IfOk result (λ all. (part : Part) → Draws part d → AreSurveyed part s.support_spacing n (items all))
+      → IfOk result (λ all. All AreRows (items all)) → IfOk result (λ all. AreSurveyedOf s tree (items all))
+  surveyed_if items (Ok all) solids found rows =
+      surveyed_of s tree solids (items all)
+      (λ part of_part.
+      subst (λ (m : ℕ). AreSurveyed part s.support_spacing m (items all)) counted (found part (drawn part of_part)))
+      rows
+  surveyed_if items (Err e) solids found rows = tt
+
+  pub over_if : AreSolids tree → (budget : Budget) → 0 < s.support_spacing
+      → ((part : Part) → Draws part d → IsLeastOver part n budget) → IsPassedByAll Plan s tree budget
+  over_if solids budget spaced found =
+      over_of s tree solids budget spaced
+      (λ part of_part.
+      subst (λ (m : ℕ). IsLeastOver part m budget) counted (found part (drawn part of_part)))
+
+-- the budget that an answer tells, or another
+abbrev told_or : {T : Type 0} → Budget → Result T SurveyFault → Budget
+told_or other (Ok t) = other
+told_or other (Err Memory) = other
+told_or other (Err (Over budget)) = budget
+
+pub one_over : {T : Type 0} (a b : Budget) (x y : Result T SurveyFault) → x ≡ Err (Over a) → y ≡ Err (Over b) → x ≡ y
+    → a ≡ b
+one_over a b x y is_x is_y same = ap (told_or a) (sym is_x ∙ same ∙ is_y)

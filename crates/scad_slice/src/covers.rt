@@ -37,7 +37,27 @@ pub fn covers_of<R: Threads + Sync, G: Gate>(
     ensures over { (budget : Budget) → result ≡ Err (Over budget)
         → IsPassedByAll want workpiece.now.settings (solid_of workpiece.now.tree.now) budget }
 {
-    if want == Want::Outlines || workpiece.settings.support_spacing == 0 {
+    match want {
+        Want::Outlines => Ok(None),
+        Want::Plan => covers_below(rt, alloc, workpiece, count),
+    }
+}
+
+// What stands below higher layers, where supports are wanted.
+fn covers_below<R: Threads + Sync, G: Gate>(
+    rt: &R,
+    alloc: Global,
+    workpiece: &Workpiece<'_, G>,
+    count: u32,
+) -> Result<Option<Covers>, SurveyFault>
+    requires few { count ≤ layer_limit }
+    requires counted { count ≡ layer_count workpiece.now.settings.layer_height (solid_of workpiece.now.tree.now) }
+
+    ensures fits { IfOk result (CoversFit Plan workpiece.now.settings (solid_of workpiece.now.tree.now)) }
+    ensures over { (budget : Budget) → result ≡ Err (Over budget)
+        → IsPassedByAll Plan workpiece.now.settings (solid_of workpiece.now.tree.now) budget }
+{
+    if workpiece.settings.support_spacing == 0 {
         return Ok(None);
     }
     let rows = surveyed(rt, alloc, workpiece, count)?;

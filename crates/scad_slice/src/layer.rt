@@ -44,7 +44,11 @@ impl<G: Gate> LayerWork for TreeWork<'_, '_, G> {
 }
 
 /// The outlines of a layer and, where it is wanted, the plan over them, or the first budget that the layer passes.
-fn draw_layer<G>(work: &TreeWork<'_, '_, G>, alloc: Global, layer: u32) -> Result<LayerEnd, AllocError>
+fn draw_layer<G>(
+    work: &TreeWork<'_, '_, G>,
+    alloc: Global,
+    layer: u32,
+) -> Result<LayerEnd, AllocError>
     requires solids { AreSolids (solid_of work.now.tree.now) }
 
     ensures end { IfOk result (λ end.
@@ -144,7 +148,13 @@ fn supports_of<G>(
     }
     let settings = &work.print.settings;
     let cover = covers.at(layer);
-    supports(alloc, outlines, cover, settings.support_gap, settings.line_width)
+    supports(
+        alloc,
+        outlines,
+        cover,
+        settings.support_gap,
+        settings.line_width,
+    )
 }
 
 fn over(kind: BudgetKind, layer: u32, count: u64) -> LayerEnd

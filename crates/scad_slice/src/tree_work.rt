@@ -33,7 +33,7 @@ pub fn work_on<'a, 'c, G>(
     ensures tree { result.tree.now ≡ workpiece.now.tree.now }
     ensures settings { result.print.settings ≡ workpiece.now.settings }
     ensures want { result.print.want ≡ want }
-    ensures covers { result.covers ≡ covers }
+    ensures covers { option_copied result.covers ≡ option_copied covers.entry }
 {
     TreeWork {
         tree: workpiece.tree,

@@ -1,6 +1,7 @@
 -- What is counted of layers, with one more.
-use Rattle.std.proofs.Common.{◌≡◌, ◌+◌, ℕ, length, Ok, sym, ap, ap₂, ◌∙◌, subst, arith}
+use Rattle.std.proofs.Common.{◌≡◌, ◌+◌, ℕ, length, Result, Ok, sym, ap, ap₂, ◌∙◌, subst, arith}
 use Rattle.std.proofs.lemmas.List.FromFn.{sum_by-map-range_with_len_more}
+use Rattle.scad_fault.specs.declared.budget.Budget.{Budget}
 use Rattle.scad_io.specs.declared.desk.Out.TheVariants.{Cli, Gcode}
 use Rattle.gcode_text.specs.declared.rates.Rates.{Rates}
 use Rattle.gcode_text.specs.Amount.{paths_volume}
@@ -20,13 +21,15 @@ one_more want rates part i layout s laid sums =
     ap (written_unless want rates (volume_below want rates part i) i) laid
     ∙ ap (λ v. Ok (written want rates v i layout)) (sym sums.volume)
     in
+    let moves = λ (it : Result Layout Budget). move_count (printed_paths (printed_of want it)) in
+    let volume = λ (it : Result Layout Budget). paths_volume rates (printed_paths (printed_of want it)) in
     record {
       loops = ap₂ (λ a b. a + b) sums.loops (ap (λ it. length (outlines_of it)) (sym laid))
           ∙ sym (sum_by-map-range_with_len_more (λ it. length (outlines_of it)) part 0 i i (omega arith));
-      moves = ap₂ (λ a b. a + b) sums.moves (ap (λ it. move_count (printed_paths (printed_of want it))) (sym laid))
-          ∙ sym (sum_by-map-range_with_len_more (λ it. move_count (printed_paths (printed_of want it))) part 0 i i (omega arith));
-      volume = ap₂ (λ a b. a + b) sums.volume (ap (λ it. paths_volume rates (printed_paths (printed_of want it))) (sym laid))
-          ∙ sym (sum_by-map-range_with_len_more (λ it. paths_volume rates (printed_paths (printed_of want it))) part 0 i i (omega arith));
+      moves = ap₂ (λ a b. a + b) sums.moves (ap moves (sym laid))
+          ∙ sym (sum_by-map-range_with_len_more moves part 0 i i (omega arith));
+      volume = ap₂ (λ a b. a + b) sums.volume (ap volume (sym laid))
+          ∙ sym (sum_by-map-range_with_len_more volume part 0 i i (omega arith));
       cli = ap₂ (λ a b. a + b) sums.cli (ap (step_size Cli) (sym steps))
           ∙ sym (sum_by-map-range_with_len_more (step_size Cli) (layer_steps want rates part) 0 i i (omega arith));
       gcode = ap₂ (λ a b. a + b) sums.gcode (ap (step_size Gcode) (sym steps))

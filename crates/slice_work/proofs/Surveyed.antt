@@ -9,16 +9,10 @@ use Rattle.scad_geom.specs.declared.point.Pt.{Pt}
 use Rattle.plan_support.specs.Rows.{Row, AreRows}
 use Rattle.plan_support.specs.Spans.{AreSpans}
 use Rattle.slice_work.specs.Part.{Layout, Part}
-use Rattle.slice_work.specs.Survey.{IsSurveyed, AreSurveyed, AddsRows, PassesNone, IsLeastOver}
+use Rattle.slice_work.specs.Survey.{IsSurveyed, AreSurveyed, AddsRows, IsLeastOver}
 
--- where no layer was surveyed, there are no rows
-pub none_surveyed : (part : Part) (spacing : ℕ) → AreSurveyed part spacing 0 []
-none_surveyed part spacing = record {
-  as_many = refl;
-  each = λ n below. absurd (omega (arith, below));
-}
-
-module _ (outlines : List (List Pt)) (spacing : ℕ) (old new : List (List Row)) (adds : AddsRows outlines spacing old new) where
+module _ (outlines : List (List Pt)) (spacing : ℕ) (old new : List (List Row))
+    (adds : AddsRows outlines spacing old new) where
   kept_rows : (n : ℕ) → n < length old → get_or new n [] ≡ get_or old n []
   kept_rows n below = ap (λ (all : List (List Row)). get_or all n []) adds.added
       ∙ get_or_append_left old (adds.rows ∷ []) [] n below
@@ -60,17 +54,7 @@ next_surveyed part spacing i j layout old new next laid adds are =
           (cases_lt n i);
     }
 
--- the layer behind those that were surveyed passes a budget
-pub over_behind_surveyed : (part : Part) (spacing i count : ℕ) (budget : Budget) (all : List (List Row)) → i < count
-    → part i ≡ Err budget → AreSurveyed part spacing i all → IsLeastOver part count budget
-over_behind_surveyed part spacing i count budget all within over are = record {
-  layer = i;
-  within = within;
-  over = over;
-  below = λ n below. record { layout = (are.each n below).layout; laid = (are.each n below).laid };
-}
-
--- of more layers it is the least as well
+-- the least of some layers that passes a budget is the least of more
 pub least_of_more : (part : Part) (some all : ℕ) (budget : Budget) → some ≤ all → IsLeastOver part some budget
     → IsLeastOver part all budget
 least_of_more part some all budget within least =

@@ -2,7 +2,6 @@
 use Rattle.std.specs.Prelude.{◌≡◌, ℕ, ◌+◌, ◌*◌, ◌≤◌, true, List, [], ◌∷◌, map, sum_by, Result, Ok, Err}
 use Rattle.std.specs.List.{range_with_len}
 use Rattle.scad_fault.specs.declared.budget.Budget.{Budget}
-use Rattle.scad_geom.specs.declared.point.Pt.{Pt}
 use Rattle.scad_io.specs.Desk.{View}
 use Rattle.scad_io.specs.declared.desk.Out.TheVariants.{Cli, Gcode}
 use Rattle.scad_script.specs.Steps.{Step, Sends}
@@ -53,8 +52,8 @@ abbrev pub layout_lines : Rates → ℕ → Layout → List ℕ
 layout_lines rates i layout = cli.layer_text
     (record { z = rates.layer_height * (i + 1); loops = layout.outlines; hatches = hatches_of (Ok layout) })
 
--- the steps that write a layer which is laid out so, behind moves of this volume: its outlines and hatches, and then its
--- moves and those of its supports, where they are wanted
+-- the steps that write a layer which is laid out so, behind moves of this volume: its outlines and hatches, and then
+-- its moves and those of its supports, where they are wanted
 abbrev pub written : Want → Rates → ℕ → ℕ → Layout → List Step
 written Outlines rates volume i layout = Sends Cli (layout_lines rates i layout) ∷ []
 written Plan rates volume i layout =

@@ -12,7 +12,7 @@ pub record IsSurveyed (layer : Result Layout Budget) (spacing : ℕ) (rows : Lis
   pub laid : layer ≡ Ok layout
   pub spans : AreSpans layout.outlines spacing rows
 
--- those of each of the first layers of a part, of which there are so many
+-- each of so many layers of a part is laid out, and these are its rows, layer by layer
 pub record AreSurveyed (part : Part) (spacing count : ℕ) (all : List (List Row)) : Type 0 where
   pub as_many : length all ≡ count
   pub each : (n : ℕ) → n < count → IsSurveyed (part n) spacing (slice_index_or all n [])
@@ -29,7 +29,7 @@ pub record PassesNone (layer : Result Layout Budget) : Type 0 where
   pub layout : Layout
   pub laid : layer ≡ Ok layout
 
--- the least of so many layers that passes a budget passes this one
+-- this budget is that of the least of so many layers which passes one
 pub record IsLeastOver (part : Part) (count : ℕ) (budget : Budget) : Type 0 where
   pub layer : ℕ
   pub within : layer < count

@@ -26,8 +26,8 @@ use std::alloc::{AllocError, Global};
 /// 10^12 cubic metres.
 const VOLUME_LIMIT: u128 = 1_000_000_000_000_000_000_000_000_000_000;
 
-/// Writes a layer: the lines of its outlines and of its infill, and then those of its moves, where they are wanted. What
-/// is counted of the layers so far then counts this one too.
+/// Writes a layer: the lines of its outlines and of its infill, and then those of its moves and its supports, where they
+/// are wanted. What is counted of the layers so far then counts this one too.
 pub fn send_layer<D: Desk>(
     alloc: Global,
     want: Want,

@@ -19,7 +19,7 @@ use scad_geom::Loop;
 use std::alloc::{AllocError, Global};
 use std::thread::Threads;
 
-/// The rows of support lines of all layers' outlines, or the budget that the least layer passes which passes one.
+/// The rows of support lines of all layers' outlines, or the budget of the least layer that passes one.
 ///
 /// The layers go in rounds of 64, as when they are written. Of each only its rows are kept.
 pub fn survey<R: Threads + Sync, W: LayerWork>(

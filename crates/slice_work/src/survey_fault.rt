@@ -8,7 +8,7 @@ use std::alloc::{AllocError, AllocFailed};
 pub enum SurveyFault {
     /// There was too little memory.
     Memory,
-    /// The budget that the least layer passes which passes one.
+    /// The budget of the least layer that passes one.
     Over(Budget),
 }
 

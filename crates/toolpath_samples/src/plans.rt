@@ -3,7 +3,7 @@ ghost use Rattle.std.specs.Prelude.{◌≤◌, IfOk, All};
 ghost use Rattle.scad_geom.specs.Limits.{point_limit};
 ghost use Rattle.scad_geom.specs.Within.{IsWithin};
 
-use crate::points::are_at;
+use crate::points::{are_at, paths};
 use plan_layer::{LayerPlan, PlanFault, plan};
 use scad_geom::{Loop, Path, Pt};
 use scad_words::Settings;
@@ -17,6 +17,8 @@ pub(crate) const USUAL: Settings = Settings {
     layer_height: 200,
     line_width: 450,
     print_feed: 1800,
+    support_gap: 300,
+    support_spacing: 0,
     travel_feed: 7200,
     walls: 2,
 };
@@ -108,7 +110,7 @@ fn planned_cube(alloc: Global, layer: u32) -> Result<LayerPlan, PlanFault> {
     let Ok(outlines) = cube(alloc) else {
         return Err(PlanFault::Memory);
     };
-    plan(alloc, &outlines, layer, &USUAL)
+    plan(alloc, &outlines, layer, &USUAL, Vec::new(alloc))
 }
 
 #[test]
@@ -164,13 +166,65 @@ const NO_INFILL: Settings = Settings {
 #[test]
 fn holes_have_walls(rt: HostRuntime) {
     let outlines = frame(rt.alloc()).expect(&rt, "outlines");
-    let made = plan(rt.alloc(), &outlines, 0, &NO_INFILL).expect(&rt, "a plan");
+    let made = plan(rt.alloc(), &outlines, 0, &NO_INFILL, Vec::new(rt.alloc())).expect(
+        &rt, "a plan",
+    );
     assert!(rt; is_planned(&made, 0, &FRAME[..2]));
 }
 
 #[test]
 fn lines_alternate(rt: HostRuntime) {
     let outlines = frame(rt.alloc()).expect(&rt, "outlines");
-    let made = plan(rt.alloc(), &outlines, 0, &ONE_WALL).expect(&rt, "a plan");
+    let made = plan(rt.alloc(), &outlines, 0, &ONE_WALL, Vec::new(rt.alloc())).expect(
+        &rt, "a plan",
+    );
     assert!(rt; is_planned(&made, 6, &FRAME));
+}
+
+/// The plan of the cube with these support runs.
+fn supported_cube(alloc: Global, runs: &[&[(i32, i32)]]) -> Result<LayerPlan, PlanFault> {
+    let Ok(outlines) = cube(alloc) else {
+        return Err(PlanFault::Memory);
+    };
+    plan(alloc, &outlines, 0, &USUAL, paths(alloc, runs)?)
+}
+
+#[test]
+fn supports_are_given_back(rt: HostRuntime) {
+    let runs: [&[(i32, i32)]; 2] = [&[(3301, 0), (5999, 0)], &[(5999, 1000), (3301, 1000)]];
+    let made = supported_cube(rt.alloc(), &runs).expect(&rt, "a plan");
+    let row: &[(i32, i32)] = &[(900, 2000), (2100, 2000)];
+    assert!(rt;
+        is_planned(&made, 1, &[FIRST_WALL, SECOND_WALL, row]) && are_paths(&made.supports, &runs)
+    );
+}
+
+/// So many moves back and forth beside the cube, as one support run.
+fn back_and_forth(alloc: Global, moves: u32) -> Result<Vec<Path>, AllocError> {
+    let mut path = Vec::new(alloc);
+    for n in 0..=moves {
+        path.push(Pt {
+            x: 5000,
+            y: (n % 2) as i32,
+        })?;
+    }
+    let mut runs = Vec::new(alloc);
+    runs.push(Path::from_vec(path))?;
+    Ok(runs)
+}
+
+// The cube's plan has nine moves of its own.
+#[test]
+fn moves_of_supports_are_counted(rt: HostRuntime) {
+    let alloc = rt.alloc();
+    let outlines = cube(alloc).expect(&rt, "outlines");
+    let most = back_and_forth(alloc, 199_991).expect(&rt, "memory");
+    assert!(rt; plan(alloc, &outlines, 0, &USUAL, most).is_ok());
+    let more = back_and_forth(alloc, 199_992).expect(&rt, "memory");
+    assert!(rt;
+        matches!(
+            plan(alloc, &outlines, 0, &USUAL, more),
+            Err(PlanFault::Moves(200_001))
+        )
+    );
 }

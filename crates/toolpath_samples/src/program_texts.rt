@@ -1,7 +1,7 @@
 //! Whole texts of printing programs, and numbers at the edges of the format.
 
 use crate::points::paths;
-use gcode_text::{Rates, are_few, write_end, write_head, write_layer};
+use gcode_text::{Rates, are_few, write_end, write_head, write_layer, write_supports};
 use std::alloc::{AllocError, Global};
 
 const RATES: Rates = Rates {
@@ -105,4 +105,46 @@ const LAST_LAYER: &[u8] = b"before\n\
 fn numbers_at_the_edges(rt: HostRuntime) {
     let text = last_layer(rt.alloc()).expect(&rt, "memory for a text");
     assert!(rt; text.as_slice() == LAST_LAYER);
+}
+
+/// A run of infill, and two support runs behind it.
+const INFILL: [&[(i32, i32)]; 1] = [&[(900, 2000), (2100, 2000)]];
+
+const SUPPORTS: [&[(i32, i32)]; 2] = [&[(2301, 0), (5999, 0)], &[(5999, 1000), (2301, 1000)]];
+
+/// A layer of these paths with these supports, and the volume that it extrudes.
+fn supported_layer(
+    alloc: Global,
+    own: &[&[(i32, i32)]],
+    below: &[&[(i32, i32)]],
+) -> Result<(Vec<u8>, u128), AllocError> {
+    let own = paths(alloc, own)?;
+    let supports = paths(alloc, below)?;
+    let mut out = Vec::new(alloc);
+    let mut volume = 0;
+    if are_few(&own) && are_few(&supports) {
+        write_layer(&mut out, 0, &own, &RATES, &mut volume)?;
+        if volume <= 1_000_000_000_000_000_000_000_000_000_000 {
+            write_supports(&mut out, &supports, &RATES, &mut volume)?;
+        }
+    }
+    Ok((out, volume))
+}
+
+const SUPPORTED_LAYER: &[u8] = b"; layer 0\n\
+    G1 Z0.200 F7200\n\
+    G1 X0.900 Y2.000 F7200\n\
+    G1 X2.100 Y2.000 E0.04490 F1800\n\
+    ; supports\n\
+    G1 X2.301 Y0.000 F7200\n\
+    G1 X5.999 Y0.000 E0.18327 F1800\n\
+    G1 X5.999 Y1.000 F7200\n\
+    G1 X2.301 Y1.000 E0.32164 F1800\n";
+
+#[test]
+fn supports_stand_behind_their_layer(rt: HostRuntime) {
+    let (text, volume) = supported_layer(rt.alloc(), &INFILL, &SUPPORTS).expect(&rt, "memory");
+    assert!(rt; text.as_slice() == SUPPORTED_LAYER && volume == 773_640_000);
+    let (bare, _) = supported_layer(rt.alloc(), &INFILL, &[]).expect(&rt, "memory");
+    assert!(rt; bare.as_slice() == &SUPPORTED_LAYER[..81]);
 }

@@ -144,7 +144,7 @@ fn moves_of_seed(alloc: Global, seed: u64) -> Result<(u64, u64), Fail> {
     let settings = roll_settings(&mut dice);
     let clearance = Octagon::of_width(settings.line_width);
     let sides = sides_of(alloc, &outlines)?;
-    let made = plan(alloc, &outlines, dice.roll(2), &settings)?;
+    let made = plan(alloc, &outlines, dice.roll(2), &settings, Vec::new(alloc))?;
     let (mut all, mut astray): (u64, u64) = (0, 0);
     for path in &made.paths {
         let points = path.as_slice();

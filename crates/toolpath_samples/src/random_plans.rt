@@ -47,7 +47,7 @@ fn number_of_seeds(alloc: Global, seeds: u64) -> Result<i64, Fail> {
         let outlines = roll_outlines(alloc, &mut dice, -2000, 4000)?;
         let settings = roll_settings(&mut dice);
         let layer = dice.roll(2);
-        let made = plan(alloc, &outlines, layer, &settings)?;
+        let made = plan(alloc, &outlines, layer, &settings, Vec::new(alloc))?;
         number = check_number(number, &made.paths)
             .wrapping_mul(10_007)
             .wrapping_add((made.runs % 1_000_000_007) as i64)

@@ -234,6 +234,29 @@ fn a_text_gives_the_keys_that_it_has(rt: HostRuntime) {
     }
 }
 
+fn gives_supports(alloc: Global, text: &str, spacing: u32, gap: u32) -> bool {
+    match read_settings(alloc, text.as_bytes()) {
+        Ok(settings) => settings.support_spacing == spacing && settings.support_gap == gap,
+        Err(_) => false,
+    }
+}
+
+#[test]
+fn a_text_gives_the_supports(rt: HostRuntime) {
+    for &(text, spacing, gap) in &[
+        ("", 0, 300),
+        ("support_spacing = 0\nsupport_gap = 0", 0, 0),
+        ("support_spacing = 500", 500, 300),
+        (
+            "support_gap = 10_000\nsupport_spacing = 100_000",
+            100_000,
+            10_000,
+        ),
+    ] {
+        assert!(rt; gives_supports(rt.alloc(), text, spacing, gap), "{text}");
+    }
+}
+
 fn is_refused(alloc: Global, text: &str, kind: SetKind, key: &str, value: i64) -> bool {
     match read_settings(alloc, text.as_bytes()) {
         Err(SetError::Refused(fault)) => {
@@ -259,6 +282,36 @@ fn the_first_fault_of_a_text_is_told(rt: HostRuntime) {
         ("layer_height = 5", SetKind::OutOfRange, "layer_height", 5),
         ("walls = 11\nbed = 1.5", SetKind::NotWhole, "bed", 0),
         ("walls = 0\na.b = 1", SetKind::UnknownKey, "a", 0),
+        (
+            "support_gap = 10001",
+            SetKind::OutOfRange,
+            "support_gap",
+            10_001,
+        ),
+        (
+            "support_spacing = 5",
+            SetKind::OutOfRange,
+            "support_spacing",
+            5,
+        ),
+        (
+            "support_spacing = 499",
+            SetKind::OutOfRange,
+            "support_spacing",
+            499,
+        ),
+        (
+            "support_spacing = -1",
+            SetKind::OutOfRange,
+            "support_spacing",
+            -1,
+        ),
+        (
+            "support_spacing = 100001\nwalls = 0",
+            SetKind::OutOfRange,
+            "support_spacing",
+            100_001,
+        ),
     ] {
         assert!(rt; is_refused(rt.alloc(), text, kind, key, value), "{text}");
     }

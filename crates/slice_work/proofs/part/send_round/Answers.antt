@@ -37,6 +37,7 @@ layers-preserved g c =
     let n = round.count - c.layers.n in
     let j = round.first + (c.layers.n + 1) in
     let layout = laid_out c.layout_of-layer.result in
+    let number = c.layout_of-layer.ensures.number in
     let below : c.layers.n < round.least = search rules in
     let within : round.least ≤ round.count = c.requires.round.within in
     let old = g.D.Desk.view c.layers.desk in
@@ -48,12 +49,12 @@ layers-preserved g c =
           c.layers.sums layout result old new (omega arith) (omega arith) (omega arith)
           (kept.sums part drawn sums) (c.layout_of-layer.ensures.layout part drawn)
           (written_as {T = Sums} c.args.want c.args.rates.now c.layers.sums.volume i c.layout_of-layer.result.number
-          layout result old new c.layout_of-layer.ensures.number c.in_ok-sums.ensures.carries)
+          layout result old new number c.in_ok-sums.ensures.carries)
           whole rest start (kept.carries part drawn sums whole rest start left);
       sums = λ part drawn sums.
           next_counted c.args.want c.args.rates.now part i j layout c.layers.sums c.in_ok-sums.sums (omega arith)
           (c.in_ok-sums.ensures.sums
-          ∙ ap (λ (k : ℕ). with_layer c.args.want c.args.rates.now k layout c.layers.sums) c.layout_of-layer.ensures.number)
+          ∙ ap (λ (k : ℕ). with_layer c.args.want c.args.rates.now k layout c.layers.sums) number)
           (c.layout_of-layer.ensures.layout part drawn) (kept.sums part drawn sums);
       sound = search rules;
       there = still_there c.args.want old new c.in_ok-sums.ensures.kept.creates kept.there;

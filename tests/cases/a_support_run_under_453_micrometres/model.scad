@@ -1,0 +1,3 @@
+cube([1,3,1]);
+translate([4,0,2]) cube([0.453,3,1]);
+translate([0,0,1]) cube([1,3,2]);

@@ -1,0 +1,1 @@
+translate([-6,-4,0]) { translate([0,0,4]) cube([12,8,2]); cube([3,3,4]); }
