@@ -9,7 +9,7 @@ use Rattle.scad_words.specs.declared.settings.Settings.{Settings}
 use Rattle.support_laws.proofs.There.{overhung_are_there, supports_are_there}
 use Rattle.slice_work.specs.declared.want.Want.{Want}
 use Rattle.slice_work.specs.declared.want.Want.TheVariants.{Outlines, Plan}
-use Rattle.scad_slice.specs.Supports.{AreSupportsOf, outlines_budget, IsStretchBudget, IsBudgetUnless, IsPassedBefore}
+use Rattle.scad_slice.specs.Supports.{AreSupportsOf, outlines_budget, IsBudgetUnless, IsPassedBefore}
 use Rattle.scad_slice.proofs.AllOutlines.{all_are_there}
 
 -- a number is 0 or more

@@ -1,4 +1,4 @@
-use Rattle.std.proofs.Common.{◌<◌, ℕ, List, Err, refl, sym, ap, ◌∙◌, subst, rules, arith}
+use Rattle.std.proofs.Common.{◌<◌, List, Err, refl, sym, ap, ◌∙◌, subst, rules, arith}
 use Rattle.plan_support.specs.Covers.{AreCovers, AreTooMany}
 use Rattle.plan_support.specs.Rows.{Row}
 use Rattle.scad_tree.specs.View.{solid_of}
