@@ -1,4 +1,5 @@
--- The supports of a tree's layers by settings, and the budgets that a print with supports is judged by before its first layer.
+-- The supports of a tree's layers by settings, and the budgets that a print with supports is judged by before its first
+-- layer.
 use Rattle.std.specs.Prelude.{◌≡◌, ◌⊎◌, ◌+◌, ◌<◌, ℕ, List, [], ◌∷◌, Option, Some, None, length, drop, slice_index_or, map, min, nat_lt, if◌then◌else◌}
 use Rattle.std.specs.List.{range_with_len}
 use Rattle.scad_fault.specs.declared.budget.Budget.{Budget}
