@@ -1,10 +1,9 @@
 -- A budget that is passed before the first layer ends the script of the layers.
-use Rattle.std.proofs.Common.{◌≡◌, ◌<◌, ℕ, zero, suc, ◌+◌, List, Result, Err, sym, ap, ◌∙◌, arith}
+use Rattle.std.proofs.Common.{◌≡◌, ◌<◌, ℕ, zero, suc, ◌+◌, Err, ap, arith}
 use Rattle.scad_fault.specs.declared.budget.Budget.{Budget}
 use Rattle.scad_io.specs.Desk.{View}
 use Rattle.scad_script.specs.declared.stop.Stop.{Stop}
 use Rattle.scad_script.specs.declared.refusal.Refusal.TheVariants.{Over}
-use Rattle.scad_script.specs.Steps.{Step}
 use Rattle.scad_script.specs.Script.{Script, Refuses, ends, layer_then, layers}
 use Rattle.scad_script.specs.Played.{Left, Stops}
 use Rattle.scad_script.proofs.Layers.{as_left}

@@ -1,5 +1,5 @@
 -- The supports of a layer of a tree of solids, and the budget that is passed before it, are one.
-use Rattle.std.proofs.Common.{◌≡◌, ◌⊎◌, inl, inr, ◌+◌, ◌<◌, ℕ, List, [], ◌∷◌, Option, Some, None, sym, ap, ◌∙◌, subst, arith}
+use Rattle.std.proofs.Common.{◌≡◌, inl, inr, ◌+◌, ◌<◌, ℕ, List, [], ◌∷◌, Option, Some, None, sym, ap, ◌∙◌, subst, arith}
 use Rattle.std.specs.Prelude.{drop}
 use Rattle.scad_fault.specs.declared.budget.Budget.{Budget}
 use Rattle.scad_geom.specs.declared.point.Pt.{Pt}
@@ -13,7 +13,7 @@ use Rattle.support_laws.proofs.One.{overhung_are_one, supports_are_one}
 use Rattle.slice_work.specs.declared.want.Want.{Want}
 use Rattle.slice_work.specs.declared.want.Want.TheVariants.{Outlines, Plan}
 use Rattle.scad_slice.specs.Budgets.{layer_budget}
-use Rattle.scad_slice.specs.Supports.{AreAllOutlines, AreNone, StandBelow, AreSupportsOf, first_of, outlines_budget, stretch_budget, IsStretchBudget, IsBudgetUnless, IsPassedBefore}
+use Rattle.scad_slice.specs.Supports.{StandBelow, AreSupportsOf, first_of, outlines_budget, stretch_budget, IsStretchBudget, IsBudgetUnless, IsPassedBefore}
 use Rattle.scad_slice.proofs.AllOutlines.{all_are_one}
 
 -- a spacing isn't both 0 and more

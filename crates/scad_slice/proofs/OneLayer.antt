@@ -16,7 +16,7 @@ use Rattle.plan_layer.proofs.OneAnswer.{refusals_are_one, accepted_is_not_refuse
 use Rattle.slice_work.specs.declared.want.Want.{Want}
 use Rattle.slice_work.specs.declared.want.Want.TheVariants.{Outlines, Plan}
 use Rattle.slice_work.specs.Part.{Layout}
-use Rattle.plan_layer.specs.Refusal.{IsAccepted, IsRefused}
+use Rattle.plan_layer.specs.Refusal.{IsRefused}
 use Rattle.scad_slice.specs.Budgets.{plan_budget}
 use Rattle.scad_slice.specs.Supports.{AreSupportsOf}
 use Rattle.scad_slice.specs.Layer.{IsRefusedBy, IsPlannedOver, IsLaidOut, IsLayerUnless, IsLayer}

@@ -1,6 +1,6 @@
 -- How the script of a command goes: it is refused for the tree's number of layers, or a layer ends it, or it goes to
 -- its end.
-use Rattle.std.proofs.Common.{◌≡◌, ◌⊎◌, inl, inr, ◌<◌, ◌≤◌, List, [], ◌∷◌, ℕ, Bool, true, false, Option, Some}
+use Rattle.std.proofs.Common.{◌≡◌, ◌⊎◌, inl, inr, ◌<◌, ◌≤◌, List, [], ◌∷◌, ℕ, zero, suc, Bool, true, false, Option, Some}
 use Rattle.std.proofs.Common.{None, Result, Ok, Err, refl, sym, ap, ◌∙◌, subst, nat_lt, rules, arith}
 use Rattle.std.proofs.lemmas.Bool.Decides.{nat_tests}
 use Rattle.std.specs.Prelude.{unwrap_or, if◌then◌else◌}
@@ -340,3 +340,12 @@ pub passed_by_all : (want : Want) (s : Settings) (tree : Solid) (part : Part) (b
 passed_by_all want s tree part budget solids range of_part passed i =
     layer_is_one want s tree i solids range (part i) (Err budget) (of_part i)
     (record { before = Some budget; passed = passed i; is = refl })
+
+-- so none is made
+pub none_made : (part : Part) (layer : ℕ) (budget : Budget) → part 0 ≡ Err budget → AreMade part layer → layer ≡ 0
+none_made part zero budget passed made = refl
+none_made part (suc n) budget passed made =
+    let found = made 0 (omega arith) in
+    let same : Ok found.0 ≡ Err budget = sym found.1 ∙ passed in
+    let never : ⊥ = cc in
+    absurd never

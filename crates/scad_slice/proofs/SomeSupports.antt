@@ -9,7 +9,7 @@ use Rattle.scad_words.specs.declared.settings.Settings.{Settings}
 use Rattle.support_laws.proofs.There.{overhung_are_there, supports_are_there}
 use Rattle.slice_work.specs.declared.want.Want.{Want}
 use Rattle.slice_work.specs.declared.want.Want.TheVariants.{Outlines, Plan}
-use Rattle.scad_slice.specs.Supports.{AreSupportsOf, outlines_budget, IsStretchBudget, IsBudgetUnless, IsPassedBefore}
+use Rattle.scad_slice.specs.Supports.{AreSupportsOf, outlines_budget, IsBudgetUnless, IsPassedBefore}
 use Rattle.scad_slice.proofs.AllOutlines.{all_are_there}
 
 -- a number is 0 or more
@@ -29,7 +29,8 @@ module _ (s : Settings) (tree : Solid) (i : ℕ) (solids : AreSolids tree) where
       supports_are_there (drop (i + 1) all.0) outlines s.support_spacing s.support_gap s.line_width some in
       (has.paths, inr (record { spacing = some; all = all.0; are_all = all.1; are = has.are_supports }))
 
-  pub supports_are : (outlines : List (List Pt)) → (supports : List (List Pt)) × AreSupportsOf s tree i outlines supports
+  pub supports_are : (outlines : List (List Pt))
+      → (supports : List (List Pt)) × AreSupportsOf s tree i outlines supports
   supports_are outlines = supports_by outlines (none_or_some s.support_spacing)
 
   -- ---- budgets

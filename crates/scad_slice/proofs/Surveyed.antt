@@ -8,11 +8,9 @@ use Rattle.scad_geom.specs.declared.point.Pt.{Pt}
 use Rattle.scad_tree.specs.Solid.{Solid}
 use Rattle.scad_tree.specs.Solids.{AreSolids}
 use Rattle.scad_words.specs.declared.settings.Settings.{Settings}
-use Rattle.scad_words.specs.Settings.{AreInRange}
 use Rattle.plan_support.specs.Covers.{AreCovers, run_count, stretch_limit, AreTooMany}
 use Rattle.plan_support.specs.Rows.{Row, AreRows}
 use Rattle.plan_support.specs.Spans.{AreSpans}
-use Rattle.support_laws.specs.Supports.{AreOverhung}
 use Rattle.support_laws.specs.Laws.{AreSpansOf}
 use Rattle.support_laws.proofs.Covered.{covers_are_overhung}
 use Rattle.slice_work.specs.declared.want.Want.{Want}
@@ -22,7 +20,7 @@ use Rattle.slice_work.specs.declared.survey_fault.SurveyFault.TheVariants.{Memor
 use Rattle.slice_work.specs.Part.{Layout, Part, outlines_of}
 use Rattle.slice_work.specs.Survey.{AreSurveyed, IsLeastOver}
 use Rattle.scad_slice.specs.Budgets.{layer_count, layer_budget}
-use Rattle.scad_slice.specs.Supports.{AreAllOutlines, outlines_budget, first_of, stretches_passed, stretch_budget, IsStretchBudget, IsBudgetUnless}
+use Rattle.scad_slice.specs.Supports.{outlines_budget, first_of, stretches_passed, IsBudgetUnless}
 use Rattle.scad_slice.specs.Covers.{AreSurveyedOf, AreCoversOf, CoversFit, IsPassedByAll}
 use Rattle.scad_slice.specs.Layer.{IsLayerUnless, IsLayer}
 use Rattle.scad_slice.specs.Parts.{IsPart}

@@ -128,7 +128,8 @@ module _ (s : Settings) (part : Part) where
   program_written i zero rest made = refl
   program_written i (suc n) rest made =
       let here = made_here part i n made in
-      let some = program.layers_text (rates_of s) (volume (i + 1)) (i + 1) (map printed_at (range_with_len (i + 1) n)) in
+      let some =
+      program.layers_text (rates_of s) (volume (i + 1)) (i + 1) (map printed_at (range_with_len (i + 1) n)) in
       joined_text Gcode (steps_of (layer_steps Plan (rates_of s) part i))
       (written_from Plan (rates_of s) part (i + 1) n) rest
       (program.printed_text (rates_of s) (volume i) i (printed_at i)) (some ++ text_of Gcode rest)

@@ -1,5 +1,5 @@
--- A layer of a tree by settings: its outlines and, where it is wanted, the plan over them with its supports, or the first
--- budget that is passed. With supports that is one for all layers, so that none is written.
+-- A layer of a tree by settings: its outlines and, where it is wanted, the plan over them with its supports, or the
+-- first budget that is passed. With supports that may be one for all layers, so that none is written.
 use Rattle.std.specs.Prelude.{◌≡◌, ℕ, List, [], Option, Some, None, Result, Ok, Err}
 use Rattle.scad_fault.specs.declared.budget.Budget.{Budget}
 use Rattle.scad_geom.specs.declared.point.Pt.{Pt}
@@ -15,7 +15,8 @@ use Rattle.scad_slice.specs.Budgets.{plan_budget}
 use Rattle.scad_slice.specs.Supports.{AreSupportsOf, IsPassedBefore}
 
 -- the plan of layer i over its outlines is refused by this budget
-pub record IsRefusedBy (outlines : List (List Pt)) (i : ℕ) (s : Settings) (tree : Solid) (budget : Budget) : Type 0 where
+pub record IsRefusedBy (outlines : List (List Pt)) (i : ℕ) (s : Settings) (tree : Solid) (budget : Budget)
+    : Type 0 where
   pub supports : List (List Pt)
   pub are_supports : AreSupportsOf s tree i outlines supports
   pub fault : PlanFault
@@ -23,7 +24,8 @@ pub record IsRefusedBy (outlines : List (List Pt)) (i : ℕ) (s : Settings) (tre
   pub passed : plan_budget i fault ≡ Some budget
 
 -- a layout of layer i has these outlines, its supports and the plan over them
-pub record IsPlannedOver (outlines : List (List Pt)) (i : ℕ) (s : Settings) (tree : Solid) (layout : Layout) : Type 0 where
+pub record IsPlannedOver (outlines : List (List Pt)) (i : ℕ) (s : Settings) (tree : Solid) (layout : Layout)
+    : Type 0 where
   pub outlines_are : layout.outlines ≡ outlines
   pub supports : AreSupportsOf s tree i outlines layout.supports
   pub accepted : IsAccepted outlines i s layout.supports layout.paths layout.runs
@@ -39,7 +41,8 @@ IsLaidOut Plan s tree i outlines (Err budget) = IsRefusedBy outlines i s tree bu
 abbrev pub IsLayerUnless : Option Budget → Want → Settings → Solid → ℕ → Result Layout Budget → Type 0
 IsLayerUnless (Some budget) want s tree i layer = layer ≡ Err budget
 IsLayerUnless None want s tree i layer =
-    (outlines : List (List Pt)) × AreLayerOutlines i s.layer_height tree outlines × IsLaidOut want s tree i outlines layer
+    (outlines : List (List Pt)) × AreLayerOutlines i s.layer_height tree outlines
+    × IsLaidOut want s tree i outlines layer
 
 -- layer i of a tree
 pub record IsLayer (want : Want) (s : Settings) (tree : Solid) (i : ℕ) (layer : Result Layout Budget) : Type 0 where

@@ -1,4 +1,5 @@
--- The supports of a tree's layers by settings, and the budgets that a print with supports is judged by before its first layer.
+-- The supports of a tree's layers by settings, and the budgets that a print with supports is judged by before its first
+-- layer.
 use Rattle.std.specs.Prelude.{◌≡◌, ◌⊎◌, ◌+◌, ◌<◌, ℕ, List, [], ◌∷◌, Option, Some, None, length, drop, slice_index_or, map, min, nat_lt, if◌then◌else◌}
 use Rattle.std.specs.List.{range_with_len}
 use Rattle.scad_fault.specs.declared.budget.Budget.{Budget}
@@ -58,8 +59,8 @@ stretches_passed count = record { kind = SupportRuns; at = no_place; layer = 0; 
 abbrev pub stretch_budget : ℕ → Option Budget
 stretch_budget count = if nat_lt stretch_limit count then Some (stretches_passed (min count greatest_count)) else None
 
--- The budget that the stretches of support lines below higher layers pass, those of all layers counted; and then that of
--- the outlines of layer i itself, which is left where it lies above the tree's layers, none of which passes one here.
+-- The budget that the stretches of support lines below higher layers pass, those of all layers counted; and then that
+-- of the outlines of layer i itself. Of the tree's layers none passes one here, so it is left for those above them.
 pub record IsStretchBudget (s : Settings) (tree : Solid) (i : ℕ) (passed : Option Budget) : Type 0 where
   pub all : List (List (List Pt))
   pub are_all : AreAllOutlines s.layer_height tree all

@@ -21,8 +21,8 @@ use std::thread::Threads;
 
 /// What stands below higher layers, where a plan with supports is wanted of a tree that has so many layers.
 ///
-/// The outlines of all layers are judged first, then the stretches; what passes a budget is answered, and no layer is to
-/// be written.
+/// The outlines of all layers are judged first, then the stretches; what passes a budget is answered, and no layer is
+/// to be written.
 pub fn covers_of<R: Threads + Sync, G: Gate>(
     rt: &R,
     alloc: Global,

@@ -1,4 +1,4 @@
-use Rattle.std.proofs.Common.{◌<◌, ℕ, List, Err, refl, sym, ap, ◌∙◌, subst, rules, arith}
+use Rattle.std.proofs.Common.{◌<◌, List, Err, refl, sym, ap, ◌∙◌, subst, rules, arith}
 use Rattle.plan_support.specs.Covers.{AreCovers, AreTooMany}
 use Rattle.plan_support.specs.Rows.{Row}
 use Rattle.scad_tree.specs.View.{solid_of}
@@ -22,7 +22,8 @@ returns-clause-over g c budget is =
     let tree = solid_of c.args.workpiece.now.tree.now in
     let runs = c.in-Err-Runs.runs in
     let spaced : 0 < s.support_spacing = search (rules, arith) in
-    subst (IsPassedByAll Plan s tree) (sym c.support_runs.ensures ∙ one_over c.support_runs.result budget _ _ refl refl is)
+    subst (IsPassedByAll Plan s tree)
+    (sym c.support_runs.ensures ∙ one_over c.support_runs.result budget _ _ refl refl is)
     (too_many s tree c.in_ok-rows.rows.items runs spaced c.in_ok-rows.ensures.rows
     (subst (λ (rows : List (List Row)). AreTooMany rows runs) c.deref.ensures.value
     (c.covers.ensures.runs runs (c.in-Err-Runs.is ∙ ap Err c.in-Err-Runs.field-0-is))))
