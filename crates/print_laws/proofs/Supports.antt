@@ -1,5 +1,5 @@
 -- Supports of a tree's layer stand outside of its outlines.
-use Rattle.std.proofs.Common.{◌≡◌, ◌+◌, ◌<◌, ℕ, List, [], inl, inr, length, drop, sym, subst, arith}
+use Rattle.std.proofs.Common.{◌+◌, ℕ, List, [], inl, inr, drop, sym, subst, arith}
 use Rattle.std.specs.Prelude.{All, slice_index_or}
 use Rattle.std.proofs.lemmas.List.Elements.{All-nil, All-drop, All-from_get_or}
 use Rattle.scad_geom.specs.declared.point.Pt.{Pt}

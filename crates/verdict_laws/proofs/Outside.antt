@@ -1,5 +1,5 @@
 -- By its own outlines the first move along a support of a print goes outside.
-use Rattle.std.proofs.Common.{◌≡◌, ◌⊎◌, inl, inr, ◌≢◌, ℕ, zero, suc, ◌+◌, ◌*◌, ◌/◌, ◌<◌, ◌≤◌, Bool, true, false, List, [], ◌∷◌, ◌++◌, length, map, flat_map, refl, sym, ap, ◌∙◌, subst, arith, Option, Some, None, Result, Ok, Err}
+use Rattle.std.proofs.Common.{◌≡◌, ◌⊎◌, inl, inr, ℕ, zero, suc, ◌+◌, ◌*◌, ◌/◌, ◌<◌, ◌≤◌, Bool, true, false, List, [], ◌∷◌, ◌++◌, length, flat_map, refl, sym, ap, ◌∙◌, subst, arith, Option, Some, None, Ok, Err}
 use Rattle.std.specs.Prelude.{pos, IsSomeAnd, slice_get}
 use Rattle.std.specs.List.{Any, AllByRecursion}
 use Rattle.std.proofs.Math.Nat.{mul-div_cancel}
@@ -21,13 +21,13 @@ use Rattle.plan_verify.specs.declared.verdict.Verdict.TheVariants.{Outside}
 use Rattle.plan_verify.specs.declared.verdict.VerifyFault.TheVariants.{Memory}
 use Rattle.plan_verify.specs.Verdict as told
 use Rattle.plan_verify.specs.Verdict.{Told, IsFirstOut}
-use Rattle.print_laws.specs.Print.{all_outlines, all_printed, written_from, written, extruding, PathSide, sides_from}
+use Rattle.print_laws.specs.Print.{all_outlines, written_from, written, extruding, PathSide}
 use Rattle.print_laws.specs.Print.{StandsOutside, KeepsPlace, KeepPlaces}
 use Rattle.print_laws.specs.Laws.{PlansArePrintable}
 use Rattle.print_laws.proofs.Supports.{SupportLaws}
 use Rattle.print_laws.proofs.Wound.{starts_on}
 use Rattle.verdict_laws.specs.Laws.{VerdictsAreOpinions}
-use Rattle.verdict_laws.specs.Printed.{IsFirstSupport, SupportsGoOutside, PrintsAreAnsweredOutside}
+use Rattle.verdict_laws.specs.Printed.{SupportsGoOutside, PrintsAreAnsweredOutside}
 use Rattle.verdict_laws.proofs.Extruding.{moves_in}
 use Rattle.verdict_laws.proofs.Inside.{stays}
 use Rattle.verdict_laws.proofs.Printed.{told_moves, told_extruding, by_written, answered_so}
