@@ -1,5 +1,5 @@
 -- The runs of infill of planned layers can be read back as hatches.
-use Rattle.std.proofs.Common.{◌≡◌, ◌+◌, ◌-◌, ◌<◌, ◌≤◌, ◌^◌, ℕ, List, [], ◌∷◌, ◌++◌, length, take, drop, ap, sym, subst, ◌∙◌, arith}
+use Rattle.std.proofs.Common.{◌≡◌, ◌-◌, ◌≤◌, ℕ, List, [], ◌∷◌, ◌++◌, length, take, drop, ap, sym, subst, ◌∙◌, arith}
 use Rattle.std.proofs.Common.{length-append}
 use Rattle.std.specs.List.{AllByRecursion}
 use Rattle.std.specs.Prelude.{Ok}
@@ -12,7 +12,7 @@ use Rattle.scad_geom.specs.Within.{IsEdgeWithin}
 use Rattle.scad_words.specs.declared.settings.Settings.{Settings}
 use Rattle.scad_words.specs.Settings.{AreInRange}
 use Rattle.plan_layer.specs.Kept.{PlansKeepClear}
-use Rattle.plan_layer.specs.Moves.{moves, all_moves}
+use Rattle.plan_layer.specs.Moves.{moves, all_moves, move_limit}
 use Rattle.cli_read.specs.Form.{IsHatchWithinReach, AreHatches}
 use Rattle.slice_work.specs.Part.{Layout, hatches_of}
 use Rattle.print_laws.specs.Planned.{IsPlanned}
@@ -32,6 +32,14 @@ near (e ∷ es) h =
     let by = h.0.b.y in
     (((omega (arith, ax), omega (arith, ay)), (omega (arith, bx), omega (arith, by))), near es h.1)
 
+-- with supports behind them paths have as many moves, and more
+pub moves_fewer : (paths more : List (List Pt)) (n : ℕ) → length (all_moves (paths ++ more)) ≤ n
+    → length (all_moves paths) ≤ n
+moves_fewer paths more n h =
+    let both = length-append (all_moves paths) (all_moves more) in
+    let same = ap length (flat_map-append moves paths more) in
+    omega (arith, h, both, same)
+
 pub are_hatches : PlansKeepClear → (s : Settings) → AreInRange s → (i : ℕ) (l : Layout) → IsPlanned s i l
     → AreHatches (hatches_of (Ok l))
 are_hatches law s range i l p =
@@ -40,7 +48,7 @@ are_hatches law s range i l p =
     let runs = all_moves (drop k l.paths) in
     let all = ap length (parted k l.paths) in
     let both = length-append front runs in
-    let few = p.moves in
+    let few = moves_fewer l.paths l.supports move_limit p.moves in
     record {
       count = omega (arith, all, both, few);
       near = near runs (all_back (IsEdgeWithin point_limit) front runs

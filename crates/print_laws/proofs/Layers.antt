@@ -23,34 +23,41 @@ use Rattle.plan_layer.specs.Plan.{distance}
 use Rattle.plan_layer.specs.Refusal.{IsAccepted}
 use Rattle.slice_work.specs.declared.want.Want.TheVariants.{Plan as WithPlan}
 use Rattle.slice_work.specs.Part.{Layout}
-use Rattle.scad_slice.specs.Budgets.{layer_budget}
 use Rattle.scad_slice.specs.Layer.{IsLayerUnless, IsLayer}
+use Rattle.scad_slice.specs.Supports.{AreSupportsOf}
 use Rattle.cli_read.specs.Form.{IsWithinReach, IsShape}
 use Rattle.print_laws.specs.Planned.{IsPlanned}
+use Rattle.print_laws.proofs.Supports.{SupportLaws, supports_stand}
 
 -- ---- a layer that is laid out
 pub record IsLaid (s : Settings) (tree : Solid) (i : ℕ) (layer : Layout) : Type 0 where
   pub outlines : AreLayerOutlines i s.layer_height tree layer.outlines
-  pub accepted : IsAccepted layer.outlines i s layer.paths layer.runs
+  pub supports : AreSupportsOf s tree i layer.outlines layer.supports
+  pub accepted : IsAccepted layer.outlines i s layer.supports layer.paths layer.runs
 
 laid_unless : (passed : Option Budget) (s : Settings) (tree : Solid) (i : ℕ) (layer : Layout)
     → IsLayerUnless passed WithPlan s tree i (Ok layer) → IsLaid s tree i layer
 laid_unless (Some budget) s tree i layer is = let never : ⊥ = cc in absurd never
-laid_unless None s tree i layer (outlines, are, (same, accepted)) = record {
-  outlines = subst (AreLayerOutlines i s.layer_height tree) (sym same) are;
-  accepted = subst (λ (o : List (List Pt)). IsAccepted o i s layer.paths layer.runs) (sym same) accepted;
-}
+laid_unless None s tree i layer (outlines, are, over) =
+    let same = sym over.outlines_are in
+    record {
+      outlines = subst (AreLayerOutlines i s.layer_height tree) same are;
+      supports = subst (λ (o : List (List Pt)). AreSupportsOf s tree i o layer.supports) same over.supports;
+      accepted = subst (λ (o : List (List Pt)). IsAccepted o i s layer.supports layer.paths layer.runs) same
+          over.accepted;
+    }
 
 pub laid : (s : Settings) (tree : Solid) (i : ℕ) (layer : Layout) → IsLayer WithPlan s tree i (Ok layer)
     → IsLaid s tree i layer
-laid s tree i layer is = laid_unless (layer_budget s.layer_height tree i) s tree i layer is
+laid s tree i layer is = laid_unless is.before s tree i layer is.is
 
 -- it is planned
-pub is_planned : (s : Settings) (tree : Solid) (i : ℕ) (layer : Layout) → AreSolids tree → IsLaid s tree i layer
-    → IsPlanned s i layer
-is_planned s tree i layer solids l = record {
+pub is_planned : SupportLaws → (s : Settings) (tree : Solid) (i : ℕ) (layer : Layout) → AreSolids tree → AreInRange s
+    → IsLaid s tree i layer → IsPlanned s i layer
+is_planned laws s tree i layer solids range l = record {
   within = outlines_are_within i s.layer_height tree layer.outlines solids l.outlines;
   plan = l.accepted.plan;
+  supports = supports_stand s tree i layer laws solids range l.supports;
   moves = l.accepted.moves;
 }
 

@@ -4,10 +4,12 @@ pub mod Extruded
 pub mod Hatched
 pub mod Inside
 pub mod Layers
+pub mod Lengths
 pub mod Numbered
 pub mod Points
 pub mod Printable
 pub mod Printed
 pub mod Prints
+pub mod Supports
 pub mod Volume
 pub mod Wound

@@ -4,6 +4,7 @@ use Rattle.std.proofs.Common.{subst}
 use Rattle.std.specs.Prelude.{All}
 use Rattle.std.specs.List.{AllByRecursion}
 use Rattle.std.proofs.lemmas.List.Elements.{All-nil, All-map, All-append, recursion_from_All}
+use Rattle.scad_base.proofs.Lists.{AllByRecursion-append}
 use Rattle.scad_geom.specs.declared.point.Pt.{Pt}
 use Rattle.scad_geom.specs.Within.{IsWithin, IsEdgeWithin}
 use Rattle.plan_infill.specs.declared.line.Line.{Line}
@@ -79,6 +80,24 @@ module _ (limit : ℕ) where
     path_within path n.0 (all_front (IsEdgeWithin limit) (moves path) (all_moves paths) h),
     paths_within paths n.1 (all_back (IsEdgeWithin limit) (moves path) (all_moves paths) h),
   )
+
+-- and moves lie where the points of their paths do
+module _ (limit : ℕ) where
+  edges_from : (from : Pt) (ps : List Pt) → IsWithin limit from → AllByRecursion (IsWithin limit) ps
+      → AllByRecursion (IsEdgeWithin limit) (moves_from from ps)
+  edges_from from [] here h = tt
+  edges_from from (to ∷ ps) here h = (record { a = here; b = h.0 }, edges_from to ps h.0 h.1)
+
+  edges_of : (path : List Pt) → AllByRecursion (IsWithin limit) path → AllByRecursion (IsEdgeWithin limit) (moves path)
+  edges_of [] h = tt
+  edges_of (p ∷ ps) h = edges_from p ps h.0 h.1
+
+  pub edges_within : (paths : List (List Pt)) → AllByRecursion (λ path. AllByRecursion (IsWithin limit) path) paths
+      → AllByRecursion (IsEdgeWithin limit) (all_moves paths)
+  edges_within [] h = tt
+  edges_within (path ∷ paths) h =
+      AllByRecursion-append (IsEdgeWithin limit) (moves path) (all_moves paths) (edges_of path h.0)
+      (edges_within paths h.1)
 
 pub plan_within : (limit : ℕ) (outlines : List (List Pt)) (layer : ℕ) (s : Settings) (paths : List (List Pt)) (runs : ℕ)
     → IsPlan outlines layer s paths runs → All (IsEdgeWithin limit) (all_moves paths)

@@ -28,6 +28,7 @@ use Rattle.print_laws.specs.Laws.{PlansArePrinted, LayersArePrinted, PrintsAreOn
 use Rattle.print_laws.proofs.Numbered.{AreFrom, from_first, first_each}
 use Rattle.print_laws.proofs.Hatched.{are_hatches}
 use Rattle.print_laws.proofs.Layers.{IsLaid, laid, is_planned, are_shapes}
+use Rattle.print_laws.proofs.Supports.{SupportLaws}
 
 -- ---- layers by their numbers
 abbrev IsLayerAt : Settings → Solid → ℕ → Layout → Type 0
@@ -43,16 +44,17 @@ all_laid : (s : Settings) (tree : Solid) (layers : List Layout) → AreLayersOf 
 all_laid s tree layers are = laid_from s tree 0 layers (from_first (IsLayerAt s tree) layers are.each)
 
 -- ---- they are planned
-planned_from : (s : Settings) (tree : Solid) → AreSolids tree → (i : ℕ) (ls : List Layout)
+planned_from : SupportLaws → (s : Settings) (tree : Solid) → AreSolids tree → AreInRange s → (i : ℕ) (ls : List Layout)
     → AreFrom (IsLaid s tree) i ls → AreFrom (IsPlanned s) i ls
-planned_from s tree solids i [] h = tt
-planned_from s tree solids i (l ∷ ls) h = (is_planned s tree i l solids h.0, planned_from s tree solids (i + 1) ls h.1)
+planned_from laws s tree solids range i [] h = tt
+planned_from laws s tree solids range i (l ∷ ls) h =
+    (is_planned laws s tree i l solids range h.0, planned_from laws s tree solids range (i + 1) ls h.1)
 
-pub are_planned : (s : Settings) (tree : Solid) (layers : List Layout) → AreSolids tree → AreLayersOf s tree layers
-    → ArePlanned s layers
-are_planned s tree layers solids are = record {
+pub are_planned : SupportLaws → (s : Settings) (tree : Solid) (layers : List Layout) → AreSolids tree → AreInRange s
+    → AreLayersOf s tree layers → ArePlanned s layers
+are_planned laws s tree layers solids range are = record {
   number = are.few;
-  each = first_each (IsPlanned s) layers (planned_from s tree solids 0 layers (all_laid s tree layers are));
+  each = first_each (IsPlanned s) layers (planned_from laws s tree solids range 0 layers (all_laid s tree layers are));
 }
 
 -- ---- they can be read
@@ -84,27 +86,28 @@ module _ (s : Settings) (tree : Solid) (solids : AreSolids tree) (range : AreInR
   shapes_from i [] h = tt
   shapes_from i (l ∷ ls) h = (are_shapes s tree i l solids range h.0, shapes_from (i + 1) ls h.1)
 
-  hatches_from : PlansKeepClear → (i : ℕ) (ls : List Layout) → AreFrom (IsLaid s tree) i ls
+  hatches_from : SupportLaws → PlansKeepClear → (i : ℕ) (ls : List Layout) → AreFrom (IsLaid s tree) i ls
       → AllByRecursion (λ (layer : Layer). AreHatches layer.hatches) (written_from height i ls)
-  hatches_from law i [] h = tt
-  hatches_from law i (l ∷ ls) h = (
-    are_hatches law s range i l (is_planned s tree i l solids h.0),
-    hatches_from law (i + 1) ls h.1,
+  hatches_from laws law i [] h = tt
+  hatches_from laws law i (l ∷ ls) h = (
+    are_hatches law s range i l (is_planned laws s tree i l solids range h.0),
+    hatches_from laws law (i + 1) ls h.1,
   )
 
   number_from : (i : ℕ) (ls : List Layout) → length (written_from height i ls) ≡ length ls
   number_from i [] = refl
   number_from i (l ∷ ls) = ap suc (number_from (i + 1) ls)
 
-  readable : PlansKeepClear → (layers : List Layout) → AreLayersOf s tree layers → IsReadable (written height layers)
-  readable law layers are =
+  readable : SupportLaws → PlansKeepClear → (layers : List Layout) → AreLayersOf s tree layers
+      → IsReadable (written height layers)
+  readable laws law layers are =
       let few = are.few in
       let long = number_from 0 layers in
       record {
         above = above_from height 0 None layers some_height tt;
         heights = heights_from 0 layers (omega (arith, few));
         shapes = shapes_from 0 layers (all_laid s tree layers are);
-        hatches = hatches_from law 0 layers (all_laid s tree layers are);
+        hatches = hatches_from laws law 0 layers (all_laid s tree layers are);
         count = omega (arith, few, long);
       }
 
@@ -133,16 +136,16 @@ module _ (s : Settings) (tree : Solid) (solids : AreSolids tree) (range : AreInR
       }
 
 -- ---- the laws
-pub layers_are_printed : PlansKeepClear → PlansArePrinted → WrittenTextsSayTheirLayers → LayersArePrinted
-layers_are_printed law printed said s tree layers solids range are = record {
+pub layers_are_printed : SupportLaws → PlansKeepClear → PlansArePrinted → WrittenTextsSayTheirLayers → LayersArePrinted
+layers_are_printed laws law printed said s tree layers solids range are = record {
   layers = layers;
   planned = are;
   outlines = record {
     text = refl;
-    read = said (written s.layer_height layers) (readable s tree solids range law layers are);
+    read = said (written s.layer_height layers) (readable s tree solids range laws law layers are);
   };
   holds = holds s tree solids range layers are;
-  program = printed s layers range (are_planned s tree layers solids are);
+  program = printed s layers range (are_planned laws s tree layers solids range are);
 }
 
 -- layers of one tree are the same, one by one

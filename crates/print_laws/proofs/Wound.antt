@@ -30,7 +30,7 @@ abbrev most : ℤ
 most = pos point_limit
 
 -- the ends of a segment are points of it
-starts_on : (a b : Pt) → IsOn (whole a) (whole b) (whole a)
+pub starts_on : (a b : Pt) → IsOn (whole a) (whole b) (whole a)
 starts_on a b = record {
   k = pos 1;
   s = pos 1;

@@ -1,6 +1,5 @@
 -- Laws of printing programs and of prints.
-use Rattle.std.specs.Prelude.{◌≡◌, ℕ, List, All}
-use Rattle.scad_geom.specs.declared.point.Pt.{Pt}
+use Rattle.std.specs.Prelude.{◌≡◌, ℕ, List, map, All}
 use Rattle.scad_words.specs.declared.settings.Settings.{Settings}
 use Rattle.scad_words.specs.Settings.{AreInRange}
 use Rattle.scad_tree.specs.Solid.{Solid}
@@ -9,13 +8,14 @@ use Rattle.slice_loops.specs.Lengths.{HasLength}
 use Rattle.plan_layer.specs.Moves.{all_moves}
 use Rattle.cli_text.specs.Cli.{cli as text_of_layers}
 use Rattle.gcode_text.specs.declared.rates.Rates.{Rates}
+use Rattle.gcode_text.specs.Gcode.{Printed, printed_paths}
 use Rattle.gcode_text.specs.Moves.{program_moves, IsWritable}
 use Rattle.slice_work.specs.Part.{Layout}
 use Rattle.slice_work.specs.Rates.{rates_of}
 use Rattle.print_laws.specs.Planned.{ArePlanned}
-use Rattle.print_laws.specs.Print.{all_outlines, all_paths, program_of, moves_of}
+use Rattle.print_laws.specs.Print.{all_outlines, all_printed, all_paths, program_of, moves_of}
 use Rattle.print_laws.specs.Print.{extruding, sides_from, moves_along}
-use Rattle.print_laws.specs.Print.{StayInside, AreLayersOf, written, PrintLayers, IsPrintOf}
+use Rattle.print_laws.specs.Print.{StayInside, KeepPlaces, AreLayersOf, written, PrintLayers, IsPrintOf}
 
 -- ---- of programs
 -- The numbers of the program of planned layers can be written.
@@ -28,13 +28,21 @@ PlansArePrintable =
 -- filament, where each side has a length.
 abbrev pub SidesAreExtruded : Type 0
 SidesAreExtruded =
-    (rates : Rates) (layers : List (List (List Pt))) → All (λ paths. All HasLength (all_moves paths)) layers
-    → extruding (program_moves rates layers) ≡ moves_along rates 0 (sides_from rates.layer_height 0 layers)
+    (rates : Rates) (layers : List Printed) → All (λ layer. All HasLength (all_moves (printed_paths layer))) layers
+    → extruding (program_moves rates (map printed_paths layers))
+    ≡ moves_along rates 0 (sides_from rates.layer_height 0 layers)
 
--- The extruding moves along planned paths stay inside.
+-- The extruding moves along planned paths stay inside, and those along supports stand outside.
+abbrev pub MovesKeepPlaces : Type 0
+MovesKeepPlaces =
+    (s : Settings) (layers : List Layout) → AreInRange s → ArePlanned s layers
+    → KeepPlaces s (all_outlines layers) (sides_from s.layer_height 0 (all_printed layers))
+    (extruding (moves_of s layers))
+
+-- Without support lines all extruding moves stay inside.
 abbrev pub MovesStayInside : Type 0
 MovesStayInside =
-    (s : Settings) (layers : List Layout) → AreInRange s → ArePlanned s layers
+    (s : Settings) (layers : List Layout) → AreInRange s → ArePlanned s layers → s.support_spacing ≡ 0
     → StayInside s (all_outlines layers) (moves_of s layers)
 
 -- The program of planned layers prints them.

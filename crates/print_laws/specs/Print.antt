@@ -1,43 +1,49 @@
 -- What a print of a tree by settings is: one list of layers, each the plan of its layer of the tree, and two files that
 -- say these layers to whoever reads them.
-use Rattle.std.specs.Prelude.{◌≡◌, ◌<◌, ◌≤◌, ◌+◌, ◌*◌, ◌/◌, ℕ, true, List, [], ◌∷◌, ◌++◌, length, map, filter}
+use Rattle.std.specs.Prelude.{◌≡◌, ◌<◌, ◌≤◌, ◌+◌, ◌*◌, ◌/◌, ℕ, Bool, true, false, List, [], ◌∷◌, ◌++◌, length, map, filter}
 use Rattle.std.specs.Prelude.{slice_get}
 use Rattle.std.specs.Prelude.{All, IsSomeAnd, Ok, pos}
+use Rattle.std.specs.List.{AllZip}
 use Rattle.scad_geom.specs.declared.point.Pt.{Pt}
 use Rattle.scad_geom.specs.declared.point.Edge.{Edge}
 use Rattle.scad_words.specs.declared.settings.Settings.{Settings}
 use Rattle.scad_tree.specs.Solid.{Solid}
 use Rattle.plan_walls.specs.Kept.{KeepsClear}
 use Rattle.plan_layer.specs.Moves.{all_moves}
+use Rattle.support_laws.specs.Apart.{KeepsApart}
 use Rattle.cli_text.specs.Cli.{Layer, cli as text_of_layers}
 use Rattle.cli_read.specs.Form.{Reads}
 use Rattle.gcode_text.specs.declared.machine.Move.{Move}
 use Rattle.gcode_text.specs.declared.rates.Rates.{Rates}
 use Rattle.gcode_text.specs.Amount.{move_volume, filament}
-use Rattle.gcode_text.specs.Gcode.{gcode}
+use Rattle.gcode_text.specs.Gcode.{Printed, printed_paths, gcode}
 use Rattle.gcode_text.specs.Machine.{machine}
 use Rattle.gcode_text.specs.Moves.{at_height, program_moves}
 use Rattle.slice_work.specs.declared.want.Want.TheVariants.{Plan as WithPlan}
-use Rattle.slice_work.specs.Part.{Layout, hatches_of, layer_limit}
+use Rattle.slice_work.specs.Part.{Layout, hatches_of, printed_of, layer_limit}
 use Rattle.slice_work.specs.Rates.{rates_of}
 use Rattle.scad_slice.specs.Budgets.{layer_count}
 use Rattle.scad_slice.specs.Layer.{IsLayer}
 use Rattle.scad_slice.specs.Membership.{HoldTree}
 
 -- ---- the layers
--- There are as many as the tree has, and not too many; layer i has the outlines of the tree's layer i and the plan over
--- them, and passes no limit.
+-- There are as many as the tree has, and not too many; layer i has the outlines of the tree's layer i, the plan over
+-- them and its supports, and passes no limit.
 pub record AreLayersOf (s : Settings) (tree : Solid) (layers : List Layout) : Type 0 where
   pub number : length layers ≡ layer_count s.layer_height tree
   pub few : length layers ≤ layer_limit
   pub each : (i : ℕ) → i < length layers → IsSomeAnd (slice_get layers i) (λ l. IsLayer WithPlan s tree i (Ok l))
 
--- the outlines of layers, and their paths, layer by layer
+-- the outlines of layers, and what is printed of them, layer by layer
 abbrev pub all_outlines : List Layout → List (List (List Pt))
 all_outlines layers = map (λ l. l.outlines) layers
 
+abbrev pub all_printed : List Layout → List Printed
+all_printed layers = map (λ l. printed_of WithPlan (Ok l)) layers
+
+-- all paths of layers, in each those of its supports behind the others
 abbrev pub all_paths : List Layout → List (List (List Pt))
-all_paths layers = map (λ l. l.paths) layers
+all_paths layers = map printed_paths (all_printed layers)
 
 -- ---- the outlines' file
 -- layers of the height h as they are written, each with the height of its upper surface and its infill as hatches; the
@@ -58,7 +64,7 @@ pub record SayLayers (bytes : List ℕ) (layers : List Layer) : Type 0 where
 -- ---- the printing program
 -- its text
 abbrev pub program_of : Settings → List Layout → List ℕ
-program_of s layers = gcode (rates_of s) s.hot_end s.bed (all_paths layers)
+program_of s layers = gcode (rates_of s) s.hot_end s.bed (all_printed layers)
 
 -- the moves along the paths, travels among them
 abbrev pub moves_of : Settings → List Layout → List Move
@@ -68,16 +74,24 @@ moves_of s layers = program_moves (rates_of s) (all_paths layers)
 abbrev pub extruding : List Move → List Move
 extruding moves = filter (λ m. m.extruding) moves
 
--- a side of a path, at the height of its layer's upper surface
+-- a side of a path, at the height of its layer's upper surface; the path is a support or is none
 pub record PathSide : Type 0 where
   pub z : ℕ
   pub edge : Edge
+  pub support : Bool
 
--- the sides of the paths of layers of the height h in order, the first of which has the number i
-abbrev pub sides_from : ℕ → ℕ → List (List (List Pt)) → List PathSide
+-- the sides of paths at a height
+abbrev pub sides_at : Bool → ℕ → List (List Pt) → List PathSide
+sides_at support z paths = map (λ e. record { z = z; edge = e; support = support }) (all_moves paths)
+
+-- the sides of the paths of layers of the height h in order, in each those of its supports behind the others; the first
+-- layer has the number i
+abbrev pub sides_from : ℕ → ℕ → List Printed → List PathSide
 sides_from h i [] = []
-sides_from h i (paths ∷ layers) =
-    map (λ e. record { z = (i + 1) * h; edge = e }) (all_moves paths) ++ sides_from h (i + 1) layers
+sides_from h i (layer ∷ layers) =
+    sides_at false ((i + 1) * h) layer.paths
+    ++ sides_at true ((i + 1) * h) layer.supports
+    ++ sides_from h (i + 1) layers
 
 -- the move along a side, behind moves of this volume, with the filament that its own volume takes
 abbrev pub move_along : Rates → ℕ → PathSide → Move
@@ -113,16 +127,37 @@ pub record StaysInside (s : Settings) (outlines : List (List (List Pt))) (m : Mo
 abbrev pub StayInside : Settings → List (List (List Pt)) → List Move → Type 0
 StayInside s outlines moves = All (λ m. m.extruding ≡ true → StaysInside s outlines m) moves
 
--- The bytes are the text of the layers' plans. Along them the machine makes the moves of the plans, with travels
--- between; those that extrude are exactly the plans' moves of layer 0, of layer 1 and so on, in order, each at the
--- upper surface of its layer and with its filament; and each stays inside the outlines of its layer by the clearance.
+-- a move lies at the upper surface of a layer and keeps apart from that layer's outlines: they wind round no whole point
+-- of it, and no side of them comes within the gap of supports; with a gap this holds of each exact point of it, by a
+-- gap of one micrometre less
+pub record StandsOutside (s : Settings) (outlines : List (List (List Pt))) (m : Move) : Type 0 where
+  pub layer : ℕ
+  pub from : m.from.z ≡ pos ((layer + 1) * s.layer_height)
+  pub to : m.to.z ≡ pos ((layer + 1) * s.layer_height)
+  pub apart : IsSomeAnd (slice_get outlines layer) (λ o. KeepsApart o s.support_gap (from_above m))
+
+-- a move along a support stands outside, and any other stays inside
+abbrev pub KeepsPlace : Bool → Settings → List (List (List Pt)) → Move → Type 0
+KeepsPlace true s outlines m = StandsOutside s outlines m
+KeepsPlace false s outlines m = StaysInside s outlines m
+
+-- so do moves that go along these sides, one along each
+abbrev pub KeepPlaces : Settings → List (List (List Pt)) → List PathSide → List Move → Type 0
+KeepPlaces s outlines sides moves = AllZip (λ side m. KeepsPlace side.support s outlines m) sides moves
+
+-- The bytes are the text of the layers' plans and supports. Along them the machine makes their moves, with travels
+-- between; those that extrude are exactly the moves of layer 0, of layer 1 and so on, in each layer those of its supports
+-- behind the plan's, in order, each at the upper surface of its layer and with its filament. Each move of a plan stays
+-- inside the outlines of its layer by the clearance, and each move of a support stands outside of them. So without
+-- support lines each move that extrudes stays inside.
 pub record PrintLayers (bytes : List ℕ) (s : Settings) (layers : List Layout) : Type 0 where
   pub text : bytes ≡ program_of s layers
   pub moves : List Move
   pub made : machine bytes ≡ Ok moves
   pub all : moves ≡ moves_of s layers
-  pub extruded : extruding moves ≡ moves_along (rates_of s) 0 (sides_from s.layer_height 0 (all_paths layers))
-  pub inside : StayInside s (all_outlines layers) moves
+  pub extruded : extruding moves ≡ moves_along (rates_of s) 0 (sides_from s.layer_height 0 (all_printed layers))
+  pub kept : KeepPlaces s (all_outlines layers) (sides_from s.layer_height 0 (all_printed layers)) (extruding moves)
+  pub inside : s.support_spacing ≡ 0 → StayInside s (all_outlines layers) moves
 
 -- ---- the print
 -- The outlines hold what the tree contains, at each cell centre more than one micrometre from each section edge; each

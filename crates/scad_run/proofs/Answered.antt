@@ -43,7 +43,7 @@ use Rattle.verdict_laws.proofs.Deciding.{opinions_are_there}
 -- There are parts.
 
 no_parts : Parts
-no_parts want settings i = Ok (record { outlines = []; paths = []; runs = 0 })
+no_parts want settings i = Ok (record { outlines = []; paths = []; runs = 0; supports = [] })
 
 parts_of : (meaning : Outcome Solid) → ((tree : Solid) (s : State) → meaning ≡ gives tree s → AreSolids tree)
     → (parts : Parts) × ArePartsOf meaning parts

@@ -177,11 +177,11 @@ written_length h i (l ∷ ls) = ap suc (written_length h (i + 1) ls)
 pub prints_are_confirmed : PrintsStayInside → PrintsAreConfirmed
 prints_are_confirmed inside words None status old new before now confirmed = tt
 prints_are_confirmed inside words (Some contents) status old new before now confirmed =
-    λ settings source tree outlines program print given means same.
+    λ settings source tree outlines program print none given means same.
     let layers : List Layer = written settings.layer_height print.layers in
     let range = found_in_range given.name (option_and_then contents given.name) settings given.accepted in
     let verdict = inside settings tree outlines program print layers
-    (sources_mean_solids source tree means.0 means.1) range given.program_within print.outlines.read in
+    (sources_mean_solids source tree means.0 means.1) range none given.program_within print.outlines.read in
     subst (λ (n : ℕ). SaysInside n (plan_moves print.layers) status old new)
     (written_length settings.layer_height 0 print.layers)
     (confirmed settings outlines program layers (plan_moves print.layers) given print.outlines.read verdict same)

@@ -18,6 +18,7 @@ use Rattle.scad_script.specs.Names.{AllUpTo}
 use Rattle.scad_script.specs.Run.{RunsTo}
 use Rattle.scad_script.specs.Promises.{Adds, IsAnswered, Promised}
 use Rattle.scad_tree.specs.Solid.{Solid}
+use Rattle.scad_tree.specs.Solids.{AreSolids}
 use Rattle.slice_work.specs.declared.want.Want.{Want}
 use Rattle.slice_work.specs.declared.want.Want.TheVariants.{Outlines as OutlinesAlone, Plan as WithPlan}
 use Rattle.slice_work.specs.Part.{Part}
@@ -27,14 +28,15 @@ use Rattle.gcode_text.specs.Gcode.{head as program_head, layers_text}
 use Rattle.scad_slice.specs.Budgets.{layer_count}
 use Rattle.scad_slice.specs.Parts.{IsPart, layers_of}
 use Rattle.scad_slice.specs.Layer.{IsLayer}
-use Rattle.scad_slice.proofs.Parted.{budget_of_layer, slice_creates, plan_creates, slice_line, line_of_plan}
+use Rattle.scad_slice.proofs.Parted.{slice_creates, plan_creates, slice_line, line_of_plan}
 use Rattle.scad_slice.proofs.Texts.{slice_cut, plan_cut, program_cut}
 use Rattle.scad_run.specs.Words.{given_by}
 use Rattle.scad_run.specs.Answer.{Parts, Findings, follows, job_script, script_of, ArePartsOfTree, AreDrawn, AreFoundBy, AreFound}
 use Rattle.scad_run.specs.Inputs.{Inputs, source_in, IsRead}
 use Rattle.scad_run.specs.Cut.{program_front, AreCut, IsCutBy, CutsFiles, FilesStand, CutsShort}
 use Rattle.scad_run.proofs.Working.{parts_meant}
-use Rattle.scad_run.proofs.Sources.{as_part}
+use Rattle.scad_run.proofs.Place.{placed}
+use Rattle.scad_run.proofs.Sources.{sources_mean_solids, as_part}
 use Rattle.scad_run.proofs.Heights.{found_in_range}
 use Rattle.scad_run.proofs.Silent.{slice_is_silent}
 use Rattle.scad_run.proofs.Planned.{layouts, layouts_number, written_is, plans_are, layers_each}
@@ -43,7 +45,8 @@ use Rattle.scad_run.proofs.Ends.{Cuts, IsDone, IsOver, EndsBy, follows_end}
 use Rattle.scad_run.proofs.Refused.{files_stand, many_quiet, sample_quiet}
 
 -- ---- behind the tree
-module _ (s : SettingsOfRun) (tree : Solid) (in_range : AreInRange s) (budget : Budget) (old new : View) where
+module _ (s : SettingsOfRun) (tree : Solid) (in_range : AreInRange s) (solids : AreSolids tree) (budget : Budget)
+    (old new : View) where
   abbrev count : ℕ
   count = layer_count s.layer_height tree
 
@@ -53,15 +56,14 @@ module _ (s : SettingsOfRun) (tree : Solid) (in_range : AreInRange s) (budget : 
       → Adds (program_front want s (layouts part c.cut.layer)) old.gcode new.gcode → AreCut want s tree budget old new
   are_cut want creates line part is_part c outlines program =
       let passed : part c.cut.layer ≡ Err budget = c.cut.passed ∙ ap Err c.this in
-      let of_layer = budget_of_layer want s tree part c.cut.layer budget is_part passed in
-      let layer = sym of_layer.layer in
       record {
         few = c.cut.few;
-        inside = subst (λ (i : ℕ). i < count) layer c.cut.inside;
-        passes = subst (λ (i : ℕ). IsLayer want s tree i (Err budget)) layer
-            (subst (IsLayer want s tree c.cut.layer) passed (is_part c.cut.layer));
+        layer = c.cut.layer;
+        ends = (placed s tree budget part solids in_range want c.cut.layer is_part c.cut.made passed).ends;
+        inside = c.cut.inside;
+        passes = subst (IsLayer want s tree c.cut.layer) passed (is_part c.cut.layer);
         layers = layouts part c.cut.layer;
-        number = layouts_number part c.cut.layer ∙ layer;
+        number = layouts_number part c.cut.layer;
         each = layers_each want s tree part c.cut.layer is_part c.cut.made;
         outlines = subst (λ (ls : List Layer). Adds (head count ++ flat_map layer_text ls) old.cli new.cli)
             (written_is s.layer_height part c.cut.layer) outlines;
@@ -80,7 +82,7 @@ module _ (s : SettingsOfRun) (tree : Solid) (in_range : AreInRange s) (budget : 
       → AllUpTo echoing (follows command s parts tree).steps ⊎ IsCutBy command s tree budget old new
   cut_by (Check model) parts of_tree over added = inl tt
   cut_by (Tree model) parts of_tree over added = inl tt
-  cut_by (Slice model cli) parts of_tree (inl many) added = inl (many_quiet s tree in_range budget _ _ _ refl
+  cut_by (Slice model cli) parts of_tree (inl many) added = inl (many_quiet s tree in_range solids budget _ _ _ refl
       many)
   cut_by (Slice model cli) parts of_tree (inr c) added =
       let part = parts OutlinesAlone s in
@@ -88,7 +90,7 @@ module _ (s : SettingsOfRun) (tree : Solid) (in_range : AreInRange s) (budget : 
       (as_part tree parts of_tree OutlinesAlone s in_range) c
       (subst (λ (text : List ℕ). Adds text old.cli new.cli) (slice_cut s cli part tree c.cut) added.0)
       (subst (λ (text : List ℕ). Adds text old.gcode new.gcode) (slice_is_silent s cli part tree c.cut) added.1))
-  cut_by (Plan model cli gcode) parts of_tree (inl many) added = inl (many_quiet s tree in_range budget _ _ _
+  cut_by (Plan model cli gcode) parts of_tree (inl many) added = inl (many_quiet s tree in_range solids budget _ _ _
       refl many)
   cut_by (Plan model cli gcode) parts of_tree (inr c) added =
       let part = parts WithPlan s in
@@ -97,7 +99,8 @@ module _ (s : SettingsOfRun) (tree : Solid) (in_range : AreInRange s) (budget : 
       (subst (λ (text : List ℕ). Adds text old.cli new.cli) (plan_cut s cli gcode part tree c.cut) added.0)
       (subst (λ (text : List ℕ). Adds text old.gcode new.gcode)
       (program_cut s cli gcode part tree c.cut
-      ∙ ap (λ paths. program_head s.hot_end s.bed ++ layers_text (rates_of s) 0 0 paths) (plans_are part c.cut.layer))
+      ∙ ap (λ printed. program_head s.hot_end s.bed ++ layers_text (rates_of s) 0 0 printed)
+      (plans_are part c.cut.layer))
       added.1))
   cut_by (Sample n) parts of_tree over added = inl (sample_quiet n s parts tree)
   cut_by (Verify outlines program) parts of_tree over added = inl tt
@@ -128,6 +131,7 @@ module _ (found : Findings) (inputs : Inputs) (budget : Budget) (old new : View)
       let of_tree = parts_meant f.source f.tree parts (f.state, f.means) (subst (λ (i : Option Input). AreDrawn i parts)
       f.there drawn) in
       let in_range = found_in_range job.settings inputs.settings f.settings f.found in
+      let solids = sources_mean_solids f.source f.tree f.state f.means in
       ⊎_elim (λ quiet. inl (files_stand whole (Over budget) old new (f.quiet quiet) runs))
       (λ cut. inr (
         job,
@@ -142,7 +146,7 @@ module _ (found : Findings) (inputs : Inputs) (budget : Budget) (old new : View)
           cut = cut;
         },
       ))
-      (cut_by f.settings f.tree in_range budget old new job.command parts of_tree
+      (cut_by f.settings f.tree in_range solids budget old new job.command parts of_tree
       (subst (IsOver job.command f.settings parts f.tree) one over) (
         subst (λ (text : List ℕ). Adds text old.cli new.cli) f.cli refused.2,
         subst

@@ -21,6 +21,7 @@ mod ByGrammar
 mod Silent
 mod SampleEnds
 mod Finished
+mod Place
 mod Refused
 mod Cutting
 mod Cases

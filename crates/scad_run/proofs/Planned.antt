@@ -9,21 +9,21 @@ use Rattle.scad_geom.specs.declared.point.Edge.{Edge}
 use Rattle.scad_words.specs.declared.settings.Settings.{Settings as SettingsOfRun}
 use Rattle.scad_tree.specs.Solid.{Solid}
 use Rattle.cli_text.specs.Cli.{Layer}
-use Rattle.gcode_text.specs.Gcode.{gcode}
+use Rattle.gcode_text.specs.Gcode.{Printed, gcode}
 use Rattle.slice_work.specs.declared.want.Want.{Want}
 use Rattle.slice_work.specs.declared.want.Want.TheVariants.{Plan as WithPlan}
-use Rattle.slice_work.specs.Part.{Layout, Part, outlines_of, hatches_of, paths_of, layer_limit}
+use Rattle.slice_work.specs.Part.{Layout, Part, outlines_of, hatches_of, printed_of, layer_limit}
 use Rattle.slice_work.specs.Rates.{rates_of}
 use Rattle.scad_slice.specs.Budgets.{layer_count}
 use Rattle.scad_slice.specs.Parts.{IsPart, AreMade, layer_at, layers_of, plans_of}
 use Rattle.scad_slice.specs.Layer.{IsLayer}
-use Rattle.print_laws.specs.Print.{all_paths, program_of, AreLayersOf, written_from, written}
+use Rattle.print_laws.specs.Print.{all_printed, program_of, AreLayersOf, written_from, written}
 use Rattle.print_laws.proofs.ByNumber.{each_by_number}
 
 -- a layer that is laid out, none where it passes a budget
 abbrev whole_of : Result Layout Budget → Layout
 whole_of (Ok layout) = layout
-whole_of (Err budget) = record { outlines = []; paths = []; runs = 0 }
+whole_of (Err budget) = record { outlines = []; paths = []; runs = 0; supports = [] }
 
 abbrev layout_at : Part → ℕ → Layout
 layout_at part i = whole_of (part i)
@@ -54,21 +54,22 @@ pub written_is : (h : ℕ) (part : Part) (n : ℕ) → layers_of h part n ≡ wr
 written_is h part n = sym (written_at h part 0 n)
 
 -- and printed as its plans are
-paths_whole : (r : Result Layout Budget) → paths_of WithPlan r ≡ (whole_of r).paths
-paths_whole (Ok layout) = refl
-paths_whole (Err budget) = refl
+printed_whole : (r : Result Layout Budget) → printed_of WithPlan r ≡ printed_of WithPlan (Ok (whole_of r))
+printed_whole (Ok layout) = refl
+printed_whole (Err budget) = refl
 
-plans_at : (part : Part) (is : List ℕ) → map (λ i. paths_of WithPlan (part i)) is ≡ all_paths (map (layout_at part) is)
+plans_at : (part : Part) (is : List ℕ)
+    → map (λ i. printed_of WithPlan (part i)) is ≡ all_printed (map (layout_at part) is)
 plans_at part [] = refl
-plans_at part (i ∷ is) = ap₂ (λ (paths : List (List Pt)) (more : List (List (List Pt))). paths ∷ more)
-    (paths_whole (part i)) (plans_at part is)
+plans_at part (i ∷ is) = ap₂ (λ (printed : Printed) (more : List Printed). printed ∷ more)
+    (printed_whole (part i)) (plans_at part is)
 
-pub plans_are : (part : Part) (n : ℕ) → plans_of part n ≡ all_paths (layouts part n)
+pub plans_are : (part : Part) (n : ℕ) → plans_of part n ≡ all_printed (layouts part n)
 plans_are part n = plans_at part (range_with_len 0 n)
 
 pub program_is : (s : SettingsOfRun) (part : Part) (n : ℕ)
     → gcode (rates_of s) s.hot_end s.bed (plans_of part n) ≡ program_of s (layouts part n)
-program_is s part n = ap (λ paths. gcode (rates_of s) s.hot_end s.bed paths) (plans_are part n)
+program_is s part n = ap (λ printed. gcode (rates_of s) s.hot_end s.bed printed) (plans_are part n)
 
 -- each is the tree's
 pub layers_each : (want : Want) (s : SettingsOfRun) (tree : Solid) (part : Part) (n : ℕ)

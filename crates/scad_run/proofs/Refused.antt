@@ -3,8 +3,6 @@ use Rattle.std.proofs.Common.{◌≡◌, ◌≢◌, ◌⊎◌, ⊎_elim, ◌++�
 use Rattle.std.specs.Prelude.{if◌then◌else◌}
 use Rattle.std.proofs.lemmas.List.FromFn.{length-map-range_with_len}
 use Rattle.scad_fault.specs.declared.budget.Budget.{Budget}
-use Rattle.scad_fault.specs.declared.budget.BudgetKind.{BudgetKind}
-use Rattle.scad_fault.specs.declared.budget.BudgetKind.TheVariants.{LayerEdges, LayerCrossings, LayerMoves}
 use Rattle.scad_fault.specs.declared.status.Status.{Status}
 use Rattle.scad_fault.specs.declared.status.Status.TheVariants.{Done, Source, Usage, Settings, Read, Write, Over, Memory, Outside, BadFile}
 use Rattle.scad_fault.specs.Line.{line_of}
@@ -26,22 +24,25 @@ use Rattle.scad_script.specs.Promises.{Adds, IsAnswered, Promised}
 use Rattle.scad_script.proofs.Fronts.{reports_only}
 use Rattle.scad_script.proofs.Quiet.{ends_quietly}
 use Rattle.scad_tree.specs.Solid.{Solid}
+use Rattle.scad_tree.specs.Solids.{AreSolids}
 use Rattle.slice_work.specs.declared.want.Want.{Want}
 use Rattle.slice_work.specs.declared.want.Want.TheVariants.{Outlines as OutlinesAlone, Plan as WithPlan}
-use Rattle.slice_work.specs.Part.{Part, paths_of, layer_limit}
+use Rattle.slice_work.specs.Part.{Part, printed_of, layer_limit}
 use Rattle.cli_text.specs.Cli.{Layer, head, layer_text}
 use Rattle.scad_slice.specs.Budgets.{layer_count}
 use Rattle.scad_slice.specs.Parts.{IsPart, layer_at, layers_of, plans_of}
-use Rattle.scad_slice.proofs.Parted.{IsKind, budget_of_layer}
+use Rattle.scad_slice.proofs.Parted.{slice_creates, plan_creates, slice_line, line_of_plan}
 use Rattle.scad_slice.proofs.Texts.{slice_cut, plan_cut, program_cut}
 use Rattle.scad_run.proofs.Silent.{slice_is_silent}
 use Rattle.scad_run.specs.Words.{given_by}
 use Rattle.scad_run.specs.Answer.{Parts, Findings, follows, job_script, script_of, ArePartsOfTree, AreDrawn, AreFoundBy, AreFound}
 use Rattle.scad_run.specs.Inputs.{Inputs, source_in}
-use Rattle.scad_run.specs.Promises.{IsReported, IsRefused, IsProgramFront, IsCutShort, Refuses, Leaves, LeavesOutputs}
+use Rattle.scad_run.specs.Promises.{IsReported, IsRefused, IsProgramFront, IsOfLayers, IsCutShort, Refuses, Leaves, LeavesOutputs}
+use Rattle.scad_run.specs.Cut.{EndsAt}
 use Rattle.scad_run.specs.Causes.{HasManyLayers}
 use Rattle.scad_run.proofs.Working.{parts_meant}
-use Rattle.scad_run.proofs.Sources.{as_part}
+use Rattle.scad_run.proofs.Place.{IsPlaced, placed}
+use Rattle.scad_run.proofs.Sources.{sources_mean_solids, as_part}
 use Rattle.scad_run.proofs.Heights.{found_in_range}
 use Rattle.scad_run.proofs.Reached.{IsFollowed, Reaches, reached}
 use Rattle.scad_run.proofs.Ends.{Cuts, IsDone, IsOver, EndsBy, follows_end}
@@ -130,42 +131,47 @@ quiet_refused whole status old new all runs answered other =
 
 -- what a command writes behind its tree where a layer passes a budget
 pub record IsCutAt (count : ℕ) (budget : Budget) (cli gcode : List ℕ) : Type 0 where
-  pub kind : (budget.kind ≡ LayerEdges) ⊎ ((budget.kind ≡ LayerCrossings) ⊎ (budget.kind ≡ LayerMoves))
+  pub kind : IsOfLayers budget.kind
+  pub layer : ℕ
   pub before : List Layer
-  pub number : length before ≡ budget.layer
-  pub inside : budget.layer < count
+  pub number : length before ≡ layer
+  pub inside : layer < count
   pub outlines : cli ≡ head count ++ flat_map layer_text before
-  pub program : (gcode ≡ []) ⊎ IsProgramFront budget.layer gcode
+  pub program : ((gcode ≡ []) × (layer ≡ budget.layer)) ⊎ IsProgramFront layer budget gcode
 
--- of one of these kinds
-abbrev IsOne : BudgetKind → Type 0
-IsOne kind = (kind ≡ LayerEdges) ⊎ ((kind ≡ LayerCrossings) ⊎ (kind ≡ LayerMoves))
+-- where a program ends, by its settings
+program_ends : (s : SettingsOfRun) (tree : Solid) (budget : Budget) (layer : ℕ) → EndsAt WithPlan s tree budget layer
+    → (layer ≡ budget.layer) ⊎ ((layer ≡ 0) × (0 < s.support_spacing))
+program_ends s tree budget layer (inl own) = inl own
+program_ends s tree budget layer (inr (first, of_all)) = inr (first, of_all.spacing)
 
-one_of : (want : Want) (kind : BudgetKind) → IsKind want kind → IsOne kind
-one_of OutlinesAlone kind is = ⊎_elim (λ edges. inl edges) (λ crossed. inr (inl crossed)) is
-one_of WithPlan kind is = is
-
-module _ (settings : SettingsOfRun) (tree : Solid) (in_range : AreInRange settings) where
+module _ (settings : SettingsOfRun) (tree : Solid) (in_range : AreInRange settings) (solids : AreSolids tree) where
   abbrev count : ℕ
   count = layer_count settings.layer_height tree
+
+  -- where a part's files end
+  cut_placed : (want : Want) (creates : List Step) (line : List ℕ) (part : Part) (budget : Budget)
+      → IsPart want settings tree part → (c : Cuts want settings creates line part tree budget)
+      → IsPlaced want settings tree budget c.cut.layer
+  cut_placed want creates line part budget is_part c =
+      placed settings tree budget part solids in_range want c.cut.layer is_part c.cut.made (c.cut.passed ∙ ap Err c.this)
 
   -- the cut of a part's files
   cut_at : (want : Want) (creates : List Step) (line : List ℕ) (part : Part) (budget : Budget) (cli gcode : List ℕ)
       → IsPart want settings tree part
       → (c : Cuts want settings creates line part tree budget)
       → cli ≡ head count ++ flat_map layer_text (layers_of settings.layer_height part c.cut.layer)
-      → ((gcode ≡ []) ⊎ IsProgramFront c.cut.layer gcode) → IsCutAt count budget cli gcode
-  cut_at want creates line part budget cli gcode is_part c outlines program =
-      let of_layer = budget_of_layer want settings tree part c.cut.layer budget is_part
-      (c.cut.passed ∙ ap Err c.this) in
-      record {
-        kind = one_of want budget.kind of_layer.kind;
-        before = layers_of settings.layer_height part c.cut.layer;
-        number = length-map-range_with_len (layer_at settings.layer_height part) 0 c.cut.layer ∙ sym of_layer.layer;
-        inside = subst (λ (i : ℕ). i < count) (sym of_layer.layer) c.cut.inside;
-        outlines = outlines;
-        program = subst (λ (i : ℕ). (gcode ≡ []) ⊎ IsProgramFront i gcode) (sym of_layer.layer) program;
-      }
+      → ((gcode ≡ []) × (c.cut.layer ≡ budget.layer)) ⊎ IsProgramFront c.cut.layer budget gcode
+      → IsCutAt count budget cli gcode
+  cut_at want creates line part budget cli gcode is_part c outlines program = record {
+    kind = (cut_placed want creates line part budget is_part c).kind;
+    layer = c.cut.layer;
+    before = layers_of settings.layer_height part c.cut.layer;
+    number = length-map-range_with_len (layer_at settings.layer_height part) 0 c.cut.layer;
+    inside = c.cut.inside;
+    outlines = outlines;
+    program = program;
+  }
 
   pub many_quiet : (budget : Budget) (b : Bool) (x : Ending) (rest : Script) → nat_lt layer_limit count ≡ b
       → HasManyLayers settings tree budget
@@ -184,18 +190,23 @@ module _ (settings : SettingsOfRun) (tree : Solid) (in_range : AreInRange settin
   behind (Slice model cli) parts budget of_tree (inl many) = inl (many_quiet budget _ _ _ refl many)
   behind (Slice model cli) parts budget of_tree (inr c) =
       let part = parts OutlinesAlone settings in
-      inr (cut_at OutlinesAlone _ _ part budget _ _ (as_part tree parts of_tree OutlinesAlone settings in_range) c
-      (slice_cut settings cli part tree c.cut)
-      (inl (slice_is_silent settings cli part tree c.cut)))
+      let is_part = as_part tree parts of_tree OutlinesAlone settings in_range in
+      inr (cut_at OutlinesAlone _ _ part budget _ _ is_part c (slice_cut settings cli part tree c.cut)
+      (inl (
+        slice_is_silent settings cli part tree c.cut,
+        (cut_placed OutlinesAlone (slice_creates cli) (slice_line settings part tree) part budget is_part c).ends,
+      )))
   behind (Plan model cli gcode) parts budget of_tree (inl many) = inl (many_quiet budget _ _ _ refl many)
   behind (Plan model cli gcode) parts budget of_tree (inr c) =
       let part = parts WithPlan settings in
-      inr (cut_at WithPlan _ _ part budget _ _ (as_part tree parts of_tree WithPlan settings in_range) c
-      (plan_cut settings cli gcode part tree c.cut)
+      let is_part = as_part tree parts of_tree WithPlan settings in_range in
+      inr (cut_at WithPlan _ _ part budget _ _ is_part c (plan_cut settings cli gcode part tree c.cut)
       (inr (record {
         settings = settings;
-        paths = plans_of part c.cut.layer;
-        count = length-map-range_with_len (λ i. paths_of WithPlan (part i)) 0 c.cut.layer;
+        ends = program_ends settings tree budget c.cut.layer
+            (cut_placed WithPlan (plan_creates cli gcode) (line_of_plan settings part tree) part budget is_part c).ends;
+        printed = plans_of part c.cut.layer;
+        count = length-map-range_with_len (λ i. printed_of WithPlan (part i)) 0 c.cut.layer;
         is = program_cut settings cli gcode part tree c.cut;
       })))
   behind (Sample n) parts budget of_tree over = inl (sample_quiet n settings parts tree)
@@ -222,6 +233,7 @@ cut_or_quiet whole status budget old new number cli gcode ending to_cli to_gcode
         reported = subst (λ (s : Status). IsReported whole s old new) is (refused_line whole.steps whole.ending status
             old new answered other);
         count = number;
+        layer = cut.layer;
         before = cut.before;
         number = cut.number;
         inside = cut.inside;
@@ -247,8 +259,8 @@ followed_refused job parts inputs whole status old new f drawn runs answered oth
     let in_range = found_in_range job.settings inputs.settings f.settings f.found in
     cut_or_quiet whole status budget old new (layer_count f.settings.layer_height f.tree) _ _ (f.ending ∙ is) f.cli
     f.gcode runs answered other
-    (⊎_elim (λ quiet. inl (f.quiet quiet)) (λ cut. inr cut) (behind f.settings f.tree in_range job.command
-    parts budget of_tree over))
+    (⊎_elim (λ quiet. inl (f.quiet quiet)) (λ cut. inr cut) (behind f.settings f.tree in_range
+    (sources_mean_solids f.source f.tree f.state f.means) job.command parts budget of_tree over))
 
 job_refused : (job : Job) (found : Findings) (inputs : Inputs) (whole : Script) (status : Status) (old new : View)
     → Reaches job inputs found whole → AreFoundBy (source_in (Some job) inputs) found

@@ -40,7 +40,9 @@ HasManyLayers settings tree budget =
     (layer_limit < layer_count settings.layer_height tree)
     × (budget ≡ layers_passed (layer_count settings.layer_height tree))
 
--- there are not too many layers, and the least one that passes a budget passes this one
+-- There are not too many layers, and the least one that passes a budget passes this one. With supports that is the first,
+-- where the outlines of any layer pass one or the stretches below higher layers, those of all counted, pass their limit:
+-- so `IsLayer` says of each layer.
 pub record PassesAtLayer (want : Want) (settings : SettingsOfRun) (tree : Solid) (budget : Budget) : Type 0 where
   pub few : layer_count settings.layer_height tree ≤ layer_limit
   pub layer : ℕ

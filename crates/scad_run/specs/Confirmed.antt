@@ -49,11 +49,12 @@ Confirms words files status old new before now =
     → IsVerdict layers settings.line_width program (Ok (Inside moves)) → now ≡ before
     → SaysInside (length layers) moves status old new)
 
--- and where they are the print of a source's tree by these settings, which `plan` writes: with its layers, and all moves
--- of their plans
+-- and where they are the print of a source's tree by these settings, which `plan` writes, without support lines: with its
+-- layers, and all moves of their plans. With them the moves of supports, which stand outside, are told.
 abbrev pub ConfirmsPrints : List (List ℕ) → Files → Status → View → View → ℕ → ℕ → Type 0
 ConfirmsPrints words files status old new before now =
     IfSome files (λ contents. (settings : Settings) (source : List ℕ) (tree : Solid) (outlines program : List ℕ)
     (print : IsPrintOf settings tree outlines program)
-    → AreGiven words contents settings outlines program → MeansTree tree source → now ≡ before
+    → settings.support_spacing ≡ 0 → AreGiven words contents settings outlines program → MeansTree tree source
+    → now ≡ before
     → SaysInside (length print.layers) (plan_moves print.layers) status old new)

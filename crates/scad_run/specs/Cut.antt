@@ -20,23 +20,33 @@ use Rattle.slice_work.specs.Part.{Layout, layer_limit}
 use Rattle.slice_work.specs.Rates.{rates_of}
 use Rattle.scad_slice.specs.Budgets.{layer_count}
 use Rattle.scad_slice.specs.Layer.{IsLayer}
-use Rattle.print_laws.specs.Print.{all_paths, written}
+use Rattle.scad_slice.specs.Supports.{PassesOfAll}
+use Rattle.print_laws.specs.Print.{all_printed, written}
 use Rattle.scad_run.specs.Inputs.{Inputs, source_in, settings_found, IsRead}
 use Rattle.scad_run.specs.Meaning.{MeansTree}
 
 -- the printing program of the first layers without its end, where it is wanted
 abbrev pub program_front : Want → Settings → List Layout → List ℕ
 program_front OutlinesAlone s layers = []
-program_front WithPlan s layers = program_head s.hot_end s.bed ++ layers_text (rates_of s) 0 0 (all_paths layers)
+program_front WithPlan s layers = program_head s.hot_end s.bed ++ layers_text (rates_of s) 0 0 (all_printed layers)
+
+-- The files end before this layer: that of the budget; or, where supports are printed and the budget is one that all
+-- layers are judged by before the first is written, the first.
+abbrev pub EndsAt : Want → Settings → Solid → Budget → ℕ → Type 0
+EndsAt OutlinesAlone s tree budget layer = layer ≡ budget.layer
+EndsAt WithPlan s tree budget layer =
+    (layer ≡ budget.layer) ⊎ ((layer ≡ 0) × PassesOfAll s tree layer (Some budget))
 
 -- A layer of the tree passes the budget. Both files have their heads and the layers below it, each laid out as it is
 -- wanted, and no end.
 pub record AreCut (want : Want) (s : Settings) (tree : Solid) (budget : Budget) (old new : View) : Type 0 where
   pub few : layer_count s.layer_height tree ≤ layer_limit
-  pub inside : budget.layer < layer_count s.layer_height tree
-  pub passes : IsLayer want s tree budget.layer (Err budget)
+  pub layer : ℕ
+  pub ends : EndsAt want s tree budget layer
+  pub inside : layer < layer_count s.layer_height tree
+  pub passes : IsLayer want s tree layer (Err budget)
   pub layers : List Layout
-  pub number : length layers ≡ budget.layer
+  pub number : length layers ≡ layer
   pub each : (i : ℕ) → i < length layers → IsSomeAnd (slice_get layers i) (λ l. IsLayer want s tree i (Ok l))
   pub outlines : Adds (head (layer_count s.layer_height tree) ++ flat_map layer_text (written s.layer_height layers))
       old.cli new.cli

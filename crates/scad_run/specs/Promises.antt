@@ -2,7 +2,8 @@
 use Rattle.std.specs.Prelude.{◌≡◌, ◌⊎◌, ◌++◌, ◌<◌, ◌≤◌, List, [], ℕ, Option, Some, None, IfSome, IsSomeAnd, length}
 use Rattle.std.specs.List.{flat_map}
 use Rattle.scad_fault.specs.declared.budget.Budget.{Budget}
-use Rattle.scad_fault.specs.declared.budget.BudgetKind.TheVariants.{LayerEdges, LayerCrossings, LayerMoves}
+use Rattle.scad_fault.specs.declared.budget.BudgetKind.{BudgetKind}
+use Rattle.scad_fault.specs.declared.budget.BudgetKind.TheVariants.{LayerEdges, LayerCrossings, LayerMoves, SupportRuns}
 use Rattle.scad_fault.specs.declared.status.Status.{Status}
 use Rattle.scad_fault.specs.declared.status.Status.TheVariants.{Done, Source, Usage, Settings, Read, Write, Over, Memory, Outside, BadFile}
 use Rattle.scad_fault.specs.Line.{line_of}
@@ -17,8 +18,7 @@ use Rattle.scad_script.specs.Script.{Script, expected_echoes}
 use Rattle.scad_script.specs.Promises.{Adds}
 use Rattle.cli_text.specs.Cli.{Layer, head, layer_text, cli as text_of_layers}
 use Rattle.scad_tree.specs.Solid.{Solid}
-use Rattle.scad_geom.specs.declared.point.Pt.{Pt}
-use Rattle.gcode_text.specs.Gcode.{head as program_head, layers_text}
+use Rattle.gcode_text.specs.Gcode.{Printed, head as program_head, layers_text}
 use Rattle.slice_work.specs.declared.want.Want.{Want}
 use Rattle.slice_work.specs.declared.want.Want.TheVariants.{Outlines as OutlinesAlone, Plan as WithPlan}
 use Rattle.slice_work.specs.Part.{layer_limit}
@@ -73,24 +73,32 @@ IsReported whole status old new = Adds (expected_echoes whole ++ line_of status)
 abbrev pub IsRefused : Script → Status → View → View → Type 0
 IsRefused whole status old new = IsReported whole status old new × (new.cli ≡ old.cli) × (new.gcode ≡ old.gcode)
 
--- the head of a printing program and so many layers of it
-pub record IsProgramFront (number : ℕ) (text : List ℕ) : Type 0 where
+-- the head of a printing program and the layers before this one: that of the budget, or, where supports are printed, it
+-- may be the first
+pub record IsProgramFront (layer : ℕ) (budget : Budget) (text : List ℕ) : Type 0 where
   pub settings : SettingsOfRun
-  pub paths : List (List (List Pt))
-  pub count : length paths ≡ number
-  pub is : text ≡ program_head settings.hot_end settings.bed ++ layers_text (rates_of settings) 0 0 paths
+  pub ends : (layer ≡ budget.layer) ⊎ ((layer ≡ 0) × (0 < settings.support_spacing))
+  pub printed : List Printed
+  pub count : length printed ≡ layer
+  pub is : text ≡ program_head settings.hot_end settings.bed ++ layers_text (rates_of settings) 0 0 printed
+
+-- a budget of a layer's outlines or its plan, or of the stretches below higher layers
+abbrev pub IsOfLayers : BudgetKind → Type 0
+IsOfLayers kind = (kind ≡ LayerEdges) ⊎ ((kind ≡ LayerCrossings) ⊎ ((kind ≡ LayerMoves) ⊎ (kind ≡ SupportRuns)))
 
 -- a layer passed the budget: the outlines are the head and the layers before it, without an end; so is the printing
 -- program, where there is one
 pub record IsCutShort (whole : Script) (budget : Budget) (old new : View) : Type 0 where
-  pub kind : (budget.kind ≡ LayerEdges) ⊎ ((budget.kind ≡ LayerCrossings) ⊎ (budget.kind ≡ LayerMoves))
+  pub kind : IsOfLayers budget.kind
   pub reported : IsReported whole (Over budget) old new
   pub count : ℕ
+  pub layer : ℕ
   pub before : List Layer
-  pub number : length before ≡ budget.layer
-  pub inside : budget.layer < count
+  pub number : length before ≡ layer
+  pub inside : layer < count
   pub outlines : Adds (head count ++ flat_map layer_text before) old.cli new.cli
-  pub program : (text : List ℕ) × ((text ≡ []) ⊎ IsProgramFront budget.layer text) × Adds text old.gcode new.gcode
+  pub program : (text : List ℕ) × (((text ≡ []) × (layer ≡ budget.layer)) ⊎ IsProgramFront layer budget text)
+      × Adds text old.gcode new.gcode
 
 -- Each refusal: the report is the lines of `echo` and the status's line, and no output is created, unless a layer passed a
 -- budget.

@@ -31,7 +31,7 @@ pub fn answers_lack_files()
     ensures { AnswersLackFiles }
 {}
 
-/// A print of a source's tree, which `plan` writes, is answered `inside` by the same settings, unless memory is wanting or
+/// A print of a source's tree, which `plan` writes without support lines, is answered `inside` by the same settings, unless memory is wanting or
 /// something fails: each run that confirms all verdicts, as its clause `confirms` says, confirms prints.
 pub fn prints_are_confirmed()
     ensures { PrintsAreConfirmed }

@@ -18,7 +18,7 @@ use Rattle.scad_tree.specs.Solids.{AreSolids}
 use Rattle.slice_layer.proofs.Surfaces.{solids_closed}
 use Rattle.slice_layer.proofs.Membership.{outlines_hold_centres}
 use Rattle.slice_layer.proofs.Border.{outlines_are_near_border}
-use Rattle.scad_slice.specs.Budgets.{layer_count, layer_budget}
+use Rattle.scad_slice.specs.Budgets.{layer_count}
 use Rattle.scad_slice.specs.Parts.{IsPart, layer_at, layers_of}
 use Rattle.scad_slice.specs.Layer.{IsLaidOut, IsLayerUnless, IsLayer}
 use Rattle.scad_slice.specs.Membership.{IsLayerOf}
@@ -37,22 +37,26 @@ made_at f a (suc n) (suc i) below =
     made_at f (a + 1) n i less ∙ ap (λ k. Some (f k)) (omega arith)
 
 -- a layer that passes no budget is over the tree's outlines
-has_outlines : (want : Want) (s : Settings) (i : ℕ) (outlines : List (List Pt)) (layout : Layout)
-    → IsLaidOut want s i outlines (Ok layout) → layout.outlines ≡ outlines
-has_outlines Outlines s i outlines layout same = ap outlines_of same
-has_outlines Plan s i outlines layout laid = laid.0
+has_outlines : (want : Want) (s : Settings) (tree : Solid) (i : ℕ) (outlines : List (List Pt)) (layout : Layout)
+    → IsLaidOut want s tree i outlines (Ok layout) → layout.outlines ≡ outlines
+has_outlines Outlines s tree i outlines layout same = ap outlines_of same
+has_outlines Plan s tree i outlines layout laid = laid.outlines_are
 
-outlines_by : (passed : Option Budget) (want : Want) (s : Settings) (tree : Solid) (i : ℕ) (layout : Layout)
-    → IsLayerUnless passed want s tree i (Ok layout) → AreLayerOutlines i s.layer_height tree layout.outlines
+outlines_by : (before : Option Budget) (want : Want) (s : Settings) (tree : Solid) (i : ℕ) (layout : Layout)
+    → IsLayerUnless before want s tree i (Ok layout) → AreLayerOutlines i s.layer_height tree layout.outlines
 outlines_by (Some budget) want s tree i layout same = let never : ⊥ = cc in absurd never
 outlines_by None want s tree i layout (outlines, of_tree, laid) =
-    subst (AreLayerOutlines i s.layer_height tree) (sym (has_outlines want s i outlines layout laid)) of_tree
+    subst (AreLayerOutlines i s.layer_height tree) (sym (has_outlines want s tree i outlines layout laid)) of_tree
 
-layer_outlines : (want : Want) (s : Settings) (tree : Solid) (part : Part) (i : ℕ) (layout : Layout)
+pub laid_over : (want : Want) (s : Settings) (tree : Solid) (i : ℕ) (layout : Layout)
+    → IsLayer want s tree i (Ok layout) → AreLayerOutlines i s.layer_height tree layout.outlines
+laid_over want s tree i layout layer = outlines_by layer.before want s tree i layout layer.is
+
+pub layer_outlines : (want : Want) (s : Settings) (tree : Solid) (part : Part) (i : ℕ) (layout : Layout)
     → IsPart want s tree part → part i ≡ Ok layout → AreLayerOutlines i s.layer_height tree (outlines_of (part i))
 layer_outlines want s tree part i layout of_part is =
     subst (λ (l : Result Layout Budget). AreLayerOutlines i s.layer_height tree (outlines_of l)) (sym is)
-    (outlines_by (layer_budget s.layer_height tree i) want s tree i layout
+    (laid_over want s tree i layout
     (subst (λ (l : Result Layout Budget). IsLayer want s tree i l) is (of_part i)))
 
 layer_holds : (want : Want) (s : Settings) (tree : Solid) (part : Part) (i : ℕ) (layout : Layout) → AreSolids tree

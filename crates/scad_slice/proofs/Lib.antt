@@ -1,6 +1,14 @@
+pub mod FirstOf
+pub mod Stretches
+pub mod AllOutlines
+pub mod OneBudget
+pub mod SomeSupports
 pub mod OneLayer
 pub mod SomeParts
 pub mod Drawn
+pub mod Below
+pub mod Surveyed
+pub mod AllPassed
 pub mod Heads
 pub mod Holding
 pub mod Layers

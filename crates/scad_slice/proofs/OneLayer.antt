@@ -16,46 +16,75 @@ use Rattle.plan_layer.proofs.OneAnswer.{refusals_are_one, accepted_is_not_refuse
 use Rattle.slice_work.specs.declared.want.Want.{Want}
 use Rattle.slice_work.specs.declared.want.Want.TheVariants.{Outlines, Plan}
 use Rattle.slice_work.specs.Part.{Layout}
-use Rattle.scad_slice.specs.Budgets.{layer_budget, plan_budget}
-use Rattle.scad_slice.specs.Layer.{IsLaidOut, IsLayerUnless, IsLayer}
+use Rattle.plan_layer.specs.Refusal.{IsRefused}
+use Rattle.scad_slice.specs.Budgets.{plan_budget}
+use Rattle.scad_slice.specs.Supports.{AreSupportsOf}
+use Rattle.scad_slice.specs.Layer.{IsRefusedBy, IsPlannedOver, IsLaidOut, IsLayerUnless, IsLayer}
 use Rattle.scad_slice.specs.Laws.{PartsAreOne}
+use Rattle.scad_slice.proofs.OneBudget.{supports_of_are_one, before_is_one}
 
 -- what an option holds
 one_held : (a b : Budget) → Some a ≡ Some b → a ≡ b
 one_held a b same = ap (λ o. unwrap_or o a) same
 
--- what is wanted over outlines
-laid_out_is_one : (want : Want) (s : Settings) (i : ℕ) (outlines : List (List Pt))
-    → All (λ l. All (IsWithin point_limit) l) outlines → AreInRange s → (a b : Result Layout Budget)
-    → IsLaidOut want s i outlines a → IsLaidOut want s i outlines b → a ≡ b
-laid_out_is_one Outlines s i outlines within range a b is_a is_b = is_a ∙ sym is_b
-laid_out_is_one Plan s i outlines within range (Ok a) (Ok b) (of_a, plan_a) (of_b, plan_b) =
-    let loops : a.outlines ≡ b.outlines = of_a ∙ sym of_b in
-    let plans = plans_are_one outlines within i s range a.paths b.paths a.runs b.runs plan_a.plan plan_b.plan in
-    λ k. Ok (record { outlines = loops k; paths = plans.0 k; runs = plans.1 k })
-laid_out_is_one Plan s i outlines within range (Ok a) (Err b) (of_a, plan_a) is_b =
-    absurd (accepted_is_not_refused outlines within i s range a.paths a.runs is_b.fault plan_a is_b.refused)
-laid_out_is_one Plan s i outlines within range (Err a) (Ok b) is_a (of_b, plan_b) =
-    absurd (accepted_is_not_refused outlines within i s range b.paths b.runs is_a.fault plan_b is_a.refused)
-laid_out_is_one Plan s i outlines within range (Err a) (Err b) is_a is_b =
-    let fault : is_a.fault ≡ is_b.fault =
-    refusals_are_one outlines within i s range is_a.fault is_b.fault is_a.refused is_b.refused in
-    ap Err (one_held a b (sym is_a.passed ∙ ap (plan_budget i) fault ∙ is_b.passed))
+-- ---- a plan over outlines
+module _ (s : Settings) (tree : Solid) (i : ℕ) (outlines : List (List Pt)) (solids : AreSolids tree)
+    (within : All (λ l. All (IsWithin point_limit) l) outlines) (range : AreInRange s) where
+  planned_is_one : (a b : Layout) → IsPlannedOver outlines i s tree a → IsPlannedOver outlines i s tree b → a ≡ b
+  planned_is_one a b of_a of_b =
+      let loops : a.outlines ≡ b.outlines = of_a.outlines_are ∙ sym of_b.outlines_are in
+      let plans =
+      plans_are_one outlines within i s range a.paths b.paths a.runs b.runs of_a.accepted.plan of_b.accepted.plan in
+      let supports : a.supports ≡ b.supports =
+      supports_of_are_one s tree i solids outlines a.supports b.supports of_a.supports of_b.supports in
+      λ k. record { outlines = loops k; paths = plans.0 k; runs = plans.1 k; supports = supports k }
 
--- a layer, by the budget that its outlines pass
-unless_is_one : (passed : Option Budget) (want : Want) (s : Settings) (tree : Solid) (i : ℕ) → AreSolids tree
-    → AreInRange s → (a b : Result Layout Budget) → IsLayerUnless passed want s tree i a
-    → IsLayerUnless passed want s tree i b → a ≡ b
+  -- a refusal with the supports of another
+  refused_with : (supports : List (List Pt)) (budget : Budget) (by : IsRefusedBy outlines i s tree budget)
+      → AreSupportsOf s tree i outlines supports → IsRefused outlines i s supports by.fault
+  refused_with supports budget by are =
+      subst (λ (paths : List (List Pt)). IsRefused outlines i s paths by.fault)
+      (supports_of_are_one s tree i solids outlines by.supports supports by.are_supports are) by.refused
+
+  not_both : (layout : Layout) (budget : Budget) → IsPlannedOver outlines i s tree layout
+      → IsRefusedBy outlines i s tree budget → ⊥
+  not_both layout budget planned by =
+      accepted_is_not_refused outlines within i s range layout.supports layout.paths layout.runs by.fault
+      planned.accepted (refused_with layout.supports budget by planned.supports)
+
+  refused_is_one : (a b : Budget) → IsRefusedBy outlines i s tree a → IsRefusedBy outlines i s tree b → a ≡ b
+  refused_is_one a b by_a by_b =
+      let fault : by_a.fault ≡ by_b.fault =
+      refusals_are_one outlines within i s range by_a.supports by_a.fault by_b.fault by_a.refused
+      (refused_with by_a.supports b by_b by_a.are_supports) in
+      one_held a b (sym by_a.passed ∙ ap (plan_budget i) fault ∙ by_b.passed)
+
+  -- what is wanted
+  laid_out_is_one : (want : Want) (a b : Result Layout Budget) → IsLaidOut want s tree i outlines a
+      → IsLaidOut want s tree i outlines b → a ≡ b
+  laid_out_is_one Outlines a b is_a is_b = is_a ∙ sym is_b
+  laid_out_is_one Plan (Ok a) (Ok b) of_a of_b = ap Ok (planned_is_one a b of_a of_b)
+  laid_out_is_one Plan (Ok a) (Err b) of_a by_b = absurd (not_both a b of_a by_b)
+  laid_out_is_one Plan (Err a) (Ok b) by_a of_b = absurd (not_both b a of_b by_a)
+  laid_out_is_one Plan (Err a) (Err b) by_a by_b = ap Err (refused_is_one a b by_a by_b)
+
+-- ---- a layer, by the budget that is passed before it
+unless_is_one : (before : Option Budget) (want : Want) (s : Settings) (tree : Solid) (i : ℕ) → AreSolids tree
+    → AreInRange s → (a b : Result Layout Budget) → IsLayerUnless before want s tree i a
+    → IsLayerUnless before want s tree i b → a ≡ b
 unless_is_one (Some budget) want s tree i solids range a b is_a is_b = is_a ∙ sym is_b
 unless_is_one None want s tree i solids range a b (loops, of_loops, is_a) (others, of_others, is_b) =
     let same : others ≡ loops = layers_have_one_outlines i s.layer_height tree solids others loops of_others of_loops in
-    laid_out_is_one want s i loops (outlines_are_within i s.layer_height tree loops solids of_loops) range a b is_a
-    (subst (λ (ls : List (List Pt)). IsLaidOut want s i ls b) same is_b)
+    laid_out_is_one s tree i loops solids (outlines_are_within i s.layer_height tree loops solids of_loops) range want
+    a b is_a (subst (λ (ls : List (List Pt)). IsLaidOut want s tree i ls b) same is_b)
 
 pub layer_is_one : (want : Want) (s : Settings) (tree : Solid) (i : ℕ) → AreSolids tree → AreInRange s
     → (a b : Result Layout Budget) → IsLayer want s tree i a → IsLayer want s tree i b → a ≡ b
 layer_is_one want s tree i solids range a b is_a is_b =
-    unless_is_one (layer_budget s.layer_height tree i) want s tree i solids range a b is_a is_b
+    let same : is_b.before ≡ is_a.before =
+    before_is_one s tree i solids want is_b.before is_a.before is_b.passed is_a.passed in
+    unless_is_one is_a.before want s tree i solids range a b is_a.is
+    (subst (λ (before : Option Budget). IsLayerUnless before want s tree i b) same is_b.is)
 
 pub parts_are_one : PartsAreOne
 parts_are_one want s tree a b solids range of_a of_b =

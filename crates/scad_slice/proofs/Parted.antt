@@ -1,19 +1,22 @@
 -- How the script of a command goes: it is refused for the tree's number of layers, or a layer ends it, or it goes to
 -- its end.
-use Rattle.std.proofs.Common.{◌≡◌, ◌⊎◌, inl, inr, ◌<◌, ◌≤◌, List, [], ◌∷◌, ℕ, Bool, true, false, Option, Some}
+use Rattle.std.proofs.Common.{◌≡◌, ◌⊎◌, inl, inr, ◌<◌, ◌≤◌, List, [], ◌∷◌, ℕ, zero, suc, Bool, true, false, Option, Some}
 use Rattle.std.proofs.Common.{None, Result, Ok, Err, refl, sym, ap, ◌∙◌, subst, nat_lt, rules, arith}
 use Rattle.std.proofs.lemmas.Bool.Decides.{nat_tests}
 use Rattle.std.specs.Prelude.{unwrap_or, if◌then◌else◌}
 use Rattle.scad_fault.specs.declared.budget.Budget.{Budget}
 use Rattle.scad_fault.specs.declared.budget.BudgetKind.{BudgetKind}
-use Rattle.scad_fault.specs.declared.budget.BudgetKind.TheVariants.{LayerEdges, LayerCrossings, LayerMoves}
+use Rattle.scad_fault.specs.declared.budget.BudgetKind.TheVariants.{LayerEdges, LayerCrossings, LayerMoves, SupportRuns}
 use Rattle.scad_io.specs.declared.desk.Out.TheVariants.{Cli, Gcode}
 use Rattle.scad_script.specs.declared.refusal.Refusal.TheVariants.{Over}
 use Rattle.scad_script.specs.Steps.{Step, Makes}
 use Rattle.scad_script.specs.Script.{Script, Finishes, Refuses, first, ends, layers}
 use Rattle.scad_geom.specs.declared.point.Pt.{Pt}
 use Rattle.scad_tree.specs.Solid.{Solid}
+use Rattle.scad_tree.specs.Solids.{AreSolids}
 use Rattle.scad_words.specs.declared.settings.Settings.{Settings}
+use Rattle.scad_words.specs.Settings.{AreInRange}
+use Rattle.plan_support.specs.Covers.{run_count}
 use Rattle.plan_layer.specs.declared.fault.PlanFault.{PlanFault}
 use Rattle.plan_layer.specs.declared.fault.PlanFault.TheVariants.{Memory, Edges, Crossings, Moves}
 use Rattle.slice_work.specs.declared.want.Want.{Want}
@@ -25,10 +28,13 @@ use Rattle.slice_work.specs.Sums.{loop_count, moves_below}
 use Rattle.scad_slice.specs.Budgets.{layer_count, layers_passed, edges_passed, crossings_passed, moves_passed}
 use Rattle.scad_slice.specs.Budgets.{layer_budget, plan_budget}
 use Rattle.scad_slice.specs.Parts.{IsPart, AreMade}
-use Rattle.scad_slice.specs.Layer.{IsLaidOut, IsLayerUnless}
+use Rattle.scad_slice.specs.Layer.{IsLaidOut, IsLayerUnless, IsLayer}
+use Rattle.scad_slice.specs.Supports.{first_of, outlines_budget, stretches_passed, stretch_budget, IsStretchBudget, IsBudgetUnless, IsPassedBefore}
 use Rattle.scad_slice.specs.Script.{heads, tails, files, unless_many, done_line, plan_line, amount_below, slice_end}
 use Rattle.scad_slice.specs.Script.{plan_end, slice_script, plan_script}
 use Rattle.scad_slice.specs.Laws.{IsWhole}
+use Rattle.scad_slice.proofs.FirstOf.{first_alone, found_in}
+use Rattle.scad_slice.proofs.OneLayer.{layer_is_one}
 use Rattle.scad_slice.proofs.Layers.{written_from, Goes, goes, made_all, all_go, made_from}
 
 -- the outputs are created, and the heads and n layers written
@@ -183,6 +189,17 @@ pub record IsOfLayer (want : Want) (i : ℕ) (budget : Budget) : Type 0 where
   pub kind : IsKind want budget.kind
   pub layer : budget.layer ≡ i
 
+-- of outlines, or of the stretches below higher layers
+abbrev pub IsKindOfAll : BudgetKind → Type 0
+IsKindOfAll kind = (kind ≡ LayerEdges) ⊎ ((kind ≡ LayerCrossings) ⊎ (kind ≡ SupportRuns))
+
+-- with supports it may be passed by every layer
+pub record IsOfAll (want : Want) (s : Settings) (tree : Solid) (budget : Budget) : Type 0 where
+  pub plan : want ≡ Plan
+  pub spacing : 0 < s.support_spacing
+  pub kind : IsKindOfAll budget.kind
+  pub passed : (i : ℕ) → IsPassedBefore want s tree i (Some budget)
+
 of_edges : (want : Want) (i edges : ℕ) → IsOfLayer want i (edges_passed i edges)
 of_edges Outlines i edges = record { kind = inl refl; layer = refl }
 of_edges Plan i edges = record { kind = inl refl; layer = refl }
@@ -191,9 +208,13 @@ of_crossings : (want : Want) (i crossed : ℕ) → IsOfLayer want i (crossings_p
 of_crossings Outlines i crossed = record { kind = inr refl; layer = refl }
 of_crossings Plan i crossed = record { kind = inr (inl refl); layer = refl }
 
+-- what an option holds
+one_held : (a b : Budget) → Some a ≡ Some b → a ≡ b
+one_held a b same = ap (λ o. unwrap_or o a) same
+
 held : (want : Want) (i : ℕ) (found budget : Budget) → Some found ≡ Some budget → IsOfLayer want i found
     → IsOfLayer want i budget
-held want i found budget same is = subst (IsOfLayer want i) (ap (λ o. unwrap_or o found) same) is
+held want i found budget same is = subst (IsOfLayer want i) (one_held found budget same) is
 
 outlines_by : (want : Want) (i edges crossed : ℕ) (a b : Bool) (budget : Budget)
     → (if a then Some (edges_passed i edges) else if b then Some (crossings_passed i crossed) else None) ≡ Some budget
@@ -204,10 +225,10 @@ outlines_by want i edges crossed false true budget same =
     held want i (crossings_passed i crossed) budget same (of_crossings want i crossed)
 outlines_by want i edges crossed false false budget same = let never : ⊥ = cc in absurd never
 
-outlines_budget : (want : Want) (h : ℕ) (tree : Solid) (i : ℕ) (budget : Budget) → layer_budget h tree i ≡ Some budget
+of_outlines : (want : Want) (h : ℕ) (tree : Solid) (i : ℕ) (budget : Budget) → layer_budget h tree i ≡ Some budget
     → IsOfLayer want i budget
 unfolding layer_budget
-outlines_budget want h tree i budget passed = outlines_by want i _ _ _ _ budget passed
+of_outlines want h tree i budget passed = outlines_by want i _ _ _ _ budget passed
 
 of_plan : (i : ℕ) (fault : PlanFault) (budget : Budget) → plan_budget i fault ≡ Some budget → IsOfLayer Plan i budget
 of_plan i Memory budget passed = let never : ⊥ = cc in absurd never
@@ -216,23 +237,115 @@ of_plan i (Crossings n) budget passed = held Plan i (crossings_passed i n) budge
 of_plan i (Moves n) budget passed =
     held Plan i (moves_passed i n) budget passed (record { kind = inr (inr refl); layer = refl })
 
-laid_out_by : (want : Want) (s : Settings) (i : ℕ) (outlines : List (List Pt)) (budget : Budget)
-    → IsLaidOut want s i outlines (Err budget) → IsOfLayer want i budget
-laid_out_by Outlines s i outlines budget same = let never : ⊥ = cc in absurd never
-laid_out_by Plan s i outlines budget refused = of_plan i refused.fault budget refused.passed
+laid_out_by : (want : Want) (s : Settings) (tree : Solid) (i : ℕ) (outlines : List (List Pt)) (budget : Budget)
+    → IsLaidOut want s tree i outlines (Err budget) → IsOfLayer want i budget
+laid_out_by Outlines s tree i outlines budget same = let never : ⊥ = cc in absurd never
+laid_out_by Plan s tree i outlines budget refused = of_plan i refused.fault budget refused.passed
 
-layer_by : (want : Want) (s : Settings) (tree : Solid) (i : ℕ) (budget : Budget) (passed : Option Budget)
-    → layer_budget s.layer_height tree i ≡ passed → IsLayerUnless passed want s tree i (Err budget)
-    → IsOfLayer want i budget
-layer_by want s tree i budget (Some other) is same =
+-- ---- with supports
+module _ (s : Settings) (tree : Solid) (budget : Budget) (spaced : 0 < s.support_spacing) where
+  kind_of_outlines : (kind : BudgetKind) → IsKind Outlines kind → IsKindOfAll kind
+  kind_of_outlines kind (inl edges) = inl edges
+  kind_of_outlines kind (inr crossed) = inr (inl crossed)
+
+  -- the budget of the least layer whose outlines pass one
+  all_outlines : outlines_budget s.layer_height tree ≡ Some budget → IsOfAll Plan s tree budget
+  all_outlines is =
+      let found =
+      found_in (layer_budget s.layer_height tree) 0 (layer_count s.layer_height tree) budget is in
+      record {
+        plan = refl;
+        spacing = spaced;
+        kind =
+            kind_of_outlines budget.kind (of_outlines Outlines s.layer_height tree found.0 budget found.1).kind;
+        passed = λ i. inr (record {
+          spacing = spaced;
+          is = subst (λ (o : Option Budget). IsBudgetUnless o s tree i (Some budget)) (sym is) refl;
+        });
+      }
+
+  kind_of_stretches : (many : Bool) (count : ℕ) → (if many then Some (stretches_passed count) else None) ≡ Some budget
+      → budget.kind ≡ SupportRuns
+  kind_of_stretches true count same = ap (λ (b : Budget). b.kind) (sym (one_held (stretches_passed count) budget same))
+  kind_of_stretches false count same = let never : ⊥ = cc in absurd never
+
+  -- the budget of the stretches, or that of the layer's own outlines
+  by_stretches : (i : ℕ) → outlines_budget s.layer_height tree ≡ None → (by : IsStretchBudget s tree i (Some budget))
+      → (found : Option Budget) → stretch_budget (run_count by.covers) ≡ found
+      → IsOfLayer Plan i budget ⊎ IsOfAll Plan s tree budget
+  by_stretches i none by None e =
+      inl (of_outlines Plan s.layer_height tree i budget
+      (first_alone (layer_budget s.layer_height tree i)
+      ∙ ap (λ (o : Option Budget). first_of (o ∷ layer_budget s.layer_height tree i ∷ [])) (sym e)
+      ∙ sym by.is))
+  by_stretches i none by (Some other) e =
+      let same : stretch_budget (run_count by.covers) ≡ Some budget =
+      e ∙ sym (ap (λ (o : Option Budget). first_of (o ∷ layer_budget s.layer_height tree i ∷ [])) e) ∙ sym by.is in
+      inr (record {
+        plan = refl;
+        spacing = spaced;
+        kind = inr (inr (kind_of_stretches _ _ same));
+        passed = λ j. inr (record {
+          spacing = spaced;
+          is =
+              subst (λ (o : Option Budget). IsBudgetUnless o s tree j (Some budget)) (sym none)
+              (record {
+                all = by.all;
+                are_all = by.are_all;
+                covers = by.covers;
+                overhung = by.overhung;
+                is =
+                    sym
+                    (ap (λ (o : Option Budget). first_of (o ∷ layer_budget s.layer_height tree j ∷ [])) same);
+              });
+        });
+      })
+
+  by_all : (i : ℕ) (found : Option Budget) → outlines_budget s.layer_height tree ≡ found
+      → IsBudgetUnless found s tree i (Some budget) → IsOfLayer Plan i budget ⊎ IsOfAll Plan s tree budget
+  by_all i (Some other) e is = inr (all_outlines (e ∙ sym is))
+  by_all i None e is = by_stretches i e is (stretch_budget (run_count is.covers)) refl
+
+-- ---- a layer
+
+before_by : (want : Want) (s : Settings) (tree : Solid) (i : ℕ) (budget : Budget)
+    → IsPassedBefore want s tree i (Some budget) → IsOfLayer want i budget ⊎ IsOfAll want s tree budget
+before_by Outlines s tree i budget is = inl (of_outlines Outlines s.layer_height tree i budget (sym is))
+before_by Plan s tree i budget (inl own) = inl (of_outlines Plan s.layer_height tree i budget (sym own.is))
+before_by Plan s tree i budget (inr of_all) =
+    by_all s tree budget of_all.spacing i (outlines_budget s.layer_height tree) refl
+    (subst (λ (o : Option Budget). IsBudgetUnless o s tree i (Some budget)) refl of_all.is)
+
+layer_by : (want : Want) (s : Settings) (tree : Solid) (i : ℕ) (budget : Budget) (before : Option Budget)
+    → IsPassedBefore want s tree i before → IsLayerUnless before want s tree i (Err budget)
+    → IsOfLayer want i budget ⊎ IsOfAll want s tree budget
+layer_by want s tree i budget (Some other) passed same =
     let one : other ≡ budget =
     sym (ap (λ (l : Result Layout Budget). elim l [ Ok layout ↦ budget | Err b ↦ b ]) same) in
-    subst (IsOfLayer want i) one (outlines_budget want s.layer_height tree i other is)
-layer_by want s tree i budget None is (outlines, of_tree, laid) = laid_out_by want s i outlines budget laid
+    before_by want s tree i budget (subst (λ (b : Budget). IsPassedBefore want s tree i (Some b)) one passed)
+layer_by want s tree i budget None passed (outlines, of_tree, laid) =
+    inl (laid_out_by want s tree i outlines budget laid)
 
+-- it is the layer's own, or that of all layers, so that none is written
 pub budget_of_layer : (want : Want) (s : Settings) (tree : Solid) (part : Part) (i : ℕ) (budget : Budget)
-    → IsPart want s tree part → part i ≡ Err budget → IsOfLayer want i budget
+    → IsPart want s tree part → part i ≡ Err budget → IsOfLayer want i budget ⊎ IsOfAll want s tree budget
 budget_of_layer want s tree part i budget of_part passed =
-    layer_by want s tree i budget (layer_budget s.layer_height tree i) refl
-    (subst (λ (l : Result Layout Budget). IsLayerUnless (layer_budget s.layer_height tree i) want s tree i l) passed
-    (of_part i))
+    let layer : IsLayer want s tree i (Err budget) = subst (IsLayer want s tree i) passed (of_part i) in
+    layer_by want s tree i budget layer.before layer.passed layer.is
+
+-- what is passed by every layer is passed by each layer of a part
+pub passed_by_all : (want : Want) (s : Settings) (tree : Solid) (part : Part) (budget : Budget) → AreSolids tree
+    → AreInRange s → IsPart want s tree part → ((i : ℕ) → IsPassedBefore want s tree i (Some budget))
+    → (i : ℕ) → part i ≡ Err budget
+passed_by_all want s tree part budget solids range of_part passed i =
+    layer_is_one want s tree i solids range (part i) (Err budget) (of_part i)
+    (record { before = Some budget; passed = passed i; is = refl })
+
+-- so none is made
+pub none_made : (part : Part) (layer : ℕ) (budget : Budget) → part 0 ≡ Err budget → AreMade part layer → layer ≡ 0
+none_made part zero budget passed made = refl
+none_made part (suc n) budget passed made =
+    let found = made 0 (omega arith) in
+    let same : Ok found.0 ≡ Err budget = sym found.1 ∙ passed in
+    let never : ⊥ = cc in
+    absurd never

@@ -14,43 +14,62 @@ use Rattle.plan_layer.proofs.Decided.{plans_are_decided}
 use Rattle.slice_work.specs.declared.want.Want.{Want}
 use Rattle.slice_work.specs.declared.want.Want.TheVariants.{Outlines, Plan}
 use Rattle.slice_work.specs.Part.{Layout}
-use Rattle.scad_slice.specs.Budgets.{edges_passed, crossings_passed, moves_passed, layer_budget}
+use Rattle.scad_slice.specs.Budgets.{edges_passed, crossings_passed, moves_passed}
+use Rattle.scad_slice.specs.Supports.{AreSupportsOf}
 use Rattle.scad_slice.specs.Layer.{IsLaidOut, IsLayerUnless, IsLayer}
 use Rattle.scad_slice.specs.Laws.{PartsAreThere}
+use Rattle.scad_slice.proofs.SomeSupports.{supports_are, before_is_there}
 
 -- ---- a layer
 
-refused_out : (s : Settings) (i : ℕ) (outlines : List (List Pt)) (fault : PlanFault) → IsRefused outlines i s fault
-    → (layer : Result Layout Budget) × IsLaidOut Plan s i outlines layer
-refused_out s i outlines Memory refused = absurd (refused.known refl)
-refused_out s i outlines (Edges n) refused =
-    (Err (edges_passed i n), record { fault = Edges n; refused = refused; passed = refl })
-refused_out s i outlines (Crossings n) refused =
-    (Err (crossings_passed i n), record { fault = Crossings n; refused = refused; passed = refl })
-refused_out s i outlines (Moves n) refused =
-    (Err (moves_passed i n), record { fault = Moves n; refused = refused; passed = refl })
+module _ (s : Settings) (tree : Solid) (i : ℕ) (outlines supports : List (List Pt)) where
+  refused_out : (fault : PlanFault) → AreSupportsOf s tree i outlines supports
+      → IsRefused outlines i s supports fault → (layer : Result Layout Budget) × IsLaidOut Plan s tree i outlines layer
+  refused_out Memory are refused = absurd (refused.known refl)
+  refused_out (Edges n) are refused = (
+    Err (edges_passed i n),
+    record { supports = supports; are_supports = are; fault = Edges n; refused = refused; passed = refl },
+  )
+  refused_out (Crossings n) are refused = (
+    Err (crossings_passed i n),
+    record { supports = supports; are_supports = are; fault = Crossings n; refused = refused; passed = refl },
+  )
+  refused_out (Moves n) are refused = (
+    Err (moves_passed i n),
+    record { supports = supports; are_supports = are; fault = Moves n; refused = refused; passed = refl },
+  )
 
-planned_out : (s : Settings) (i : ℕ) (outlines : List (List Pt)) → HasAccepted outlines i s ⊎ HasRefusal outlines i s
-    → (layer : Result Layout Budget) × IsLaidOut Plan s i outlines layer
-planned_out s i outlines (inl has) = (Ok (record { outlines = outlines; paths = has.paths; runs = has.runs }), (refl, has.accepted))
-planned_out s i outlines (inr has) = refused_out s i outlines has.fault has.refused
+  planned_out : AreSupportsOf s tree i outlines supports
+      → HasAccepted outlines i s supports ⊎ HasRefusal outlines i s supports
+      → (layer : Result Layout Budget) × IsLaidOut Plan s tree i outlines layer
+  planned_out are (inl has) = (
+    Ok (record { outlines = outlines; paths = has.paths; runs = has.runs; supports = supports }),
+    record { outlines_are = refl; supports = are; accepted = has.accepted },
+  )
+  planned_out are (inr has) = refused_out has.fault are has.refused
 
-laid_out : (want : Want) (s : Settings) (i : ℕ) (outlines : List (List Pt)) → (layer : Result Layout Budget)
-    × IsLaidOut want s i outlines layer
-laid_out Outlines s i outlines = (Ok (record { outlines = outlines; paths = []; runs = 0 }), refl)
-laid_out Plan s i outlines = planned_out s i outlines (plans_are_decided outlines i s)
+laid_out : (want : Want) (s : Settings) (tree : Solid) (i : ℕ) (outlines : List (List Pt)) → AreSolids tree
+    → (layer : Result Layout Budget) × IsLaidOut want s tree i outlines layer
+laid_out Outlines s tree i outlines solids =
+    (Ok (record { outlines = outlines; paths = []; runs = 0; supports = [] }), refl)
+laid_out Plan s tree i outlines solids =
+    let has = supports_are s tree i solids outlines in
+    planned_out s tree i outlines has.0 has.1 (plans_are_decided outlines i s has.0)
 
-layer_unless : (passed : Option Budget) (want : Want) (s : Settings) (tree : Solid) (i : ℕ) → AreSolids tree
-    → (layer : Result Layout Budget) × IsLayerUnless passed want s tree i layer
+layer_unless : (before : Option Budget) (want : Want) (s : Settings) (tree : Solid) (i : ℕ) → AreSolids tree
+    → (layer : Result Layout Budget) × IsLayerUnless before want s tree i layer
 layer_unless (Some budget) want s tree i solids = (Err budget, refl)
 layer_unless None want s tree i solids =
     let has = layers_have_outlines i s.layer_height tree solids in
-    let laid = laid_out want s i has.outlines in
+    let laid = laid_out want s tree i has.outlines solids in
     (laid.0, (has.outlines, has.are_outlines, laid.1))
 
 some_layer : (want : Want) (s : Settings) (tree : Solid) → AreSolids tree → (i : ℕ) → (layer : Result Layout Budget)
     × IsLayer want s tree i layer
-some_layer want s tree solids i = layer_unless (layer_budget s.layer_height tree i) want s tree i solids
+some_layer want s tree solids i =
+    let before = before_is_there s tree i solids want in
+    let found = layer_unless before.0 want s tree i solids in
+    (found.0, record { before = before.0; passed = before.1; is = found.1 })
 
 -- ---- a part
 

@@ -6,7 +6,6 @@ use Rattle.std.specs.List.{range_with_len}
 use Rattle.std.proofs.lemmas.List.{append-nil}
 use Rattle.std.proofs.lemmas.Grind.{flat_map-append}
 use Rattle.std.proofs.lemmas.List.FromFn.{length-map-range_with_len, sum_by-map-range_with_len_more}
-use Rattle.scad_geom.specs.declared.point.Pt.{Pt}
 use Rattle.scad_io.specs.declared.desk.Out.{Out}
 use Rattle.scad_io.specs.declared.desk.Out.TheVariants.{Cli, Gcode}
 use Rattle.scad_script.specs.Steps.{Step, piece_for, text_of}
@@ -15,10 +14,11 @@ use Rattle.scad_tree.specs.Solid.{Solid}
 use Rattle.cli_text.specs.Cli as outline
 use Rattle.gcode_text.specs.Amount.{paths_volume}
 use Rattle.gcode_text.specs.Gcode as program
+use Rattle.gcode_text.specs.Gcode.{Printed, printed_paths}
 use Rattle.gcode_text.specs.declared.rates.Rates.{Rates}
 use Rattle.slice_work.specs.declared.want.Want.{Want}
 use Rattle.slice_work.specs.declared.want.Want.TheVariants.{Outlines, Plan}
-use Rattle.slice_work.specs.Part.{Layout, Part, outlines_of, hatches_of, paths_of}
+use Rattle.slice_work.specs.Part.{Layout, Part, outlines_of, hatches_of, printed_of}
 use Rattle.slice_work.specs.Script.{layout_lines, written_unless, layer_steps, volume_below}
 use Rattle.slice_work.specs.Rates.{rates_of}
 use Rattle.scad_slice.specs.Budgets.{layer_count}
@@ -105,38 +105,40 @@ module _ (s : Settings) (part : Part) where
   abbrev volume : ℕ → ℕ
   volume n = volume_below Plan (rates_of s) part n
 
-  abbrev paths_at : ℕ → List (List Pt)
-  paths_at i = paths_of Plan (part i)
+  abbrev printed_at : ℕ → Printed
+  printed_at i = printed_of Plan (part i)
 
-  volume_next : (i : ℕ) → volume (i + 1) ≡ volume i + paths_volume (rates_of s) (paths_at i)
+  volume_next : (i : ℕ) → volume (i + 1) ≡ volume i + paths_volume (rates_of s) (printed_paths (printed_at i))
   volume_next i =
-      sum_by-map-range_with_len_more (λ layer. paths_volume (rates_of s) (paths_of Plan layer)) part 0 i i (omega arith)
+      sum_by-map-range_with_len_more (λ layer. paths_volume (rates_of s) (printed_paths (printed_of Plan layer))) part 0
+      i i (omega arith)
 
   program_here : (i : ℕ) (layout : Layout) → part i ≡ Ok layout
       → text_of Gcode (steps_of (layer_steps Plan (rates_of s) part i))
-      ≡ program.layer_text (rates_of s) (volume i) i (paths_at i)
+      ≡ program.printed_text (rates_of s) (volume i) i (printed_at i)
   program_here i layout is =
       ap (λ l. text_of Gcode (steps_of (written_unless Plan (rates_of s) (volume i) i l))) is
-      ∙ append-nil (program.layer_text (rates_of s) (volume i) i layout.paths)
-      ∙ ap (λ l. program.layer_text (rates_of s) (volume i) i (paths_of Plan l)) (sym is)
+      ∙ append-nil (program.printed_text (rates_of s) (volume i) i (printed_of Plan (Ok layout)))
+      ∙ ap (λ l. program.printed_text (rates_of s) (volume i) i (printed_of Plan l)) (sym is)
 
   program_written : (i n : ℕ) (rest : List Step) → AreMadeFrom part i n
       → text_of Gcode (written_from Plan (rates_of s) part i n ++ rest)
-      ≡ program.layers_text (rates_of s) (volume i) i (map paths_at (range_with_len i n)) ++ text_of Gcode rest
+      ≡ program.layers_text (rates_of s) (volume i) i (map printed_at (range_with_len i n)) ++ text_of Gcode rest
   unfolding program.layers_text
   program_written i zero rest made = refl
   program_written i (suc n) rest made =
       let here = made_here part i n made in
-      let some = program.layers_text (rates_of s) (volume (i + 1)) (i + 1) (map paths_at (range_with_len (i + 1) n)) in
+      let some =
+      program.layers_text (rates_of s) (volume (i + 1)) (i + 1) (map printed_at (range_with_len (i + 1) n)) in
       joined_text Gcode (steps_of (layer_steps Plan (rates_of s) part i))
       (written_from Plan (rates_of s) part (i + 1) n) rest
-      (program.layer_text (rates_of s) (volume i) i (paths_at i)) (some ++ text_of Gcode rest)
+      (program.printed_text (rates_of s) (volume i) i (printed_at i)) (some ++ text_of Gcode rest)
       (program_here i here.0 here.1)
       (program_written (i + 1) n rest (made_behind part i n made))
-      ∙ sym (append_assoc (program.layer_text (rates_of s) (volume i) i (paths_at i)) some (text_of Gcode rest))
+      ∙ sym (append_assoc (program.printed_text (rates_of s) (volume i) i (printed_at i)) some (text_of Gcode rest))
       ∙ ap (λ v.
-      (program.layer_text (rates_of s) (volume i) i (paths_at i)
-      ++ program.layers_text (rates_of s) v (i + 1) (map paths_at (range_with_len (i + 1) n)))
+      (program.printed_text (rates_of s) (volume i) i (printed_at i)
+      ++ program.layers_text (rates_of s) v (i + 1) (map printed_at (range_with_len (i + 1) n)))
       ++ text_of Gcode rest) (volume_next i)
 
   program_whole : (n : ℕ) → program.head s.hot_end s.bed

@@ -1,5 +1,8 @@
 pub mod Budgets
+pub mod Supports
+pub mod Covers
 pub mod Layer
+pub mod Drawn
 pub mod Parts
 pub mod Script
 pub mod Membership

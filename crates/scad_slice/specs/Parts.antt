@@ -1,13 +1,13 @@
 -- What is drawn of a tree by settings: each of its layers.
 use Rattle.std.specs.Prelude.{◌≡◌, ◌<◌, ◌+◌, ◌*◌, ℕ, List, map, Ok}
 use Rattle.std.specs.List.{range_with_len}
-use Rattle.scad_geom.specs.declared.point.Pt.{Pt}
 use Rattle.scad_tree.specs.Solid.{Solid}
 use Rattle.scad_words.specs.declared.settings.Settings.{Settings}
 use Rattle.cli_text.specs.Cli.{Layer}
+use Rattle.gcode_text.specs.Gcode.{Printed}
 use Rattle.slice_work.specs.declared.want.Want.{Want}
 use Rattle.slice_work.specs.declared.want.Want.TheVariants.{Plan}
-use Rattle.slice_work.specs.Part.{Layout, Part, outlines_of, hatches_of, paths_of}
+use Rattle.slice_work.specs.Part.{Layout, Part, outlines_of, hatches_of, printed_of}
 use Rattle.scad_slice.specs.Layer.{IsLayer}
 
 -- Each layer is the tree's. A tree of solids has a part, and by settings in range one (the laws).
@@ -26,6 +26,6 @@ layer_at h part i = record { z = h * (i + 1); loops = outlines_of (part i); hatc
 abbrev pub layers_of : ℕ → Part → ℕ → List Layer
 layers_of h part n = map (layer_at h part) (range_with_len 0 n)
 
--- the paths of the first n layers
-abbrev pub plans_of : Part → ℕ → List (List (List Pt))
-plans_of part n = map (λ i. paths_of Plan (part i)) (range_with_len 0 n)
+-- what is printed of the first n layers
+abbrev pub plans_of : Part → ℕ → List Printed
+plans_of part n = map (λ i. printed_of Plan (part i)) (range_with_len 0 n)

@@ -5,6 +5,7 @@
 //! has one such part, whose layers hold what the tree contains.
 #![tactic(auto)]
 
+mod covers;
 pub mod laws;
 mod layer;
 mod layer_count;

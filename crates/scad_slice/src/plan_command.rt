@@ -22,7 +22,9 @@ use std::thread::Threads;
 /// line, or why it stopped.
 ///
 /// More than 20,000 layers are refused before a file is created. The outlines are created first. The work on the
-/// layers is done by the workpiece's workers, and a layer that passes a budget ends both files, as `draw` says.
+/// layers is done by the workpiece's workers, and a layer that passes a budget ends both files, as `draw` says. With
+/// the setting `support_spacing` not 0 the program prints supports too: of each layer runs under what any higher layer
+/// has.
 pub fn plan<R: Threads + Sync, D: Desk, G: Gate>(
     rt: &R,
     alloc: Global,

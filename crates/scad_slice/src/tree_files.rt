@@ -13,13 +13,14 @@ ghost use Rattle.scad_slice.specs.Budgets.{layer_count};
 ghost use Rattle.scad_slice.specs.Parts.{IsPart};
 ghost use Rattle.scad_slice.specs.Script.{files, IsWritten};
 
+use crate::covers::covers_of;
 use crate::pieces::{send_heads, send_tails};
 use crate::summary::{Sizes, Written};
-use crate::tree_work::TreeWork;
+use crate::tree_work::work_on;
 use crate::workpiece::Workpiece;
 use scad_io::{Desk, Gate};
 use scad_script::{Refusal, Stop};
-use slice_work::{Print, Summary, Want, WorkFault, work};
+use slice_work::{Summary, SurveyFault, Want, WorkFault, work};
 use std::alloc::Global;
 use std::thread::Threads;
 
@@ -31,6 +32,10 @@ use std::thread::Threads;
 /// 20,000 edges, or then more than 2,000,000 crossings of edges, ends the files before its own bytes; with a plan so
 /// does one whose walls have too many edges or crossings, or then whose plan has too many moves. The answer is the
 /// budget of the lowest such layer.
+///
+/// With the setting `support_spacing` not 0 a plan prints support runs of each layer under what any higher layer has.
+/// So the sections of all layers are judged behind the heads, and then the stretches of support lines below higher
+/// layers, of which there are at most 10,000,000; what passes its budget ends the files before the lowest layer.
 pub fn draw<R: Threads + Sync, D: Desk, G: Gate>(
     rt: &R,
     alloc: Global,
@@ -62,6 +67,7 @@ pub fn draw<R: Threads + Sync, D: Desk, G: Gate>(
     }
 }
 
+// Writes the layers; where what stands below higher layers passes a budget, none.
 fn send_layers<R: Threads + Sync, D: Desk, G: Gate>(
     rt: &R,
     alloc: Global,
@@ -71,6 +77,7 @@ fn send_layers<R: Threads + Sync, D: Desk, G: Gate>(
     desk: &mut D,
 ) -> Result<Summary, Stop>
     requires few { count ≤ layer_limit }
+    requires counted { count ≡ layer_count workpiece.now.settings.layer_height (solid_of workpiece.now.tree.now) }
     requires sound { Sound (D.view desk.old) }
     requires there { AreThere want (D.view desk.old) }
 
@@ -82,17 +89,14 @@ fn send_layers<R: Threads + Sync, D: Desk, G: Gate>(
         → IsSummary want (rates_of workpiece.now.settings) part count s) }
     ensures kept { Keeps D.files D.view D.faults desk.old desk.new result }
 {
-    let print = Print {
-        settings: workpiece.settings,
-        want,
-        workers: workpiece.workers,
+    workpiece.tree.are_solids();
+    let covers = match covers_of(rt, alloc, workpiece, want, count) {
+        Ok(covers) => covers,
+        Err(SurveyFault::Memory) => return Err(Stop::Memory),
+        Err(SurveyFault::Over(budget)) => return Err(Stop::Ends(Refusal::Over(budget))),
     };
-    let layers = TreeWork {
-        tree: workpiece.tree,
-        print,
-        gate: workpiece.gate,
-    };
-    match work(rt, alloc, count, &layers, &print, desk) {
+    let layers = work_on(workpiece, want, count, covers.as_ref());
+    match work(rt, alloc, count, &layers, &layers.print, desk) {
         Ok(told) => Ok(told),
         Err(fault) => Err(stop_of(fault)),
     }

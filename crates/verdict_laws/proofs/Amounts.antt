@@ -1,8 +1,9 @@
 -- The filament that a program takes, by the length of its text.
-use Rattle.std.proofs.Common.{ℕ, ◌+◌, ◌*◌, ◌/◌, ◌<◌, ◌≤◌, ◌⊎◌, inl, inr, List, [], ◌∷◌, ◌++◌, length, arith, ℤ, ◌-ℤ◌}
+use Rattle.std.proofs.Common.{ℕ, ◌+◌, ◌*◌, ◌/◌, ◌<◌, ◌≤◌, ◌⊎◌, inl, inr, List, [], ◌∷◌, ◌++◌, length, map, subst, arith, ℤ, ◌-ℤ◌}
 use Rattle.std.specs.Prelude.{unsigned_abs}
 use Rattle.std.specs.List.{AllByRecursion}
 use Rattle.std.proofs.lemmas.Bool.{cases_lt}
+use Rattle.std.proofs.lemmas.Grind.{flat_map-append}
 use Rattle.std.proofs.lemmas.Int.{ints}
 use Rattle.std.proofs.lemmas.List.{length-append}
 use Rattle.std.proofs.lemmas.Nat.{mul-le}
@@ -16,8 +17,9 @@ use Rattle.scad_geom.specs.Within.{IsWithin, IsEdgeWithin}
 use Rattle.plan_layer.specs.Moves.{moves_from, moves, all_moves}
 use Rattle.gcode_text.specs.declared.rates.Rates.{Rates}
 use Rattle.gcode_text.specs.Amount.{square, length_of, move_volume, moves_volume, path_volume, paths_volume, layers_volume, filament}
-use Rattle.gcode_text.specs.Gcode.{target, print_line, travel_line, number_line, height_line, moves_text, path_text, paths_text, layers_text, head, end, gcode}
+use Rattle.gcode_text.specs.Gcode.{target, print_line, travel_line, number_line, height_line, supports_line, moves_text, path_text, paths_text, Printed, printed_paths, supports_text, printed_text, layers_text, head, end, gcode}
 use Rattle.gcode_text.specs.Moves.{surface}
+use Rattle.print_laws.proofs.Extruded.{both_volumes}
 use Rattle.print_laws.proofs.Points.{all_front, all_back}
 use Rattle.verdict_laws.specs.Printed.{file_limit}
 
@@ -95,31 +97,56 @@ module _ (rates : Rates) (width : rates.line_width ≤ 2000) (height : rates.lay
       let more = of_paths w paths (all_back (IsEdgeWithin point_limit) (moves path) (all_moves paths) h) in
       omega (arith, both, one, more)
 
-  of_layers : (v layer : ℕ) (layers : List (List (List Pt)))
-      → AllByRecursion (λ paths. AllByRecursion (IsEdgeWithin point_limit) (all_moves paths)) layers
-      → layers_volume rates layers ≤ length (layers_text rates v layer layers) * move_most
+  of_supports : (v : ℕ) (paths : List (List Pt)) → AllByRecursion (IsEdgeWithin point_limit) (all_moves paths)
+      → paths_volume rates paths ≤ length (supports_text rates v paths) * move_most
+  unfolding paths_volume
+  of_supports v [] h = omega arith
+  of_supports v (path ∷ paths) h =
+      let both = length-append supports_line (paths_text rates v (path ∷ paths)) in
+      let more = of_paths v (path ∷ paths) h in
+      omega (arith, both, more)
+
+  -- of a layer's own paths, and of its supports behind them
+  of_printed : (v layer : ℕ) (printed : Printed)
+      → AllByRecursion (IsEdgeWithin point_limit) (all_moves (printed_paths printed))
+      → paths_volume rates (printed_paths printed) ≤ length (printed_text rates v layer printed) * move_most
+  of_printed v layer printed h =
+      let own : List (List Pt) = printed.paths in
+      let more : List (List Pt) = printed.supports in
+      let w : ℕ = v + paths_volume rates own in
+      let within = subst (AllByRecursion (IsEdgeWithin point_limit)) (flat_map-append moves own more) h in
+      let front : List ℕ = number_line layer ++ height_line rates (surface rates layer) in
+      let here = length-append front (paths_text rates v own) in
+      let both = length-append (front ++ paths_text rates v own) (supports_text rates w more) in
+      let one = of_paths v own (all_front (IsEdgeWithin point_limit) (all_moves own) (all_moves more) within) in
+      let two = of_supports w more (all_back (IsEdgeWithin point_limit) (all_moves own) (all_moves more) within) in
+      let sum = both_volumes rates own more in
+      omega (arith, here, both, one, two, sum)
+
+  of_layers : (v layer : ℕ) (layers : List Printed)
+      → AllByRecursion (λ paths. AllByRecursion (IsEdgeWithin point_limit) (all_moves paths)) (map printed_paths layers)
+      → layers_volume rates (map printed_paths layers) ≤ length (layers_text rates v layer layers) * move_most
   unfolding layers_volume layers_text
   of_layers v layer [] h = omega arith
-  of_layers v layer (paths ∷ layers) h =
-      let w : ℕ = v + paths_volume rates paths in
-      let front : List ℕ = number_line layer ++ height_line rates (surface rates layer) in
-      let here = length-append front (paths_text rates v paths) in
-      let both = length-append (front ++ paths_text rates v paths) (layers_text rates w (layer + 1) layers) in
-      let one = of_paths v paths h.0 in
+  of_layers v layer (printed ∷ layers) h =
+      let w : ℕ = v + paths_volume rates (printed_paths printed) in
+      let both = length-append (printed_text rates v layer printed) (layers_text rates w (layer + 1) layers) in
+      let one = of_printed v layer printed h.0 in
       let more = of_layers w (layer + 1) layers h.1 in
-      omega (arith, here, both, one, more)
+      omega (arith, both, one, more)
 
   -- ---- a program
-  pub amount_in_range : (hot_end bed : ℕ) (layers : List (List (List Pt))) → 100000 ≤ rates.filament_area
-      → AllByRecursion (λ paths. AllByRecursion (IsEdgeWithin point_limit) (all_moves paths)) layers
+  pub amount_in_range : (hot_end bed : ℕ) (layers : List Printed) → 100000 ≤ rates.filament_area
+      → AllByRecursion (λ paths. AllByRecursion (IsEdgeWithin point_limit) (all_moves paths)) (map printed_paths layers)
       → length (gcode rates hot_end bed layers) ≤ file_limit
-      → filament rates (layers_volume rates layers) ≤ 2000000000000000000
+      → filament rates (layers_volume rates (map printed_paths layers)) ≤ 2000000000000000000
   unfolding filament
   amount_in_range hot_end bed layers area within short =
       let volume = of_layers 0 0 layers within in
       let front = length-append (head hot_end bed) (layers_text rates 0 0 layers) in
       let whole = length-append (head hot_end bed ++ layers_text rates 0 0 layers) end in
-      let q : ℕ = 100 * layers_volume rates layers / rates.filament_area in
+      let all : ℕ = layers_volume rates (map printed_paths layers) in
+      let q : ℕ = 100 * all / rates.filament_area in
       let least = mul-le q 100000 q rates.filament_area (omega arith) area in
-      let most = div-mul-le_self (100 * layers_volume rates layers) rates.filament_area in
+      let most = div-mul-le_self (100 * all) rates.filament_area in
       omega (arith, volume, front, whole, short, least, most)

@@ -11,7 +11,7 @@ use Rattle.scad_geom.specs.declared.point.Pt.{Pt}
 use Rattle.scad_geom.specs.Limits.{coordinate_limit}
 use Rattle.scad_geom.specs.Within.{IsWithin}
 use Rattle.gcode_text.specs.declared.rates.Rates.{Rates}
-use Rattle.gcode_text.specs.Gcode.{travel_line, print_line, height_line, number_line, heat_line, setup, home, end}
+use Rattle.gcode_text.specs.Gcode.{travel_line, print_line, height_line, number_line, supports_line, heat_line, setup, home, end}
 use Rattle.gcode_text.specs.Numeral.{fixed, millimetres}
 use Rattle.gcode_text.specs.Reading.{lines, without_return, without_comment, words, number, size_of, whole_size, are_digits}
 use Rattle.gcode_text.specs.Machine.{State, any, limited, command_of, plain_commands, takes, was_given, with_number, with_word, with_words, words_line, counting, line_step}
@@ -122,6 +122,10 @@ leads_number layer h =
     leads_line (codes "; layer " ++ decimal layer) (decimal_no_feed layer h)
     (λ s. ap (words_line limited (counting s)) (comment_back (codes " layer " ++ decimal layer))
     ∙ sym (ap (words_line any (counting s)) (comment_back (codes " layer " ++ decimal layer))))
+
+pub leads_supports : LeadsInRange supports_line
+unfolding supports_line line_step without_return without_comment words
+leads_supports = leads_line (codes "; supports") refl (λ s. refl)
 
 setting_in_range : (command t : List ℕ) (z : ℤ) → command_of command ≡ command_of (codes "M140") → number 5 t ≡ Some z
     → AreInRange (command ∷ (83 ∷ t) ∷ [])

@@ -1,6 +1,7 @@
 pub mod Readings
 pub mod Deciding
 pub mod Opinions
+pub mod Outside
 pub mod InRange
 pub mod Programs
 pub mod Told

@@ -1,5 +1,5 @@
 -- The machine does the same along a whole program by limited numbers as by numbers of any size.
-use Rattle.std.proofs.Common.{◌≡◌, ℕ, ◌+◌, ◌*◌, ◌^◌, ◌<◌, ◌≤◌, List, [], ◌∷◌, ◌++◌, length, refl, subst, arith}
+use Rattle.std.proofs.Common.{◌≡◌, ℕ, ◌+◌, ◌*◌, ◌^◌, ◌<◌, ◌≤◌, List, [], ◌∷◌, ◌++◌, length, map, refl, subst, arith}
 use Rattle.std.specs.Prelude.{codes}
 use Rattle.std.specs.List.{AllByRecursion}
 use Rattle.std.proofs.lemmas.List.{append-nil}
@@ -9,11 +9,13 @@ use Rattle.scad_geom.specs.Limits.{coordinate_limit}
 use Rattle.scad_geom.specs.Within.{IsWithin}
 use Rattle.gcode_text.specs.declared.rates.Rates.{Rates}
 use Rattle.gcode_text.specs.Amount.{move_volume, moves_volume, path_volume, paths_volume, layers_volume, filament}
-use Rattle.gcode_text.specs.Gcode.{travel_line, print_line, height_line, number_line, heat_line, moves_text, path_text, paths_text, layers_text, setup, home, head, end, gcode}
+use Rattle.gcode_text.specs.Gcode.{travel_line, print_line, height_line, number_line, supports_line, heat_line, moves_text, path_text, paths_text, layer_text, Printed, printed_paths, supports_text, printed_text, layers_text, setup, home, head, end, gcode}
 use Rattle.gcode_text.specs.Machine.{command_of, plain_commands}
 use Rattle.gcode_text.specs.Moves.{IsShort, IsShortPoint, surface}
 use Rattle.gcode_text.proofs.Program.{filament_rises}
-use Rattle.verdict_laws.proofs.InRange.{LinesAreInRange, LeadsInRange, leads_nowhere, leads_on, leads_travel, leads_print, leads_height, leads_number, leads_heat, leads_setup, leads_home, leads_end, nothing_in_range}
+use Rattle.print_laws.proofs.Extruded.{both_volumes}
+use Rattle.print_laws.proofs.Points.{all_front, all_back}
+use Rattle.verdict_laws.proofs.InRange.{LinesAreInRange, LeadsInRange, leads_nowhere, leads_on, leads_travel, leads_print, leads_height, leads_number, leads_supports, leads_heat, leads_setup, leads_home, leads_end, nothing_in_range}
 
 -- ---- paths
 short : (p : Pt) → IsWithin coordinate_limit p → IsShortPoint p
@@ -55,27 +57,48 @@ module _ (rates : Rates) (area : 1 ≤ rates.filament_area) (print : IsShort rat
       (paths_lead (v + path_volume rates path) paths within.1 (omega (arith, few)))
 
   -- ---- layers
-  layers_lead : (v layer : ℕ) (layers : List (List (List Pt)))
-      → AllByRecursion (λ paths. AllByRecursion (λ path. AllByRecursion (IsWithin coordinate_limit) path) paths) layers
-      → layer + length layers < 10 ^ 64 → (layer + length layers) * rates.layer_height ≤ 1100000
-      → v + layers_volume rates layers ≤ most → LeadsInRange (layers_text rates v layer layers)
-  unfolding layers_text layers_volume
-  layers_lead v layer [] within count high few = leads_nowhere
-  layers_lead v layer (paths ∷ layers) within count high few =
-      let below = mul-le (layer + 1) rates.layer_height (layer + (1 + length layers)) rates.layer_height (omega arith)
-      (omega arith) in
-      let whole : layer + length (paths ∷ layers) ≡ layer + (1 + length layers) = omega arith in
-      let next : layer + length (paths ∷ layers) ≡ (layer + 1) + length layers = omega arith in
-      let all = subst (λ (n : ℕ). n * rates.layer_height ≤ 1100000) whole high in
+  supports_lead : (v : ℕ) (paths : List (List Pt))
+      → AllByRecursion (λ path. AllByRecursion (IsWithin coordinate_limit) path) paths
+      → v + paths_volume rates paths ≤ most → LeadsInRange (supports_text rates v paths)
+  supports_lead v [] within few = leads_nowhere
+  supports_lead v (path ∷ paths) within few =
+      leads_on supports_line (paths_text rates v (path ∷ paths)) leads_supports (paths_lead v (path ∷ paths) within few)
+
+  printed_leads : (v layer : ℕ) (printed : Printed)
+      → AllByRecursion (λ path. AllByRecursion (IsWithin coordinate_limit) path) (printed_paths printed)
+      → IsShort layer → surface rates layer ≤ 1100000
+      → v + paths_volume rates (printed_paths printed) ≤ most → LeadsInRange (printed_text rates v layer printed)
+  printed_leads v layer printed within count high few =
+      let own : List (List Pt) = printed.paths in
+      let more : List (List Pt) = printed.supports in
+      let both = both_volumes rates own more in
       let number = number_line layer in
       let height = height_line rates (surface rates layer) in
-      leads_on (number ++ height ++ paths_text rates v paths)
-      (layers_text rates (v + paths_volume rates paths) (layer + 1) layers)
-      (leads_on (number ++ height) (paths_text rates v paths)
-      (leads_on number height (leads_number layer (omega (arith, count)))
-      (leads_height rates (surface rates layer) travel (omega (arith, below, all))))
-      (paths_lead v paths within.0 (omega (arith, few))))
-      (layers_lead (v + paths_volume rates paths) (layer + 1) layers within.1 (omega (arith, count))
+      leads_on (layer_text rates v layer own) (supports_text rates (v + paths_volume rates own) more)
+      (leads_on (number ++ height) (paths_text rates v own)
+      (leads_on number height (leads_number layer count) (leads_height rates (surface rates layer) travel high))
+      (paths_lead v own
+      (all_front (λ path. AllByRecursion (IsWithin coordinate_limit) path) own more within) (omega (arith, few, both))))
+      (supports_lead (v + paths_volume rates own) more
+      (all_back (λ path. AllByRecursion (IsWithin coordinate_limit) path) own more within) (omega (arith, few, both)))
+
+  layers_lead : (v layer : ℕ) (layers : List Printed)
+      → AllByRecursion (λ paths. AllByRecursion (λ path. AllByRecursion (IsWithin coordinate_limit) path) paths)
+      (map printed_paths layers)
+      → layer + length layers < 10 ^ 64 → (layer + length layers) * rates.layer_height ≤ 1100000
+      → v + layers_volume rates (map printed_paths layers) ≤ most → LeadsInRange (layers_text rates v layer layers)
+  unfolding layers_text layers_volume
+  layers_lead v layer [] within count high few = leads_nowhere
+  layers_lead v layer (printed ∷ layers) within count high few =
+      let below = mul-le (layer + 1) rates.layer_height (layer + (1 + length layers)) rates.layer_height (omega arith)
+      (omega arith) in
+      let whole : layer + length (printed ∷ layers) ≡ layer + (1 + length layers) = omega arith in
+      let next : layer + length (printed ∷ layers) ≡ (layer + 1) + length layers = omega arith in
+      let all = subst (λ (n : ℕ). n * rates.layer_height ≤ 1100000) whole high in
+      let w : ℕ = v + paths_volume rates (printed_paths printed) in
+      leads_on (printed_text rates v layer printed) (layers_text rates w (layer + 1) layers)
+      (printed_leads v layer printed within.0 (omega (arith, count)) (omega (arith, below, all)) (omega (arith, few)))
+      (layers_lead w (layer + 1) layers within.1 (omega (arith, count))
       (subst (λ (n : ℕ). n * rates.layer_height ≤ 1100000) next high) (omega (arith, few)))
 
 -- ---- a program
@@ -97,27 +120,28 @@ heads_lead hot_end bed hot cold =
     leads_home
 
 -- what is known of a program whose numbers are in range
-pub record HasRange (rates : Rates) (hot_end bed : ℕ) (layers : List (List (List Pt))) : Type 0 where
+pub record HasRange (rates : Rates) (hot_end bed : ℕ) (layers : List Printed) : Type 0 where
   pub area : 1 ≤ rates.filament_area
   pub print : IsShort rates.print_feed
   pub travel : IsShort rates.travel_feed
   pub hot : IsShort hot_end
   pub cold : IsShort bed
   pub within : AllByRecursion
-      (λ paths. AllByRecursion (λ path. AllByRecursion (IsWithin coordinate_limit) path) paths) layers
+      (λ paths. AllByRecursion (λ path. AllByRecursion (IsWithin coordinate_limit) path) paths) (map printed_paths layers)
   pub count : length layers < 10 ^ 64
   pub high : length layers * rates.layer_height ≤ 1100000
-  pub amount : filament rates (layers_volume rates layers) ≤ 2000000000000000000
+  pub amount : filament rates (layers_volume rates (map printed_paths layers)) ≤ 2000000000000000000
 
-pub program_in_range : (rates : Rates) (hot_end bed : ℕ) (layers : List (List (List Pt)))
+pub program_in_range : (rates : Rates) (hot_end bed : ℕ) (layers : List Printed)
     → HasRange rates hot_end bed layers → LinesAreInRange (gcode rates hot_end bed layers)
 program_in_range rates hot_end bed layers h =
     let none : length layers ≡ 0 + length layers = omega arith in
-    let total : 0 + layers_volume rates layers ≤ layers_volume rates layers = omega arith in
+    let most : ℕ = layers_volume rates (map printed_paths layers) in
+    let total : 0 + most ≤ most = omega arith in
     subst LinesAreInRange (append-nil (gcode rates hot_end bed layers))
     (leads_on (head hot_end bed ++ layers_text rates 0 0 layers) end
     (leads_on (head hot_end bed) (layers_text rates 0 0 layers) (heads_lead hot_end bed h.hot h.cold)
-    (layers_lead rates h.area h.print h.travel (layers_volume rates layers) h.amount 0 0 layers h.within
+    (layers_lead rates h.area h.print h.travel most h.amount 0 0 layers h.within
     (subst (λ (n : ℕ). n < 10 ^ 64) none h.count)
     (subst (λ (n : ℕ). n * rates.layer_height ≤ 1100000) none h.high) total))
     leads_end [] nothing_in_range)

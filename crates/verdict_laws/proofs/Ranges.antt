@@ -1,8 +1,7 @@
 -- The numbers of the program of planned layers are in range.
-use Rattle.std.proofs.Common.{ℕ, ◌+◌, ◌*◌, ◌≤◌, List, [], ◌∷◌, length, sym, subst, arith}
+use Rattle.std.proofs.Common.{ℕ, ◌+◌, ◌*◌, ◌^◌, ◌<◌, ◌≤◌, List, [], ◌∷◌, ◌++◌, length, sym, subst, arith, Ok}
 use Rattle.std.specs.List.{AllByRecursion}
 use Rattle.std.proofs.lemmas.List.{length-map}
-use Rattle.std.proofs.lemmas.List.Elements.{All-from_recursion}
 use Rattle.scad_geom.specs.declared.point.Pt.{Pt}
 use Rattle.scad_geom.specs.Limits.{point_limit, coordinate_limit}
 use Rattle.scad_geom.specs.Within.{IsWithin, IsEdgeWithin}
@@ -10,14 +9,15 @@ use Rattle.scad_words.specs.declared.settings.Settings.{Settings}
 use Rattle.scad_words.specs.Settings.{AreInRange}
 use Rattle.plan_layer.specs.Kept.{PlansKeepClear}
 use Rattle.plan_layer.specs.Moves.{all_moves}
-use Rattle.slice_work.specs.Part.{Layout}
+use Rattle.gcode_text.specs.Gcode.{printed_paths}
+use Rattle.slice_work.specs.declared.want.Want.TheVariants.{Plan as WithPlan}
+use Rattle.slice_work.specs.Part.{Layout, printed_of}
 use Rattle.slice_work.specs.Rates.{rates_of}
 use Rattle.print_laws.specs.Planned.{IsPlanned, ArePlanned}
-use Rattle.print_laws.specs.Print.{all_paths, program_of}
+use Rattle.print_laws.specs.Print.{all_printed, all_paths, program_of}
 use Rattle.print_laws.specs.Laws.{PlansArePrintable}
 use Rattle.print_laws.proofs.Numbered.{AreFrom, from_first}
-use Rattle.print_laws.proofs.Points.{plan_within}
-use Rattle.print_laws.proofs.Printable.{ends_within}
+use Rattle.print_laws.proofs.Printable.{points_within, all_ends_within}
 use Rattle.verdict_laws.specs.Printed.{file_limit}
 use Rattle.verdict_laws.proofs.Amounts.{amount_in_range}
 use Rattle.verdict_laws.proofs.Programs.{HasRange}
@@ -40,23 +40,23 @@ module _ (clear : PlansKeepClear) (s : Settings) (range : AreInRange s) where
       (all_paths layers)
   layers_near i [] h = tt
   layers_near i (l ∷ ls) h = (
-    paths_near l.paths (plan_within point_limit l.outlines i s l.paths l.runs h.0.plan
-        (All-from_recursion (IsEdgeWithin point_limit) (all_moves l.paths) (ends_within clear s range i l h.0))),
+    paths_near (l.paths ++ l.supports) (points_within clear s range i l h.0),
     layers_near (i + 1) ls h.1,
   )
 
   sides_near : (i : ℕ) (layers : List Layout) → AreFrom (IsPlanned s) i layers
       → AllByRecursion (λ paths. AllByRecursion (IsEdgeWithin point_limit) (all_moves paths)) (all_paths layers)
   sides_near i [] h = tt
-  sides_near i (l ∷ ls) h = (ends_within clear s range i l h.0, sides_near (i + 1) ls h.1)
+  sides_near i (l ∷ ls) h = (all_ends_within clear s range i l h.0, sides_near (i + 1) ls h.1)
 
   pub has_range : (layers : List Layout) → PlansArePrintable → ArePlanned s layers
       → length layers * s.layer_height ≤ 1100000 → length (program_of s layers) ≤ file_limit
-      → HasRange (rates_of s) s.hot_end s.bed (all_paths layers)
+      → HasRange (rates_of s) s.hot_end s.bed (all_printed layers)
   has_range layers printable are high short =
       let writable = printable s layers range are in
       let each = from_first (IsPlanned s) layers are.each in
-      let long = length-map layers (λ (l : Layout). l.paths) in
+      let long = length-map layers (λ (l : Layout). printed_of WithPlan (Ok l)) in
+      let paths = length-map (all_printed layers) printed_paths in
       record {
         area = writable.area;
         print = writable.print_feed;
@@ -64,8 +64,8 @@ module _ (clear : PlansKeepClear) (s : Settings) (range : AreInRange s) where
         hot = writable.temperatures.0;
         cold = writable.temperatures.1;
         within = layers_near 0 layers each;
-        count = writable.count;
+        count = subst (λ (n : ℕ). n < 10 ^ 64) paths writable.count;
         high = subst (λ (n : ℕ). n * s.layer_height ≤ 1100000) (sym long) high;
         amount = amount_in_range (rates_of s) range.line_width.most range.layer_height.most s.hot_end s.bed
-            (all_paths layers) range.filament_area.least (sides_near 0 layers each) short;
+            (all_printed layers) range.filament_area.least (sides_near 0 layers each) short;
       }

@@ -2,11 +2,10 @@
 use Rattle.std.proofs.Common.{◌≡◌, ℕ, List, [], ◌∷◌, map, refl, ap, ◌∙◌, Option, Some, None, Result, Ok, Err}
 use Rattle.std.specs.List.{AllByRecursion}
 use Rattle.scad_base.specs.Results.{and_then}
-use Rattle.scad_geom.specs.declared.point.Pt.{Pt}
 use Rattle.gcode_text.specs.declared.fault.GFault.{GFault}
 use Rattle.gcode_text.specs.declared.machine.Move.{Move}
 use Rattle.gcode_text.specs.declared.rates.Rates.{Rates}
-use Rattle.gcode_text.specs.Gcode.{gcode}
+use Rattle.gcode_text.specs.Gcode.{Printed, gcode}
 use Rattle.gcode_text.specs.Reading.{lines}
 use Rattle.gcode_text.specs.Machine.{State, After, start, any, line_step, onto_moves, moves_of_lines, machine}
 use Rattle.plan_verify.specs.Verdict.{Told, onto, moves_told, program_moves}
@@ -63,7 +62,7 @@ told_of s (text ∷ rest) moves same e =
             )
 
 -- the moves of a program whose numbers are in range
-pub program_told : (rates : Rates) (hot_end bed : ℕ) (layers : List (List (List Pt))) (moves : List Move)
+pub program_told : (rates : Rates) (hot_end bed : ℕ) (layers : List Printed) (moves : List Move)
     → HasRange rates hot_end bed layers → machine (gcode rates hot_end bed layers) ≡ Ok moves
     → (told : List Told) × (program_moves (gcode rates hot_end bed layers) ≡ Ok told) × (map (λ t. t.move) told ≡ moves)
 unfolding moves_in
