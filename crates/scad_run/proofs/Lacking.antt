@@ -1,5 +1,5 @@
 -- There is no answer only where a file that is to be read is missing.
-use Rattle.std.proofs.Common.{◌≡◌, ◌⊎◌, List, Option, Some, None, inl, inr, refl, sym, ◌∙◌, subst}
+use Rattle.std.proofs.Common.{◌≡◌, List, Option, Some, None, inl, inr, refl, sym, ◌∙◌, subst}
 use Rattle.scad_fault.specs.declared.budget.Budget.{Budget}
 use Rattle.scad_words.specs.declared.job.Job.{Job}
 use Rattle.scad_words.specs.Job.{job_of}
