@@ -5,8 +5,9 @@
 --   winding in the written outlines exactly when the source's tree contains it; each extruding move except support moves
 --   stays inside them by the clearance; every refusal has its named cause.
 --
--- What both files are is `IsPrintOf` of print_laws; it says of support moves that they stand outside the outlines. What a source means is a parameter, so that this can be read without
--- the language; the clause puts in what the language says, `Means` of `Meaning.antt`.
+-- What both files are is `IsPrintOf` of print_laws; it says of support moves that they stand outside of the outlines. What a
+-- source means is a parameter, so that this can be read without the language; the clause puts in what the language says,
+-- `Means` of `Meaning.antt`.
 use Rattle.std.specs.Prelude.{◌≡◌, ◌++◌, ◌≤◌, List, ℕ, Option, Some, length}
 use Rattle.scad_fault.specs.declared.status.Status.{Status}
 use Rattle.scad_fault.specs.declared.status.Status.TheVariants.{Done}
