@@ -1,5 +1,5 @@
 -- Where the files of a tree end by a budget: before its layer, or, where it is that of all layers, before the first.
-use Rattle.std.proofs.Common.{◌≡◌, ◌⊎◌, inl, inr, ◌<◌, ℕ, zero, suc, Some, Ok, Err, refl, sym, ap, ◌∙◌, arith}
+use Rattle.std.proofs.Common.{◌≡◌, ◌⊎◌, inl, inr, ◌<◌, ℕ, zero, suc, Some, Ok, Err, refl, sym, ◌∙◌, arith}
 use Rattle.scad_fault.specs.declared.budget.Budget.{Budget}
 use Rattle.scad_fault.specs.declared.budget.BudgetKind.{BudgetKind}
 use Rattle.scad_words.specs.declared.settings.Settings.{Settings as SettingsOfRun}

@@ -1,5 +1,5 @@
 -- What `slice` and `plan` wrote where all is done.
-use Rattle.std.proofs.Common.{◌≡◌, ◌⊎◌, List, ℕ, Option, Some, None, inl, inr, refl, sym, ◌∙◌, subst}
+use Rattle.std.proofs.Common.{◌≡◌, List, ℕ, Option, Some, None, inl, inr, refl, sym, ◌∙◌, subst}
 use Rattle.scad_fault.specs.declared.status.Status.{Status}
 use Rattle.scad_fault.specs.declared.status.Status.TheVariants.{Done}
 use Rattle.scad_io.specs.Desk.{Files, View}

@@ -1,5 +1,5 @@
 -- What a yes of `verify` says.
-use Rattle.std.proofs.Common.{◌≡◌, ◌≤◌, List, [], ℕ, Bool, true, false, Option, Some, None, Ok, inl, inr, refl, sym, ap, ◌∙◌, subst, length, nat_lt, rules, arith}
+use Rattle.std.proofs.Common.{◌≡◌, ◌≤◌, List, ℕ, Bool, true, false, Option, Some, None, Ok, inl, inr, refl, sym, ap, ◌∙◌, subst, length, nat_lt, rules, arith}
 use Rattle.std.specs.Prelude.{IsSomeAnd, option_map, unwrap_or, if◌then◌else◌}
 use Rattle.scad_fault.specs.declared.status.Status.{Status}
 use Rattle.scad_fault.specs.declared.status.Status.TheVariants.{Done}
@@ -17,7 +17,7 @@ use Rattle.plan_verify.specs.declared.verdict.Verdict.TheVariants.{Inside}
 use Rattle.plan_verify.specs.Verdict.{program_moves}
 use Rattle.scad_run.specs.Words.{Case, given_by}
 use Rattle.scad_run.specs.Answer.{Findings, job_script, script_of, AreFound}
-use Rattle.scad_run.specs.Inputs.{Inputs, file_limit, file_read, outlines_read, program_read, read_of, IsRead}
+use Rattle.scad_run.specs.Inputs.{Inputs, file_limit, file_read, outlines_read, program_read, IsRead}
 use Rattle.scad_run.specs.Verified.{IsFile, MovesStay, VerifiesMoves}
 use Rattle.scad_run.proofs.Told.{text_in, settings_are}
 use Rattle.scad_run.proofs.Answering.{done_finishes}
