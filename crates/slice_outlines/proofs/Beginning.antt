@@ -1,6 +1,6 @@
 -- Below all levels.
-use Rattle.std.proofs.Common.{inl, inr, Bool, true, false, cond, List, [], ◌∷◌, get_or, refl}
-use lib.IntN.{pos}
+use Rattle.std.proofs.Common.{◌≡◌, ℕ, inl, inr, Bool, true, false, cond, List, [], ◌∷◌, get_or, take, drop, refl, sym, subst}
+use lib.IntN.{ℤ, pos}
 use lib.Signed.{◌<ℤ◌}
 use Rattle.std.specs.Prelude.{int_lt}
 use Rattle.std.specs.List.{AllByRecursion}
@@ -9,14 +9,17 @@ use Rattle.scad_geom.specs.declared.level.Level.{Level}
 use Rattle.scad_geom.specs.declared.level.LeafEdge.{LeafEdge}
 use Rattle.scad_geom.specs.declared.shape.Shape.{Shape}
 use Rattle.scad_geom.specs.Line.{low}
-use Rattle.scad_geom.specs.Level.{level_of, IsAtMost}
+use Rattle.scad_geom.specs.Level.{level_of, IsLower, IsAtMost}
 use Rattle.scad_geom.specs.Heights.{heights}
 use Rattle.scad_geom.proofs.Heights.{at_most_chain, lower_weak, same_at_least, heights_positive}
 use Rattle.scad_geom.proofs.Order.{all_ends}
 use Rattle.slice_events.specs.Levels.{IsRising, HasHeight, AreLevels}
 use Rattle.slice_sweep.specs.Front.{IsReadyFor, StartFrom, IsBegunTo}
 use Rattle.slice_outlines.specs.declared.sweep.Sweep.{Sweep}
-use Rattle.slice_outlines.specs.Sweep.{IsReadyForFirst, IsFrontBelow}
+use Rattle.slice_outlines.specs.declared.flat.Flat.{Flat}
+use Rattle.slice_outlines.specs.Flats.{IsFlatOf}
+use Rattle.slice_outlines.specs.Sweep.{IsReadyForFirst, IsFrontBelow, ArePassedBelowFirst}
+use Rattle.slice_slab.specs.Bundles.{no_edge}
 
 -- ---- the first level is the lowest height
 at_or_above : (l : Level) (ls : List Level) (h : Level) → AllByRecursion (λ (u : Level). pos 0 <ℤ u.d) (l ∷ ls)
@@ -47,7 +50,24 @@ start_from es l ls a k d o =
     let ends = all_ends (IsAtMost l) es k d all o in
     of_lower (IsAtMost l) (get_or es k d).edge ends.0 ends.1
 
+flats_from : (es : List LeafEdge) (l : Level) (ls : List Level) (fs : List Flat) → AreLevels es (l ∷ ls)
+    → AllByRecursion (IsFlatOf es) fs → AllByRecursion (λ f. IsAtMost l (level_of f.y)) fs
+flats_from es l ls [] a h = tt
+flats_from es l ls (f ∷ fs) a h =
+    let all = all_above_first l ls (heights es) a.divisors a.rising (heights_positive es) a.complete in
+    let ends = all_ends (IsAtMost l) es f.number no_edge all h.0.there in
+    (subst (λ (y : ℤ). IsAtMost l (level_of y)) h.0.height ends.0, flats_from es l ls fs a h.1)
+
 -- ---- a sweep that begins
+pub flats_above : (es : List LeafEdge) (ls : List Level) (s : Sweep) → AreLevels es ls → s.passed ≡ 0
+    → AllByRecursion (IsFlatOf es) s.flats.items → ArePassedBelowFirst ls s
+flats_above es [] s a e h = tt
+flats_above es (l ∷ ls) s a e h = record {
+  passed = subst (λ (n : ℕ). AllByRecursion (λ f. IsLower (level_of f.y) l) (take n s.flats.items)) (sym e) tt;
+  later = subst (λ (n : ℕ). AllByRecursion (λ f. IsAtMost l (level_of f.y)) (drop n s.flats.items)) (sym e)
+      (flats_from es l ls s.flats.items a h);
+}
+
 pub ready_first : (es : List LeafEdge) (ls : List Level) (s : Sweep) → AreLevels es ls
     → ((at : Level) → IsReadyFor es at s.front) → ((at : Level) → StartFrom at es → IsBegunTo es at s.front)
     → IsReadyForFirst es ls s

@@ -11,11 +11,7 @@ use Rattle.slice_slab.specs.Bundles.{no_edge}
 use Rattle.slice_bool.proofs.BalanceFlat.{none_covers}
 use Rattle.slice_outlines.specs.declared.flat.Flat.{Flat}
 use Rattle.slice_outlines.specs.Along.{lesser, least_from, least}
-
--- one of these has a number
-abbrev pub HasNumber : List Flat → ℕ → Type 0
-HasNumber [] k = ⊥
-HasNumber (f ∷ fs) k = (f.number ≡ k) ⊎ HasNumber fs k
+use Rattle.slice_outlines.specs.Level.{HasNumber}
 
 -- ---- the least number
 record IsLeast (start : Option ℕ) (fs : List Flat) (m : ℕ) : Type 0 where

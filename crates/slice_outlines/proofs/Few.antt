@@ -1,5 +1,12 @@
+-- Bundles are no more than the edges.
+use Rattle.std.proofs.Common.{ℕ, ◌^◌, ◌<◌, ◌≤◌, List, [], ◌∷◌, length, arith, length-append}
+use Rattle.std.specs.List.{concat}
+use Rattle.scad_geom.specs.declared.level.Level.{Level}
+use Rattle.scad_geom.specs.declared.level.LeafEdge.{LeafEdge}
+use Rattle.slice_slab.specs.Bundles.{AreBundles, AreRanked}
+use Rattle.slice_bool.specs.Beside.{AreMembers}
+use Rattle.slice_bool.proofs.Bundled.{are_members}
 
--- bundles are no more than the edges
 ranked_few : (es : List LeafEdge) (l : Level) (bs : List (List ℕ)) → AreRanked es l bs → length bs ≤ length (concat bs)
 ranked_few es l [] r = omega arith
 ranked_few es l ([] ∷ bs) r = absurd r.0

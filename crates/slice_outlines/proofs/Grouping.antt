@@ -11,7 +11,7 @@ use Rattle.slice_slab.specs.Bundles.{edge_at}
 use Rattle.slice_snap.specs.declared.piece.Spot.{Spot}
 use Rattle.slice_snap.specs.Spots.{point_of}
 use Rattle.slice_sweep.specs.Front.{bundles_in}
-use Rattle.slice_bool.specs.Pieces.{spot_on}
+use Rattle.slice_bool.specs.Pieces.{spot_on, IsSameAcross}
 use Rattle.slice_outlines.specs.declared.course.Course.{Course}
 use Rattle.slice_outlines.specs.declared.mark.Mark.{Mark}
 use Rattle.slice_outlines.specs.declared.run.Run.{Run}
@@ -21,7 +21,7 @@ use Rattle.slice_outlines.specs.Marks.{AreThere, mark_at, no_mark, spot_at, left
 use Rattle.slice_outlines.specs.Stops.{AllPass}
 use Rattle.slice_outlines.specs.Cursor.{StandsOn}
 use Rattle.slice_outlines.specs.Passing.{courses, or_none, start_of, ended_at}
-use Rattle.slice_outlines.specs.Heights.{Onwards, IsRunOf, IsGroupAt, IsNameOf, MeetAt, KeepsMarks}
+use Rattle.slice_outlines.specs.Heights.{Onwards, IsRunOf, IsGroupAt, IsNameOf, MeetAt, MeetAcross, KeepsMarks}
 use Rattle.slice_outlines.specs.Along.{value_over, HasComeOver}
 use Rattle.slice_outlines.specs.Ahead.{KeepsRight}
 use Rattle.slice_outlines.proofs.Onward.{stop_passed, names_begun, front_size, begun_split}
@@ -144,6 +144,7 @@ value_end h run ms = by_test (nat_lt run.above_to run.above_to) (not_less run.ab
 module _ (on : Onwards) (passed : List Spot) (s : Spot) (run : Run) (old mid : List Mark) (given : List Edge)
     (cursor : Cursor) (p : Pt) (kept : AreKept false on.height.below.now on.below) (keeps : KeepsMarks run old mid)
     (r : IsRunOf on.height.below.now old run) (at : rounded (point_of s) ≡ p) (meet : MeetAt on.height old run p)
+    (across : MeetAcross on.height old run s)
     (come : HasComeOver on passed (s ∷ []) run run.below run.above None mid given cursor) where
   abbrev v : Bool
   v = left_of_first (drop run.below_to on.height.below.now) false
@@ -161,6 +162,7 @@ module _ (on : Onwards) (passed : List Spot) (s : Spot) (run : Run) (old mid : L
       let size = keeps.size in
       let to = r.above_to in
       let Q : ℕ → Type 0 = λ k. rounded (point_of (spot_on (edge_at on.height.edges.now k) on.height.at.now)) ≡ p in
+      let R : ℕ → Type 0 = λ k. IsSameAcross (spot_on (edge_at on.height.edges.now k) on.height.at.now) s in
       let lower : List Mark = take (run.below_to - run.below) (drop run.below on.height.below.now) in
       let upper : List Mark = take (run.above_to - run.above) (drop run.above old) in
       stop_passed on passed s [] run run.below run.below_to run.above run.above_to None [] mid given cursor p
@@ -174,6 +176,9 @@ module _ (on : Onwards) (passed : List Spot) (s : Spot) (run : Run) (old mid : L
         ends = front (λ (m : Mark). Q m.name) lower upper meet;
         begins = part_names Q old mid run.above (run.above_to - run.above) keeps.size keeps.names
             (back (λ (m : Mark). Q m.name) lower upper meet);
+        meet_below = front (λ (m : Mark). R m.name) lower upper across;
+        meet_above = part_names R old mid run.above (run.above_to - run.above) keeps.size keeps.names
+            (back (λ (m : Mark). R m.name) lower upper across);
         name = value_end on.height run mid;
       }) come
 
@@ -205,7 +210,9 @@ other_cursor on passed spots run n m ms given c d s h = record {
   upper = h.upper;
   goes_on = h.goes_on;
   kept = h.kept;
+  met = h.met;
   named = h.named;
+  valued = h.valued;
   edges = h.edges;
   stands = s;
 }
@@ -214,7 +221,7 @@ other_cursor on passed spots run n m ms given c d s h = record {
 pub group_by : (on : Onwards) (h : Height) → on.height ≡ h → (passed : List Spot) (s : Spot) (run : Run)
     (old mid new : List Mark) (given more : List Edge) (c d : Cursor) (p from : Pt) (right : Bool)
     → AreKept false h.below.now on.below → KeepsMarks run old mid → IsRunOf h.below.now old run
-    → rounded (point_of s) ≡ p → MeetAt h old run p
+    → rounded (point_of s) ≡ p → MeetAt h old run p → MeetAcross h old run s
     → StandsOn h.edges.now on.shape (bundles_in h.front.now) d
     → HasComeOver on passed (s ∷ []) run run.below run.above None mid given c
     → right ≡ left_of_first (drop run.below_to h.below.now) false
@@ -227,7 +234,7 @@ pub group_by : (on : Onwards) (h : Height) → on.height ≡ h → (passed : Lis
     → HasComeOver on (passed ++ (s ∷ [])) [] run run.below_to run.above_to None new more d
 group_by on h e passed s run old mid new given more c d p from right =
     subst (λ (x : Height). AreKept false x.below.now on.below → KeepsMarks run old mid → IsRunOf x.below.now old run
-    → rounded (point_of s) ≡ p → MeetAt x old run p
+    → rounded (point_of s) ≡ p → MeetAt x old run p → MeetAcross x old run s
     → StandsOn x.edges.now on.shape (bundles_in x.front.now) d
     → HasComeOver on passed (s ∷ []) run run.below run.above None mid given c
     → right ≡ left_of_first (drop run.below_to x.below.now) false
@@ -238,11 +245,11 @@ group_by on h e passed s run old mid new given more c d p from right =
     (courses right (take (run.below_to - run.below) (drop run.below x.below.now)) ++ or_none None)
     (courses right (take (run.above_to - run.above) (drop run.above mid)) ++ or_none None)
     → HasComeOver on (passed ++ (s ∷ [])) [] run run.below_to run.above_to None new more d) e
-    (λ k keeps r at m st come v f n g.
+    (λ k keeps r at m a st come v f n g.
     let low : List Mark = take (run.below_to - run.below) (drop run.below on.height.below.now) in
     let up : List Mark = take (run.above_to - run.above) (drop run.above mid) in
     other_cursor on (passed ++ (s ∷ [])) [] run run.below_to run.above_to new more c d st
-    (group_passed on passed s run old mid given c p k keeps r at m come new more from
+    (group_passed on passed s run old mid given c p k keeps r at m a come new more from
     (f ∙ ap (λ (b : Bool). start_of p (courses b low ++ or_none None) (courses b up ++ or_none None)) v) n
     (g ∙ ap (λ (b : Bool). given ++ ended_at p (courses b low ++ or_none None) (courses b up ++ or_none None)) v)))
 

@@ -1,4 +1,4 @@
--- The bundles of a group meet its height where it does, rounded.
+-- The bundles of a group meet its height where it does.
 use Rattle.std.proofs.Common.{◌≡◌, ℕ, true, List, [], ◌∷◌, ◌++◌, refl, sym, ap, ap₂, ◌∙◌, subst, arith}
 use lib.IntN.{ℤ, pos, ◌*ℤ◌}
 use lib.Signed.{◌<ℤ◌}
@@ -9,7 +9,6 @@ use Rattle.scad_geom.specs.declared.level.Level.{Level}
 use Rattle.scad_geom.specs.declared.level.LeafEdge.{LeafEdge}
 use Rattle.scad_geom.specs.Line.{rise, x_at}
 use Rattle.scad_geom.proofs.Order.{front, back}
-use Rattle.winding_laws.specs.Edges.{rounded}
 use Rattle.winding_laws.specs.Nearness.{IsPoint}
 use Rattle.slice_slab.specs.Bundles.{edge_at}
 use Rattle.slice_slab.specs.KeptOrder.{IsSamePlaceAt}
@@ -25,14 +24,14 @@ use Rattle.sweep_laws.proofs.Edges.{same_spots_round_alike}
 use Rattle.slice_outlines.specs.declared.mark.Mark.{Mark}
 use Rattle.slice_outlines.specs.declared.height.Height.{Height}
 use Rattle.slice_outlines.specs.Marks.{IsNamed}
-use Rattle.slice_outlines.specs.Ahead.{first_spot}
+use Rattle.slice_outlines.specs.Ahead.{first_spot, IsSameSpot}
 use Rattle.slice_outlines.proofs.EndPoints.{passes_then_rises}
 use Rattle.slice_outlines.proofs.Placing.{AreNamed, all_append}
 use Rattle.slice_outlines.proofs.LevelAhead.{IsMet}
 
 -- ---- two edges
 edges_round : (e f : Edge) (l : Level) → pos 0 <ℤ l.d → passes_at e l ≡ true → passes_at f l ≡ true
-    → IsSamePlaceAt l e f → rounded (point_of (spot_on e l)) ≡ rounded (point_of (spot_on f l))
+    → IsSamePlaceAt l e f → IsSameSpot (spot_on e l) (spot_on f l)
 edges_round e f l d p q h =
     let s : Spot = spot_on e l in
     let t : Spot = spot_on f l in
@@ -43,7 +42,7 @@ edges_round e f l d p q h =
     ∙ sym (ap (λ (r : ℤ). x_at f l.n l.d *ℤ r) (size_of (rise e) (passes_then_rises e l p))) in
     let sp : IsPoint (point_of s) = positive_product l.d (pos s.run) d ss.runs in
     let tp : IsPoint (point_of t) = positive_product l.d (pos t.run) d ts.runs in
-    sym (same_spots_round_alike t s tp sp (same_place l t s ts ss same))
+    record { across = same; rounds = sym (same_spots_round_alike t s tp sp (same_place l t s ts ss same)) }
 
 -- ---- bundles
 -- the first edge of a bundle meets a height
@@ -52,21 +51,21 @@ HeadPasses es l [] = ⊥
 HeadPasses es l (k ∷ ks) = passes_at (edge_at es k) l ≡ true
 
 bundles_round : (es : List LeafEdge) (l : Level) (b c : List ℕ) → pos 0 <ℤ l.d → HeadPasses es l b → HeadPasses es l c
-    → IsTogetherAt es l b c → rounded (point_of (spot_of es l b)) ≡ rounded (point_of (spot_of es l c))
+    → IsTogetherAt es l b c → IsSameSpot (spot_of es l b) (spot_of es l c)
 bundles_round es l [] c d p q h = absurd p
 bundles_round es l (k ∷ ks) [] d p q h = absurd q
 bundles_round es l (k ∷ ks) (j ∷ js) d p q h = edges_round (edge_at es k) (edge_at es j) l d p q h
 
 to_first : (es : List LeafEdge) (l : Level) (c : List ℕ) (cs bs : List (List ℕ)) → pos 0 <ℤ l.d → HeadPasses es l c
     → AllByRecursion (HeadPasses es l) bs → AllByRecursion (λ b. AllByRecursion (IsTogetherAt es l b) (c ∷ cs)) bs
-    → AllByRecursion (λ b. rounded (point_of (spot_of es l b)) ≡ rounded (point_of (spot_of es l c))) bs
+    → AllByRecursion (λ b. IsSameSpot (spot_of es l b) (spot_of es l c)) bs
 to_first es l c cs [] d q p a = tt
 to_first es l c cs (b ∷ bs) d q p a =
     (bundles_round es l b c d p.0 q a.0.0, to_first es l c cs bs d q p.1 a.1)
 
 all_to_first : (es : List LeafEdge) (l : Level) (bs : List (List ℕ)) → pos 0 <ℤ l.d → AllByRecursion (HeadPasses es l) bs
     → AllByRecursion (λ b. AllByRecursion (IsTogetherAt es l b) bs) bs
-    → AllByRecursion (λ b. rounded (point_of (spot_of es l b)) ≡ rounded (point_of (first_spot es l bs))) bs
+    → AllByRecursion (λ b. IsSameSpot (spot_of es l b) (first_spot es l bs)) bs
 all_to_first es l [] d p a = tt
 all_to_first es l (c ∷ cs) d p a = to_first es l c cs (c ∷ cs) d p.0 p a
 

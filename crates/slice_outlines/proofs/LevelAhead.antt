@@ -5,8 +5,6 @@ use Rattle.std.proofs.lemmas.List.{drop-drop, drop_at, length-map, length-append
 use Rattle.scad_geom.specs.declared.level.Level.{Level}
 use Rattle.scad_geom.specs.declared.level.LeafEdge.{LeafEdge}
 use Rattle.scad_geom.proofs.Order.{front, back}
-use Rattle.winding_laws.specs.Edges.{rounded}
-use Rattle.slice_snap.specs.Spots.{point_of}
 use Rattle.slice_slab.specs.Bundles.{edge_at}
 use Rattle.slice_snap.specs.declared.piece.Spot.{Spot}
 use Rattle.slice_bool.specs.Pieces.{spot_on}
@@ -21,15 +19,15 @@ use Rattle.slice_outlines.specs.Above.{new_mark, AreTaken}
 use Rattle.slice_outlines.specs.Above.AreTaken.{none as taken_none, stays as taken_stays, changes as taken_changes}
 use Rattle.slice_outlines.specs.declared.groups.Passed.{Passed}
 use Rattle.slice_outlines.specs.Runs.{first}
-use Rattle.slice_outlines.specs.Ahead.{first_spot, AreMarksAt, LieAhead, IsBehind, AreBetween}
+use Rattle.slice_outlines.specs.Ahead.{first_spot, IsSameSpot, AreMarksAt, LieAhead, IsBehind, AreBetween}
 use Rattle.slice_outlines.specs.Ahead.LieAhead.{none as no_more, stays as one_stays, changes as one_changes}
 use Rattle.slice_outlines.proofs.Placing.{AreNamed, all_append}
 
--- bundles of a group meet the height where it does, rounded, and some are there
+-- bundles of a group meet the height where it does, and some are there
 pub record IsMet (h : Height) (g : Group) : Type 0 where
   pub some : all_at g ≡ [] → ⊥
-  pub at : AllByRecursion (λ b. rounded (point_of (spot_of h.edges.now h.at.now b))
-      ≡ rounded (point_of (first_spot h.edges.now h.at.now (all_at g)))) (all_at g)
+  pub at : AllByRecursion (λ b. IsSameSpot (spot_of h.edges.now h.at.now b)
+      (first_spot h.edges.now h.at.now (all_at g))) (all_at g)
 
 -- ---- marks of bundles
 mark_spot : (es : List LeafEdge) (l : Level) (m : Mark) (b : List ℕ) → IsNamed m.name b
@@ -38,13 +36,13 @@ mark_spot es l m [] h = absurd h
 mark_spot es l m (k ∷ ks) h = ap (λ (j : ℕ). spot_on (edge_at es j) l) (sym h)
 
 marks_by : (h : Height) (s : Spot) (ms : List Mark) (bs : List (List ℕ)) → AreNamed ms bs
-    → AllByRecursion (λ b. rounded (point_of (spot_of h.edges.now h.at.now b)) ≡ rounded (point_of s)) bs
-    → AllByRecursion (λ m. rounded (point_of (spot_at h.edges.now h.at.now m)) ≡ rounded (point_of s)) ms
+    → AllByRecursion (λ b. IsSameSpot (spot_of h.edges.now h.at.now b) s) bs
+    → AllByRecursion (λ m. IsSameSpot (spot_at h.edges.now h.at.now m) s) ms
 marks_by h s [] [] z a = tt
 marks_by h s [] (b ∷ bs) z a = absurd z
 marks_by h s (m ∷ ms) [] z a = absurd z
 marks_by h s (m ∷ ms) (b ∷ bs) z a = (
-  subst (λ (t : Spot). rounded (point_of t) ≡ rounded (point_of s)) (mark_spot h.edges.now h.at.now m b z.0) a.0,
+  subst (λ (t : Spot). IsSameSpot t s) (mark_spot h.edges.now h.at.now m b z.0) a.0,
   marks_by h s ms bs z.1 a.1,
 )
 
@@ -105,11 +103,11 @@ ahead_by h n cs (g ∷ left) right lower upper (taken_changes c ds f gs gone ms 
     let low = zip_front gone ms g.below (all_below (left ++ right)) size z in
     let up = zip_front come ns g.above (all_above (left ++ right)) coming y in
     let s : Spot = first_spot h.edges.now h.at.now (all_at g) in
-    let P : List ℕ → Type 0 = λ b. rounded (point_of (spot_of h.edges.now h.at.now b)) ≡ rounded (point_of s) in
+    let P : List ℕ → Type 0 = λ b. IsSameSpot (spot_of h.edges.now h.at.now b) s in
     let next : IsAhead h (c.from + c.come) ds left right ms ns =
     ahead_by h (c.from + c.come) ds left right ms ns t low.1 up.1 a.1 in
     let at : AreMarksAt h g (gone ++ come) =
-    all_append (λ m. rounded (point_of (spot_at h.edges.now h.at.now m)) ≡ rounded (point_of s)) gone come
+    all_append (λ m. IsSameSpot (spot_at h.edges.now h.at.now m) s) gone come
     (marks_by h s gone g.below low.0 (front P g.below g.above a.0.at))
     (marks_by h s come g.above up.0 (back P g.below g.above a.0.at)) in
     let i : ℕ = length (all_below left) in

@@ -28,3 +28,4 @@ mod GroupsMet
 mod Balancing
 mod Fitting
 mod Climbing
+mod Few

@@ -1,10 +1,11 @@
 -- One more place of a stretch is passed.
-use Rattle.std.proofs.Common.{◌≡◌, ℕ, zero, suc, ◌+◌, ◌-◌, ◌<◌, ◌≤◌, Bool, true, false, List, [], ◌∷◌, ◌++◌, length, get_or, take, drop, Option, None, Some, refl, sym, ap, ap₂, ◌∙◌, subst, inl, inr, arith, append_assoc, length-append}
+use Rattle.std.proofs.Common.{◌≡◌, ℕ, zero, suc, ◌+◌, ◌-◌, ◌<◌, ◌≤◌, Bool, true, false, List, [], ◌∷◌, ◌++◌, map, length, get_or, take, drop, Option, None, Some, refl, sym, ap, ap₂, ◌∙◌, subst, inl, inr, arith, append_assoc, length-append}
 use Rattle.std.specs.Prelude.{nat_lt, if◌then◌else◌}
 use Rattle.std.specs.List.{AllByRecursion, AllZip, position}
 use Rattle.std.specs.List.Sorted.{IsPermutation}
 use Rattle.std.proofs.lemmas.Bool.{cases_lt}
-use Rattle.std.proofs.lemmas.List.{append-nil, map-append, take-append-drop, drop-drop, drop-take, take-take, drop_more, get_or-drop, get_or-append_right, length-take, length-drop, length-map, take_at}
+use Rattle.std.proofs.lemmas.List.{append-nil, map-append, take-append-drop, drop-drop, drop-take, take-take, drop_more, get_or-drop, get_or-append_right, length-take, length-drop, length-map, take_at, drop_at}
+use Rattle.std.proofs.Math.ListN.{get_or-map}
 use Rattle.std.proofs.lemmas.List.Sorted.{IsPermutation-append, IsPermutation-refl}
 use Rattle.scad_geom.specs.declared.point.Pt.{Pt}
 use Rattle.scad_geom.specs.declared.point.Edge.{Edge}
@@ -17,10 +18,10 @@ use Rattle.slice_snap.specs.declared.piece.Spot.{Spot}
 use Rattle.slice_snap.specs.Spots.{point_of}
 use Rattle.slice_snap.specs.Rounding.{rounded_edges}
 use Rattle.slice_sweep.specs.Front.{bundles_in}
-use Rattle.slice_bool.specs.Pieces.{spot_on, covers}
+use Rattle.slice_bool.specs.Pieces.{spot_on, covers, IsSameAcross}
 use Rattle.sweep_laws.specs.Ways.{Way, pieces_of}
 use Rattle.sweep_laws.specs.Fronts.{Strand, bundles_of, value_before, ways_up, ways_from}
-use Rattle.sweep_laws.specs.Crossing.{Place, all_below, all_above, all_closed, way_along, flat_way, ins_to, outs_from, opens_after, ArePassed}
+use Rattle.sweep_laws.specs.Crossing.{Place, all_below, all_above, all_closed, way_along, flat_way, ins_to, outs_from, opens_after, ArePassed, MeetsAt}
 use Rattle.sweep_laws.proofs.Edges.{ways_give_edges}
 use Rattle.slice_outlines.specs.declared.course.Course.{Course}
 use Rattle.slice_outlines.specs.declared.mark.Mark.{Mark}
@@ -33,9 +34,9 @@ use Rattle.slice_outlines.specs.declared.stretch.Along.{Along}
 use Rattle.slice_outlines.specs.Marks.{spot_at, no_mark, mark_at, left_of_first, IsNamed, IsKept, AreKept, begun, begun_in, names_in}
 use Rattle.slice_outlines.specs.Passing.{courses, or_none, IsCourseOf, start_of, ended_at}
 use Rattle.slice_outlines.specs.Places.{ins_in, outs_in}
-use Rattle.slice_outlines.specs.Heights.{Onwards, IsRunOf}
-use Rattle.slice_outlines.specs.Along.{course_along, least, begun_at, value_over, LeadTo, BeginAt, HasComeOver, IsNameTo, RoundAlike}
-use Rattle.slice_outlines.proofs.Placing.{IsLike, EndsAt, RoundsTo, AreNamed, begun_ways, zip_append, first_kept, same_pass, PlacePasses, place_passes}
+use Rattle.slice_outlines.specs.Heights.{Onwards, IsRunOf, MeetAcross}
+use Rattle.slice_outlines.specs.Along.{course_along, least, begun_at, value_over, LeadTo, BeginAt, AreAtPlace, HasComeOver, IsNameTo, RoundAlike}
+use Rattle.slice_outlines.proofs.Placing.{IsLike, EndsAt, RoundsTo, AreNamed, begun_ways, zip_append, all_append, first_kept, same_pass, PlacePasses, place_passes}
 
 -- ---- parts of a list
 part_then : {X : Type 0} (xs : List X) (i j : ℕ) → i ≤ j → take (j - i) (drop i xs) ++ drop j xs ≡ drop i xs
@@ -151,6 +152,16 @@ front_size i j at ms h k =
 pub begun_split : (i j : ℕ) (at : Pt) (ms : List Mark)
     → begun_in i j at ms ≡ (take i ms ++ begun at (take (j - i) (drop i ms))) ++ drop j ms
 begun_split i j at ms = sym (append_assoc (take i ms) (begun at (take (j - i) (drop i ms))) (drop j ms))
+
+-- what is to the right of those that begin stays
+pub begun_right : (i j k : ℕ) (at : Pt) (ms : List Mark) → i ≤ j → j ≤ k → j ≤ length ms
+    → drop k (begun_in i j at ms) ≡ drop k ms
+begun_right i j k at ms h o l =
+    let e : j + (k - j) ≡ k = omega (arith, o) in
+    let p : List Mark = take i ms ++ begun at (take (j - i) (drop i ms)) in
+    ap (λ (n : ℕ). drop n (begun_in i j at ms)) (sym e) ∙ sym (drop-drop (k - j) j (begun_in i j at ms))
+    ∙ ap (drop (k - j)) (ap (drop j) (begun_split i j at ms) ∙ drop_at p (drop j ms) j (front_size i j at ms h l))
+    ∙ drop-drop (k - j) j ms ∙ ap (λ (n : ℕ). drop n ms) e
 
 begun_front : (i j : ℕ) (at : Pt) (ms : List Mark) → i ≤ j → j ≤ length ms
     → take j (begun_in i j at ms) ≡ take i ms ++ begun at (take (j - i) (drop i ms))
@@ -336,6 +347,38 @@ ends_at : (s : Spot) (p : Pt) (ws : List Way) → rounded (point_of s) ≡ p →
 ends_at s p [] e h = tt
 ends_at s p (w ∷ ws) e h = (ap (λ (t : Spot). rounded (point_of t)) h.0 ∙ e, ends_at s p ws e h.1)
 
+met_named : (es : List LeafEdge) (l : Level) (s : Spot) (ms : List Mark) (bs : List (List ℕ)) → AreNamed ms bs
+    → AllByRecursion (λ x. IsSameAcross (spot_at es l x) s) ms → AllByRecursion (MeetsAt es l s) bs
+met_named es l s [] [] z h = tt
+met_named es l s [] (b ∷ bs) z h = absurd z
+met_named es l s (m ∷ ms) [] z h = absurd z
+met_named es l s (m ∷ ms) ([] ∷ bs) z h = absurd z.0
+met_named es l s (m ∷ ms) ((k ∷ ks) ∷ bs) z h =
+    (subst (λ (k : ℕ). IsSameAcross (spot_on (edge_at es k) l) s) z.0 h.0, met_named es l s ms bs z.1 h.1)
+
+-- ---- values of marks that begin
+begun_lefts : (at : Pt) (ms : List Mark) → map (λ (m : Mark). m.left) (begun at ms) ≡ map (λ (m : Mark). m.left) ms
+begun_lefts at [] = refl
+begun_lefts at (m ∷ ms) = ap (λ (vs : List Bool). m.left ∷ vs) (begun_lefts at ms)
+
+lefts_begun : (i j : ℕ) (at : Pt) (ms : List Mark) → i ≤ j
+    → map (λ (m : Mark). m.left) (begun_in i j at ms) ≡ map (λ (m : Mark). m.left) ms
+lefts_begun i j at ms h =
+    let f : Mark → Bool = λ m. m.left in
+    let q : List Mark = take (j - i) (drop i ms) in
+    map-append f (take i ms) (begun at q ++ drop j ms)
+    ∙ ap (λ (vs : List Bool). map f (take i ms) ++ vs) (map-append f (begun at q) (drop j ms)
+    ∙ ap (λ (vs : List Bool). vs ++ map f (drop j ms)) (begun_lefts at q) ∙ sym (map-append f q (drop j ms)))
+    ∙ sym (map-append f (take i ms) (q ++ drop j ms))
+    ∙ ap (map f) (ap (λ (xs : List Mark). take i ms ++ xs) (part_then ms i j h) ∙ take-append-drop i ms)
+
+pub left_stays : (i j k : ℕ) (at : Pt) (ms : List Mark) → i ≤ j
+    → (mark_at (begun_in i j at ms) k).left ≡ (mark_at ms k).left
+left_stays i j k at ms h =
+    let f : Mark → Bool = λ m. m.left in
+    sym (get_or-map f (begun_in i j at ms) k no_mark) ∙ ap (λ (vs : List Bool). get_or vs k false) (lefts_begun i j at ms h)
+    ∙ get_or-map f ms k no_mark
+
 left_begun : (at : Pt) (ms : List Mark) (r : Bool) → left_of_first (begun at ms) r ≡ left_of_first ms r
 left_begun at [] r = refl
 left_begun at (m ∷ ms) r = refl
@@ -353,6 +396,10 @@ pub record IsStop (on : Onwards) (s : Spot) (ts : List Spot) (run : Run) (i j n 
   pub ends : AllByRecursion (λ x. rounded (point_of (spot_at on.height.edges.now on.height.at.now x)) ≡ p)
       (take (j - i) (drop i on.height.below.now))
   pub begins : AllByRecursion (λ x. rounded (point_of (spot_at on.height.edges.now on.height.at.now x)) ≡ p)
+      (take (m - n) (drop n marks))
+  pub meet_below : AllByRecursion (λ x. IsSameAcross (spot_at on.height.edges.now on.height.at.now x) s)
+      (take (j - i) (drop i on.height.below.now))
+  pub meet_above : AllByRecursion (λ x. IsSameAcross (spot_at on.height.edges.now on.height.at.now x) s)
       (take (m - n) (drop n marks))
   pub name : IsNameTo on.height.edges.now s ts live (value_over on.height run marks m)
       (left_of_first (drop j on.height.below.now) false)
@@ -464,7 +511,17 @@ module _ (on : Onwards) (passed : List Spot) (s : Spot) (ts : List Spot) (run : 
             (sym (begun_front n m from marks stop.above_order stop.there))
             (kept_append w (take n marks) (begun from ups) (all_above come.places) pp.above
             (subst (λ (b : Bool). AreKept b (take n marks) (all_above come.places)) (sym upon) come.kept) pp.kept)));
+        met = all_append (AreAtPlace es l) come.places (place ∷ []) come.met (
+          record {
+            below = of_bundles (MeetsAt es l s) below
+                (met_named es l s lows (bundles_of below) (named_kept v lows below kept) stop.meet_below);
+            above = of_bundles (MeetsAt es l s) pp.above (subst (AllByRecursion (MeetsAt es l s)) (sym pp.is_above)
+                (met_named es l s ups bundles named stop.meet_above));
+          },
+          tt,
+        );
         named = named_in n m from marks bs stop.above_order come.named;
+        valued = λ k o. left_stays n m k from marks stop.above_order ∙ come.valued k o;
         edges =
             let done : List Edge = rounded_edges (pieces_of (all_closed come.places)) in
             let ended : List Edge = ended_at p ins outs in
@@ -503,6 +560,7 @@ pub record IsRunPassed (h : Height) (below : List Strand) (s : Spot) (later : Li
   pub begins : from ≡ start_of b.at (ins_in h.below.now run b) (outs_in marks run b)
   pub ended : edges ≡ given ++ ended_at b.at (ins_in h.below.now run b) (outs_in marks run b)
   pub round : RoundAlike h marks run s
+  pub across : MeetAcross h marks run s
   pub name : IsNameTo h.edges.now s later a.live.items (value_over h a.run marks run.above_to)
       (left_of_first (drop run.below_to h.below.now) false)
 
@@ -523,6 +581,7 @@ module _ (on : Onwards) (passed : List Spot) (s : Spot) (later : List Spot) (a :
       let c : Beside = record { below = v; above = w; flat_in = a.flat; flat_out = out; at = p } in
       let same : b ≡ c = beside_is b v w a.flat out p r.value_below r.value_above r.flat_in r.flat_out r.at in
       let P : Mark → Type 0 = λ m. rounded (point_of (spot_at h.edges.now h.at.now m)) ≡ p in
+      let A : Mark → Type 0 = λ m. IsSameAcross (spot_at h.edges.now h.at.now m) s in
       let lows : List Mark = take (run.below_to - run.below) (drop run.below h.below.now) in
       let ups : List Mark = take (run.above_to - run.above) (drop run.above marks) in
       let old : HasComeOver on passed (s ∷ later) a.run run.below run.above a.flat marks given cursor =
@@ -538,6 +597,8 @@ module _ (on : Onwards) (passed : List Spot) (s : Spot) (later : List Spot) (a :
         at = refl;
         ends = front P lows ups r.round;
         begins = back P lows ups r.round;
+        meet_below = front A lows ups r.across;
+        meet_above = back A lows ups r.across;
         name = r.name;
       }) old in
       let start : from ≡ start_of p (ins_in h.below.now run c) (outs_in marks run c) = r.begins

@@ -3,12 +3,14 @@ use Rattle.std.proofs.Common.{◌≡◌, ◌⊎◌, inl, inr, ℕ, zero, suc, �
 use Rattle.std.specs.Prelude.{nat_lt, nat_le, ◌&&◌, if◌then◌else◌}
 use Rattle.std.specs.List.{AllByRecursion, AllZip, All}
 use Rattle.std.proofs.lemmas.List.Elements.{All-from_recursion, recursion_from_All}
-use Rattle.std.proofs.lemmas.List.{append-nil, map-append, drop-drop, drop-map, drop_more, take_at, drop_at, length-map, length-append, length-drop}
+use Rattle.std.proofs.lemmas.Bool.{cases_lt}
+use Rattle.std.proofs.lemmas.List.{get_or-take, append-nil, map-append, drop-drop, drop-map, drop_more, take_at, drop_at, length-map, length-append, length-drop}
 use Rattle.scad_geom.specs.declared.point.Edge.{Edge}
 use Rattle.scad_geom.specs.declared.level.Level.{Level}
 use Rattle.scad_geom.specs.declared.level.LeafEdge.{LeafEdge}
 use Rattle.scad_geom.specs.declared.shape.Shape.{Shape}
 use Rattle.slice_snap.specs.declared.piece.Spot.{Spot}
+use Rattle.slice_bool.specs.Pieces.{IsSameAcross}
 use Rattle.slice_bool.specs.Beside.{left_value}
 use Rattle.slice_sweep.specs.declared.change.Change.{Change}
 use Rattle.slice_sweep.specs.Changes.{Group, all_below, all_above, all_at, staying}
@@ -27,11 +29,11 @@ use Rattle.slice_outlines.specs.Runs.{after}
 use Rattle.slice_outlines.specs.Cursor.{StandsOn, StaysOn}
 use Rattle.winding_laws.specs.Edges.{rounded}
 use Rattle.slice_snap.specs.Spots.{point_of}
-use Rattle.slice_outlines.specs.Marks.{mark_at, no_mark, names_in, left_of_first, IsNamed, IsKept, AreKept}
-use Rattle.slice_outlines.specs.Heights.{Onwards, IsRunOf, IsBalancedBefore, KeepsMarks, AreValuedIn, MeetAt, IsGroupAt, IsCountOf, IsOf, marks_of}
+use Rattle.slice_outlines.specs.Marks.{mark_at, no_mark, spot_at, names_in, left_of_first, IsNamed, IsKept, AreKept}
+use Rattle.slice_outlines.specs.Heights.{Onwards, IsRunOf, IsBalancedBefore, KeepsMarks, AreValuedIn, AreValuedTo, MeetAt, MeetAcross, IsGroupAt, IsCountOf, IsOf, marks_of}
 use Rattle.slice_outlines.specs.Along.{value_over, LeadTo, BeginAt, ArePlacesFrom, HasComeOver}
 use Rattle.slice_outlines.specs.Reached.{HasReached}
-use Rattle.slice_outlines.specs.Ahead.{AreMarksAt, LieAhead, IsBehind, AreBetween, between, HasComeTo, AreBalancedFrom, AreStrandsAhead, KeepsRight, HasPassed, first_spot, group_spots}
+use Rattle.slice_outlines.specs.Ahead.{IsSameSpot, AreMarksAt, LieAhead, IsBehind, AreBetween, between, HasComeTo, AreBalancedFrom, AreStrandsAhead, KeepsRight, HasPassed, AreSkipped, first_spot, group_spots}
 use Rattle.slice_outlines.specs.Ahead.LieAhead.{none as no_more, stays as one_stays, changes as one_changes}
 use Rattle.slice_outlines.proofs.Placing.{first_kept}
 use Rattle.slice_outlines.proofs.Onward.{kept_drop}
@@ -243,8 +245,9 @@ named_as (m ∷ ms) (n ∷ ns) (b ∷ bs) s h z = (
 turned : (on : Onwards) (passed spots : List Spot) (run next : Run) (n m : ℕ) (ms ns : List Mark)
     (given : List Edge) (c : Cursor) → value_over on.height next ns m ≡ value_over on.height run ms m
     → take m ns ≡ take m ms → length ns ≡ length ms → ((i : ℕ) → (mark_at ns i).name ≡ (mark_at ms i).name)
+    → AreValuedTo on.height on.shape next.above_to ns
     → HasComeOver on passed [] run n m None ms given c → HasComeOver on passed spots next n m None ns given c
-turned on passed spots run next n m ms ns given c e t s k come =
+turned on passed spots run next n m ms ns given c e t s k valued come =
     let nothing : come.flat ≡ [] = come.leads in
     record {
       places = come.places;
@@ -258,7 +261,9 @@ turned on passed spots run next n m ms ns given c e t s k come =
           (subst (λ (ws : List Way). ArePassed on.height.edges.now on.height.at.now on.upper ws later) (sym nothing) pass);
       kept = subst (λ (xs : List Mark). AreKept (value_over on.height next ns m) xs (placed_above come.places)) (sym t)
           (subst (λ (v : Bool). AreKept v (take m ms) (placed_above come.places)) (sym e) come.kept);
+      met = come.met;
       named = named_as ms ns (bundles_in on.height.front.now) s k come.named;
+      valued = valued;
       edges = come.edges;
       stands = come.stands;
     }
@@ -300,13 +305,23 @@ module _ (on : Onwards) (o : Open) (kept : AreKept false on.height.below.now on.
     s = spot_of on.height.edges.now on.height.at.now b
 
     stay_one : (passed : List Spot) (x : Mark) (lower upper : List Mark) (bs cs : List (List ℕ))
-        → drop n on.height.below.now ≡ x ∷ lower → drop m ms ≡ x ∷ upper → bundles_of (drop n on.below) ≡ b ∷ bs
+        → IsBalancedBefore on.height on.shape (between n m) → drop n on.height.below.now ≡ x ∷ lower → drop m ms ≡ x ∷ upper → bundles_of (drop n on.below) ≡ b ∷ bs
         → drop m bundles ≡ b ∷ cs → HasComeTo on passed n m o
         → HasComeTo on (passed ++ (s ∷ [])) (n + 1) (m + 1) o
-    stay_one passed x lower upper bs cs e f g k come =
+    stay_one passed x lower upper bs cs beside e f g k come =
         by_strands (drop n on.below) refl (subst (λ (xs : List Mark). AreKept false xs (drop n on.below)) e
         (kept_drop false n on.height.below.now on.below kept)) g
       where
+        valued : AreValuedTo on.height on.shape (m + 1) ms
+        valued i o = elim (cases_lt i m) [
+          | inl l ↦ come.valued i l
+          | inr l ↦
+              let same : m ≡ i = omega (arith, l, o) in
+              subst (λ (j : ℕ). (mark_at ms j).left ≡ left_value on.height.edges.now on.shape (drop j bundles)) same
+              (ap (λ (y : Mark). y.left) (head_of ms m x upper no_mark f)
+              ∙ sym (ap (λ (xs : List Mark). left_of_first xs false) e) ∙ beside)
+        ]
+
         here : value_over on.height run ms m ≡ value_over on.height (between n m) ms m
         here = within on.height run ms m (omega arith) ∙ ap (λ (y : Mark). y.left) (head_of ms m x upper no_mark f)
             ∙ sym (left_here on.height n m ms ∙ ap (λ (xs : List Mark). left_of_first xs false) e)
@@ -322,7 +337,7 @@ module _ (on : Onwards) (o : Open) (kept : AreKept false on.height.below.now on.
             value_end on.height run ms ∙ ap (λ (xs : List Mark). left_of_first xs false) low
             ∙ first_kept false lower ts a.1 in
             turned on (passed ++ (s ∷ [])) [] run (between (n + 1) (m + 1)) (n + 1) (m + 1) ms ms o.given.items o.cursor
-            (left_here on.height (n + 1) (m + 1) ms ∙ sym (value_end on.height run ms)) refl refl (λ i. refl)
+            (left_here on.height (n + 1) (m + 1) ms ∙ sym (value_end on.height run ms)) refl refl (λ i. refl) valued
             (stay_passed on passed s run n m ms o.given.items o.cursor t (record {
               at = ap (spot_of on.height.edges.now on.height.at.now) name;
               lower = d ∙ ap (λ (us : List Strand). t ∷ us) (sym later);
@@ -333,28 +348,29 @@ module _ (on : Onwards) (o : Open) (kept : AreKept false on.height.below.now on.
               to = omega arith;
               value = right ∙ ap (λ (us : List Strand). value_before us false) (sym later);
             }) (turned on passed (s ∷ []) (between n m) run n m ms ms o.given.items o.cursor here refl refl (λ i. refl)
-            come))
+            valued come))
 
   -- all that stay
   pub stay_all : (bs : List (List ℕ)) (same lower upper : List Mark) (cs ds : List (List ℕ)) (passed : List Spot)
-      (n m : ℕ) → length same ≡ length bs → drop n on.height.below.now ≡ same ++ lower → drop m ms ≡ same ++ upper
+      (n m : ℕ) (gs : List Group) → AreBalancedFrom on.height on.shape n m (map staying bs ++ gs)
+      → length same ≡ length bs → drop n on.height.below.now ≡ same ++ lower → drop m ms ≡ same ++ upper
       → bundles_of (drop n on.below) ≡ bs ++ cs → drop m bundles ≡ bs ++ ds → HasComeTo on passed n m o
       → HasComeTo on (passed ++ map (spot_of on.height.edges.now on.height.at.now) bs) (n + length bs) (m + length bs) o
-  stay_all [] [] lower upper cs ds passed n m s e f g k come =
+  stay_all [] [] lower upper cs ds passed n m gs balanced s e f g k come =
       let a : n ≡ n + 0 = omega arith in
       let b : m ≡ m + 0 = omega arith in
       subst (λ (us : List Spot). HasComeTo on us (n + 0) (m + 0) o) (sym (append-nil passed))
       (subst (λ (j : ℕ). HasComeTo on passed (n + 0) j o) b (subst (λ (i : ℕ). HasComeTo on passed i m o) a come))
-  stay_all [] (x ∷ same) lower upper cs ds passed n m s e f g k come = absurd (omega (arith, s))
-  stay_all (b ∷ bs) [] lower upper cs ds passed n m s e f g k come = absurd (omega (arith, s))
-  stay_all (b ∷ bs) (x ∷ same) lower upper cs ds passed n m s e f g k come =
+  stay_all [] (x ∷ same) lower upper cs ds passed n m gs balanced s e f g k come = absurd (omega (arith, s))
+  stay_all (b ∷ bs) [] lower upper cs ds passed n m gs balanced s e f g k come = absurd (omega (arith, s))
+  stay_all (b ∷ bs) (x ∷ same) lower upper cs ds passed n m gs balanced s e f g k come =
       let t : Spot = spot_of on.height.edges.now on.height.at.now b in
       let us : List Spot = map (spot_of on.height.edges.now on.height.at.now) bs in
       let a : n + 1 + length bs ≡ n + suc (length bs) = omega arith in
       let c : m + 1 + length bs ≡ m + suc (length bs) = omega arith in
       let next : HasComeTo on (passed ++ (t ∷ [])) (n + 1) (m + 1) o =
-      stay_one n m b passed x (same ++ lower) (same ++ upper) (bs ++ cs) (bs ++ ds) e f g k come in
-      let rest = stay_all bs same lower upper cs ds (passed ++ (t ∷ [])) (n + 1) (m + 1) (omega (arith, s))
+      stay_one n m b passed x (same ++ lower) (same ++ upper) (bs ++ cs) (bs ++ ds) balanced.0 e f g k come in
+      let rest = stay_all bs same lower upper cs ds (passed ++ (t ∷ [])) (n + 1) (m + 1) gs balanced.1 (omega (arith, s))
       (tail_of on.height.below.now n x (same ++ lower) e) (tail_of ms m x (same ++ upper) f)
       (strands_tail (drop n on.below) (drop (n + 1) on.below) (sym (drop-drop 1 n on.below)) g)
       (tail_of bundles m b (bs ++ ds) k) next in
@@ -393,7 +409,14 @@ pub group_reached : (on : Onwards) (passed : List Spot) (s : Spot) (r : Run) (o 
 group_reached on passed s r o a before behind come = λ ns keeps valued.
     turned on passed (s ∷ []) (between r.below r.above) r r.below r.above o.marks.items ns o.given.items o.cursor
     (group_left on.height on.shape r ns a before behind valued ∙ sym (left_here on.height r.below r.above o.marks.items))
-    keeps.left keeps.size keeps.names come
+    keeps.left keeps.size keeps.names (λ i to. elim (cases_lt i r.above) [
+      | inl l ↦ ap (λ (x : Mark). x.left) (front_same ns o.marks.items r.above i l keeps.left) ∙ come.valued i l
+      | inr l ↦ valued i (omega (arith, l)) to
+    ]) come
+  where
+    front_same : (xs ys : List Mark) (n i : ℕ) → i < n → take n xs ≡ take n ys → mark_at xs i ≡ mark_at ys i
+    front_same xs ys n i l e =
+        sym (get_or-take n xs i no_mark l) ∙ ap (λ (zs : List Mark). mark_at zs i) e ∙ get_or-take n ys i no_mark l
 
 pub group_past : (on : Onwards) (passed : List Spot) (r : Run) (o : Open)
     → HasComeOver on passed [] r r.below_to r.above_to None o.marks.items o.given.items o.cursor
@@ -401,7 +424,7 @@ pub group_past : (on : Onwards) (passed : List Spot) (r : Run) (o : Open)
 group_past on passed r o come =
     turned on passed [] r (between r.below_to r.above_to) r.below_to r.above_to o.marks.items o.marks.items o.given.items
     o.cursor (left_here on.height r.below_to r.above_to o.marks.items ∙ sym (value_end on.height r o.marks.items)) refl
-    refl (λ i. refl) come
+    refl (λ i. refl) come.valued come
 
 -- ---- names of marks
 pub all_named : (Q : ℕ → Type 0) (ms ns : List Mark) → names_in ns ≡ names_in ms → All (λ (m : Mark). Q m.name) ms
@@ -415,6 +438,18 @@ size_named ms ns e =
     sym (length-map ns (λ (m : Mark). m.name)) ∙ ap length e ∙ length-map ms (λ (m : Mark). m.name)
 
 -- ---- the next group
+all_round : (h : Height) (s : Spot) (ms : List Mark)
+    → AllByRecursion (λ m. IsSameSpot (spot_at h.edges.now h.at.now m) s) ms
+    → AllByRecursion (λ m. rounded (point_of (spot_at h.edges.now h.at.now m)) ≡ rounded (point_of s)) ms
+all_round h s [] a = tt
+all_round h s (m ∷ ms) a = (a.0.rounds, all_round h s ms a.1)
+
+all_across : (h : Height) (s : Spot) (ms : List Mark)
+    → AllByRecursion (λ m. IsSameSpot (spot_at h.edges.now h.at.now m) s) ms
+    → AllByRecursion (λ m. IsSameAcross (spot_at h.edges.now h.at.now m) s) ms
+all_across h s [] a = tt
+all_across h s (m ∷ ms) a = (a.0.across, all_across h s ms a.1)
+
 -- where a group is, behind some strands that stay
 pub record IsBehindStays (n m k gone come : ℕ) (r : Run) : Type 0 where
   pub below : r.below ≡ n + k
@@ -575,7 +610,12 @@ module _ (h : Height) (ms : List Mark) (cs : List Change) (p : Passed) (limit : 
         (take_at x.come x.up (r.above_to - r.above) (omega (arith, above, above_to, come)))
 
     pub group_meets : MeetAt h ms r (rounded (point_of (first_spot h.edges.now h.at.now (all_at x.group))))
-    group_meets = subst (AreMarksAt h x.group) (sym marks_there) x.at
+    group_meets = all_round h (first_spot h.edges.now h.at.now (all_at x.group)) (marks_of h ms r)
+        (subst (AreMarksAt h x.group) (sym marks_there) x.at)
+
+    pub group_across : MeetAcross h ms r (first_spot h.edges.now h.at.now (all_at x.group))
+    group_across = all_across h (first_spot h.edges.now h.at.now (all_at x.group)) (marks_of h ms r)
+        (subst (AreMarksAt h x.group) (sym marks_there) x.at)
 
     pub group_there : IsGroupAt h ms r
     group_there = record {
@@ -584,6 +624,48 @@ module _ (h : Height) (ms : List Mark) (cs : List Change) (p : Passed) (limit : 
       point = rounded (point_of (first_spot h.edges.now h.at.now (all_at x.group)));
       meet = group_meets;
     }
+
+  -- past the next group, with marks that are the same to its right
+  pub between_past : (x : NextChanges h b.rest b.above (drop p.count cs) b.groups lower upper) (r : Run)
+      → r ≡ after p.last x.change → (ns : List Mark) → length ns ≡ length ms → drop r.above_to ns ≡ drop r.above_to ms
+      → (q : Passed) → q.last ≡ r → x.later ≡ drop q.count cs → AreBetween h ns cs q limit
+  between_past x r is ns size right q last later =
+      let place = group_place x r is in
+      let run = group_run x r is in
+      let low : x.low ≡ drop r.below_to h.below.now = sym (lower_past x r is) in
+      let up : x.up ≡ drop r.above_to ns = sym (upper_past x r is) ∙ sym right in
+      let sizes = group_sizes x in
+      let below_to = place.below_to in
+      let above_to = place.above_to in
+      let to_below = sizes.0 in
+      let to_above = sizes.1 in
+      let from = x.from in
+      let at : x.change.from + x.change.come ≡ r.above_to = omega (arith, from, above_to) in
+      let run_above_to = run.above_to in
+      let last_below : q.last.below_to ≡ r.below_to = ap (λ (u : Run). u.below_to) last in
+      let last_above : q.last.above_to ≡ r.above_to = ap (λ (u : Run). u.above_to) last in
+      record {
+        below = r.below_to;
+        above = r.above_to;
+        groups = x.more;
+        rest = b.rest;
+        ahead = subst (λ (j : ℕ). LieAhead h b.rest j (drop q.count cs) x.more (drop r.below_to h.below.now)
+            (drop r.above_to ns)) at
+            (subst (λ (vs : List Mark). LieAhead h b.rest (x.change.from + x.change.come) (drop q.count cs) x.more
+            (drop r.below_to h.below.now) vs) up
+            (subst (λ (vs : List Mark). LieAhead h b.rest (x.change.from + x.change.come) (drop q.count cs) x.more
+            vs x.up) low
+            (subst (λ (ds : List Change). LieAhead h b.rest (x.change.from + x.change.come) ds x.more x.low x.up)
+            later x.ahead)));
+        behind = b.behind;
+        from_below = omega (arith, last_below);
+        from_above = omega (arith, last_above);
+        alike = omega (arith, last_below, last_above);
+        there_below = run.below_to;
+        there_above = omega (arith, run_above_to, size);
+        to_below = omega (arith, below_to, to_below);
+        to_above = omega (arith, above_to, to_above);
+      }
 
 -- ---- what is known of the strands ahead
 past : {X : Type 0} (xs : List X) (n j : ℕ) (bs cs : List X) → drop n xs ≡ bs ++ cs → length bs ≡ j
@@ -620,7 +702,8 @@ module _ (on : Onwards) (o : Open) (kept : AreKept false on.height.below.now on.
 
   pub come_to_end : gs ≡ map staying bs → HasComeTo on spots (n + length bs) (m + length bs) o
   come_to_end e =
-      stay_all on o kept bs same low up ahead.lower ahead.upper done n m size lower_is upper_is
+      stay_all on o kept bs same low up ahead.lower ahead.upper done n m [] (subst (AreBalancedFrom on.height on.shape n m)
+      (e ∙ sym (append-nil (map staying bs))) ahead.balanced) size lower_is upper_is
       (ahead.below ∙ ap (λ (cs : List (List ℕ)). cs ++ ahead.lower) (ap all_below e ∙ only_below bs))
       (ahead.above ∙ ap (λ (cs : List (List ℕ)). cs ++ ahead.upper) (ap all_above e ∙ only_above bs)) come
 
@@ -639,7 +722,8 @@ module _ (on : Onwards) (o : Open) (kept : AreKept false on.height.below.now on.
       ∙ append_assoc bs (g.above ++ all_above more) ahead.upper in
       let here : HasComeTo on spots (n + k) (m + k) o =
       stay_all on o kept bs same low up ((g.below ++ all_below more) ++ ahead.lower)
-      ((g.above ++ all_above more) ++ ahead.upper) done n m size lower_is upper_is below_is above_is come in
+      ((g.above ++ all_above more) ++ ahead.upper) done n m (g ∷ more)
+      (subst (AreBalancedFrom on.height on.shape n m) e ahead.balanced) size lower_is upper_is below_is above_is come in
       let there : HasComeTo on spots r.below r.above o =
       subst (λ (j : ℕ). HasComeTo on spots r.below j o) (sym place.above)
       (subst (λ (i : ℕ). HasComeTo on spots i (m + k) o) (sym place.below) here) in
@@ -709,7 +793,8 @@ past_none h cs limit o p w k = record {
 -- a group is passed
 abbrev pub Passes : Height → Run → Open → Open → Type 0
 Passes h r now new = (on : Onwards) (passed : List Spot) (s : Spot) → IsOf h on
-    → MeetAt h now.marks.items r (rounded (point_of s)) → IsBalancedBefore h on.shape r
+    → MeetAt h now.marks.items r (rounded (point_of s)) → MeetAcross h now.marks.items r s
+    → IsBalancedBefore h on.shape r
     → StandsOn h.edges.now on.shape (bundles_in h.front.now) now.cursor → HasReached on passed s r now
     → HasComeOver on (passed ++ s ∷ []) [] r r.below_to r.above_to None new.marks.items new.given.items new.cursor
 
@@ -727,21 +812,12 @@ module _ (h : Height) (cs : List Change) (limit : Run) (old : Open) (start : Pas
       → q.last ≡ r → x.later ≡ drop q.count cs → IsCountOf cs q → KeepsRight r now.marks.items new.marks.items
       → StaysOn h.edges.now (bundles_in h.front.now) now.cursor new.cursor → Passes h r now new
       → IsPast h cs limit old start w q new
+  unfolding between_past
   past_more x r is new q last later count keeps stands passes =
       let place = group_place h now.marks.items cs p limit b x r is in
-      let run = group_run h now.marks.items cs p limit b x r is in
-      let low : x.low ≡ drop r.below_to h.below.now = sym (lower_past h now.marks.items cs p limit b x r is) in
-      let up : x.up ≡ drop r.above_to new.marks.items =
-      sym (upper_past h now.marks.items cs p limit b x r is) ∙ sym keeps.right in
       let sizes = group_sizes h now.marks.items cs p limit b x in
-      let below_to = place.below_to in
       let above_to = place.above_to in
-      let to_below = sizes.0 in
       let to_above = sizes.1 in
-      let from = x.from in
-      let at : x.change.from + x.change.come ≡ r.above_to = omega (arith, from, above_to) in
-      let run_below_to = run.below_to in
-      let run_above_to = run.above_to in
       let size : length new.marks.items ≡ length now.marks.items =
       size_named now.marks.items new.marks.items keeps.names in
       let until : r.above_to + (limit.above - r.above_to) ≡ limit.above = omega (arith, above_to, to_above) in
@@ -751,31 +827,8 @@ module _ (h : Height) (cs : List Change) (limit : Run) (old : Open) (start : Pas
       ∙ ap (drop (limit.above - r.above_to)) keeps.right
       ∙ drop-drop (limit.above - r.above_to) r.above_to now.marks.items
       ∙ ap (λ (j : ℕ). drop j now.marks.items) until in
-      let last_below : q.last.below_to ≡ r.below_to = ap (λ (u : Run). u.below_to) last in
-      let last_above : q.last.above_to ≡ r.above_to = ap (λ (u : Run). u.above_to) last in
       record {
-        ahead = record {
-          below = r.below_to;
-          above = r.above_to;
-          groups = x.more;
-          rest = b.rest;
-          ahead = subst (λ (j : ℕ). LieAhead h b.rest j (drop q.count cs) x.more (drop r.below_to h.below.now)
-              (drop r.above_to new.marks.items)) at
-              (subst (λ (ms : List Mark). LieAhead h b.rest (x.change.from + x.change.come) (drop q.count cs) x.more
-              (drop r.below_to h.below.now) ms) up
-              (subst (λ (ms : List Mark). LieAhead h b.rest (x.change.from + x.change.come) (drop q.count cs) x.more
-              ms x.up) low
-              (subst (λ (ds : List Change). LieAhead h b.rest (x.change.from + x.change.come) ds x.more x.low x.up)
-              later x.ahead)));
-          behind = b.behind;
-          from_below = omega (arith, last_below);
-          from_above = omega (arith, last_above);
-          alike = omega (arith, last_below, last_above);
-          there_below = run.below_to;
-          there_above = omega (arith, run_above_to, size);
-          to_below = omega (arith, below_to, to_below);
-          to_above = omega (arith, above_to, to_above);
-        };
+        ahead = between_past h now.marks.items cs p limit b x r is new.marks.items size keeps.right q last later;
         rest = so_far.rest;
         names = keeps.names ∙ so_far.names;
         right = right ∙ so_far.right;
@@ -795,6 +848,7 @@ module _ (h : Height) (cs : List Change) (limit : Run) (old : Open) (start : Pas
             let passed : HasComeOver on ((done ++ us) ++ s ∷ []) [] r r.below_to r.above_to None new.marks.items
             new.given.items new.cursor =
             passes on (done ++ us) s of (group_meets h now.marks.items cs p limit b x r is)
+            (group_across h now.marks.items cs p limit b x r is)
             (subst (λ (y : Height). IsBalancedBefore y on.shape r) of.0 next.balanced)
             (subst (λ (y : Height). StandsOn y.edges.now on.shape (bundles_in y.front.now) now.cursor) of.0
             here.3.stands)
@@ -901,3 +955,104 @@ pub end_past : (h : Height) (ms : List Mark) (cs : List Change) (p : Passed) (li
     (b : AreBetween h ms cs p limit) → length cs ≤ p.count
     → AllStay b.rest (drop p.count cs) b.groups (drop b.below h.below.now) (drop b.above ms)
 end_past h ms cs p limit b o = to_end h ms cs p limit b (λ c later e l k. none_next cs p.count o c later e)
+
+-- ---- groups that are skipped
+none_there : (xs : List Mark) → length xs ≡ 0 → xs ≡ []
+none_there [] e = refl
+none_there (x ∷ xs) e = absurd (omega (arith, e))
+
+module _ (h : Height) (ms : List Mark) (cs : List Change) (p : Passed) (limit : Run) (b : AreBetween h ms cs p limit)
+    (r : Run) (o : p.count < length cs) (is : r ≡ after p.last (get_or cs p.count no_change)) where
+  abbrev d : Change
+  d = get_or cs p.count no_change
+
+  here : drop p.count cs ≡ d ∷ drop (p.count + 1) cs
+  here = drop_more cs p.count no_change o
+
+  next_is : (x : NextChanges h b.rest b.above (drop p.count cs) b.groups (drop b.below h.below.now) (drop b.above ms))
+      → (r ≡ after p.last x.change) × (x.later ≡ drop (p.count + 1) cs)
+  next_is x =
+      let same : d ∷ drop (p.count + 1) cs ≡ x.change ∷ x.later = sym here ∙ x.changes in
+      (is ∙ ap (after p.last) (first_equal d x.change (drop (p.count + 1) cs) x.later same), sym (ap (drop 1) same))
+
+  pub skip_next : (limit.below ≤ r.below → limit.above ≤ r.above → ⊥) → IsNext h ms cs p limit b r
+  skip_next away =
+      by_case (next_or_none h b.rest b.above (drop p.count cs) b.groups (drop b.below h.below.now) (drop b.above ms) b.ahead)
+    where
+      by_case : AllStay b.rest (drop p.count cs) b.groups (drop b.below h.below.now) (drop b.above ms)
+          ⊎ NextChanges h b.rest b.above (drop p.count cs) b.groups (drop b.below h.below.now) (drop b.above ms)
+          → IsNext h ms cs p limit b r
+      by_case (inr x) = (x, (next_is x).0, (next_is x).1)
+      by_case (inl x) =
+          let behind : IsBehind limit (d ∷ drop (p.count + 1) cs) = subst (IsBehind limit) (sym x.last ∙ here) b.behind in
+          let from = behind.0 in
+          let low : b.below + length x.bundles ≡ limit.below =
+          ap (λ (j : ℕ). b.below + j) (sym (ap (λ (gs : List Group). length (all_below gs)) x.groups
+          ∙ ap length (only_below x.bundles))) ∙ b.to_below in
+          let up : b.above + length x.bundles ≡ limit.above =
+          ap (λ (j : ℕ). b.above + j) (sym (ap (λ (gs : List Group). length (all_above gs)) x.groups
+          ∙ ap length (only_above x.bundles))) ∙ b.to_above in
+          let alike = b.alike in
+          let from_above = b.from_above in
+          let below : r.below ≡ p.last.below_to + (d.from - p.last.above_to) = ap (λ (u : Run). u.below) is in
+          let above : r.above ≡ d.from = ap (λ (u : Run). u.above) is in
+          absurd (away (omega (arith, below, from, low, up, alike, from_above)) (omega (arith, above, from)))
+
+  pub skip_end : limit.below ≤ r.below → limit.above ≤ r.above
+      → AllStay b.rest (drop p.count cs) b.groups (drop b.below h.below.now) (drop b.above ms)
+  skip_end low up =
+      by_case (next_or_none h b.rest b.above (drop p.count cs) b.groups (drop b.below h.below.now) (drop b.above ms) b.ahead)
+    where
+      by_case : AllStay b.rest (drop p.count cs) b.groups (drop b.below h.below.now) (drop b.above ms)
+          ⊎ NextChanges h b.rest b.above (drop p.count cs) b.groups (drop b.below h.below.now) (drop b.above ms)
+          → AllStay b.rest (drop p.count cs) b.groups (drop b.below h.below.now) (drop b.above ms)
+      by_case (inl x) = x
+      by_case (inr x) =
+          let place = group_place h ms cs p limit b x r (next_is x).0 in
+          let sizes = group_sizes h ms cs p limit b x in
+          let below = place.below in
+          let above = place.above in
+          let to_below = sizes.0 in
+          let to_above = sizes.1 in
+          let gone : length x.gone ≡ 0 = let g = x.gone_size in omega (arith, low, below, to_below, g) in
+          let come : length x.come ≡ 0 = let g = x.come_size in omega (arith, up, above, to_above, g) in
+          absurd (x.some (ap₂ (λ (us vs : List Mark). us ++ vs) (none_there x.gone gone) (none_there x.come come)))
+
+-- so far as changes are skipped
+abbrev pub IsSkipped : List Change → Run → Passed → Passed → Type 0
+IsSkipped cs limit start p = (h : Height) (ms : List Mark) (w : AreBetween h ms cs start limit)
+    → (b : AreBetween h ms cs p limit) × (b.rest ≡ w.rest)
+
+pub skip_more : (cs : List Change) (limit : Run) (start p q : Passed) (r : Run) → p.count < length cs
+    → r ≡ after p.last (get_or cs p.count no_change) → (limit.below ≤ r.below → limit.above ≤ r.above → ⊥)
+    → q.last ≡ r → q.count ≡ p.count + 1 → IsSkipped cs limit start p → IsSkipped cs limit start q
+unfolding between_past
+skip_more cs limit start p q r o is away last count so_far h ms w =
+    let b = so_far h ms w in
+    let x = skip_next h ms cs p limit b.0 r o is away in (
+      between_past h ms cs p limit b.0 x.0 r x.1 ms refl refl q last
+          (x.2 ∙ ap (λ (n : ℕ). drop n cs) (sym count)),
+      b.1,
+    )
+
+pub all_skipped : (cs : List Change) (run : Run) (start p : Passed) (h : Height) (ms : List Mark)
+    (w : AreBetween h ms cs start (between run.below_to run.above_to))
+    (b : AreBetween h ms cs p (between run.below_to run.above_to)) → b.rest ≡ w.rest
+    → AllStay b.rest (drop p.count cs) b.groups (drop b.below h.below.now) (drop b.above ms)
+    → AreSkipped cs w.rest run p
+all_skipped cs run start p h ms w b e x =
+    let below : b.below + length x.bundles ≡ run.below_to =
+    ap (λ (j : ℕ). b.below + j) (sym (ap (λ (gs : List Group). length (all_below gs)) x.groups
+    ∙ ap length (only_below x.bundles))) ∙ b.to_below in
+    let above : b.above + length x.bundles ≡ run.above_to =
+    ap (λ (j : ℕ). b.above + j) (sym (ap (λ (gs : List Group). length (all_above gs)) x.groups
+    ∙ ap length (only_above x.bundles))) ∙ b.to_above in
+    let from_below = b.from_below in
+    let from_above = b.from_above in
+    let alike = b.alike in
+    record {
+      later = x.last ∙ e;
+      from_below = omega (arith, below, from_below);
+      from_above = omega (arith, above, from_above);
+      alike = omega (arith, below, above, alike);
+    }

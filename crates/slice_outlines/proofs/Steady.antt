@@ -16,17 +16,18 @@ use Rattle.sweep_laws.specs.Ways.{Way, way_between, pieces_of}
 use Rattle.sweep_laws.specs.Visits.{Pass, IsOneCourse}
 use Rattle.sweep_laws.specs.Visits.Pass.{goes_on, all_end}
 use Rattle.sweep_laws.specs.Fronts.{Strand, bundles_of, value_before, way_up, way_from, ways_up, ways_from}
-use Rattle.sweep_laws.specs.Crossing.{Place, spots_of, all_below, all_above, all_closed, way_along, flat_way, ins_to, outs_from, opens_after, ArePassed}
+use Rattle.sweep_laws.specs.Crossing.{Place, spots_of, all_below, all_above, all_closed, way_along, flat_way, ins_to, outs_from, opens_after, ArePassed, MeetsAt}
 use Rattle.sweep_laws.specs.Staying.{spot_of, staying}
 use Rattle.slice_outlines.specs.declared.course.Course.{Course}
 use Rattle.slice_outlines.specs.declared.mark.Mark.{Mark}
 use Rattle.slice_outlines.specs.declared.run.Run.{Run}
 use Rattle.slice_outlines.specs.declared.cursor.Cursor.{Cursor}
 use Rattle.slice_outlines.specs.declared.height.Height.{Height}
-use Rattle.slice_outlines.specs.Marks.{mark_at, no_mark, left_of_first, IsKept, AreKept}
+use Rattle.slice_outlines.specs.Marks.{mark_at, no_mark, left_of_first, IsNamed, IsKept, AreKept}
 use Rattle.slice_outlines.specs.Passing.{IsCourseOf}
 use Rattle.slice_outlines.specs.Heights.{Onwards}
-use Rattle.slice_outlines.specs.Along.{value_over, ArePlacesFrom, HasComeOver}
+use Rattle.slice_outlines.specs.Along.{value_over, ArePlacesFrom, AreAtPlace, HasComeOver}
+use Rattle.slice_outlines.proofs.Placing.{all_append}
 
 -- ---- between places with one value on both sides nothing leads along the height
 none_along : (b : Bool) (s t : Spot) (o : Option ℕ) → way_along b b s t o ≡ []
@@ -130,6 +131,11 @@ pub record Stays (on : Onwards) (s : Spot) (run : Run) (n m : ℕ) (ms : List Ma
   pub to : m < run.above_to
   pub value : value_over on.height run ms (m + 1) ≡ value_before (drop (n + 1) on.below) false
 
+-- a bundle is where its first edge meets a height
+meets_own : (es : List LeafEdge) (l : Level) (k : ℕ) (b : List ℕ) → IsNamed k b → MeetsAt es l (spot_of es l b) b
+meets_own es l k [] n = absurd n
+meets_own es l k (j ∷ js) n = refl
+
 pub stay_passed : (on : Onwards) (passed : List Spot) (s : Spot) (run : Run) (n m : ℕ) (ms : List Mark)
     (given : List Edge) (c : Cursor) (t : Strand) → Stays on s run n m ms t
     → HasComeOver on passed (s ∷ []) run n m None ms given c
@@ -139,6 +145,8 @@ stay_passed on passed s run n m ms given c t h come =
     let l : Level = on.height.at.now in
     let q : Place = staying es l t in
     let left : value_over on.height run ms m ≡ t.left = within on.height run ms m h.to ∙ h.kept.left in
+    let meets : MeetsAt es l q.at t.bundle = meets_own es l (mark_at ms m).name t.bundle h.kept.name in
+    let own : AreAtPlace es l q = record { below = (meets, tt); above = (meets, tt) } in
     record {
       places = come.places ++ (q ∷ []);
       flat = [];
@@ -172,7 +180,9 @@ stay_passed on passed s run n m ms given c t h come =
           (sym (above-append come.places (q ∷ [])))
           (kept_next (value_over on.height run ms m) (value_over on.height run ms (m + 1)) (take m ms)
           (all_above come.places) (mark_at ms m) t left come.kept h.kept));
+      met = all_append (AreAtPlace es l) come.places (q ∷ []) come.met (own, tt);
       named = come.named;
+      valued = come.valued;
       edges = subst (λ (ws : List Way). IsPermutation (on.given ++ rounded_edges (pieces_of ws)) given)
           (sym (closed-append come.places (q ∷ []) ∙ append-nil (all_closed come.places))) come.edges;
       stands = come.stands;
@@ -181,24 +191,3 @@ stay_passed on passed s run n m ms given c t h come =
     no_course : (ws : List Way) → AllZip IsCourseOf ws [] → ws ≡ []
     no_course [] z = refl
     no_course (w ∷ ws) z = absurd z
-
--- what comes next has a part of its own, where the value to its left is that to the right of what is passed
-pub part_begins : (on : Onwards) (passed : List Spot) (s : Spot) (run next : Run) (n m : ℕ) (ms : List Mark)
-    (given : List Edge) (c : Cursor) → value_over on.height next ms m ≡ value_over on.height run ms m
-    → HasComeOver on passed [] run n m None ms given c → HasComeOver on passed (s ∷ []) next n m None ms given c
-part_begins on passed s run next n m ms given c e come =
-    let none : come.flat ≡ [] = come.leads in
-    record {
-      places = come.places;
-      flat = come.flat;
-      at = come.at;
-      along = come.along;
-      leads = subst (λ (ws : List Way). AllByRecursion (λ (w : Way). w.far ≡ s) ws) (sym none) tt;
-      lower = come.lower;
-      upper = come.upper;
-      goes_on = λ later f pass. come.goes_on later (record { below = f.below; value = f.value ∙ e; first = tt }) pass;
-      kept = subst (λ (v : Bool). AreKept v (take m ms) (all_above come.places)) (sym e) come.kept;
-      named = come.named;
-      edges = come.edges;
-      stands = come.stands;
-    }

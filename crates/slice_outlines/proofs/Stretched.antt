@@ -170,7 +170,9 @@ with_cursor on passed spots run n m course ms given given' c d e s h = record {
   upper = h.upper;
   goes_on = h.goes_on;
   kept = h.kept;
+  met = h.met;
   named = h.named;
+  valued = h.valued;
   edges = subst (λ (es : List Edge). IsPermutation (on.given ++ rounded_edges (pieces_of (all_closed h.places))) es) (sym e)
       h.edges;
   stands = s;

@@ -26,7 +26,8 @@ use Rattle.slice_outlines.specs.declared.spot.Stop.{Stop}
 use Rattle.slice_outlines.specs.Flats.{IsFlatOf, LiesOn}
 use Rattle.slice_outlines.specs.Along.{BeginsBy, StartsAfter, goes_on}
 use Rattle.slice_outlines.specs.Stretch.{TellWay}
-use Rattle.slice_outlines.proofs.Covering.{HasNumber, ArePassing, least_passes}
+use Rattle.slice_outlines.specs.Level.{HasNumber}
+use Rattle.slice_outlines.proofs.Covering.{ArePassing, least_passes}
 use Rattle.slice_outlines.proofs.Sought.{left_true, scaled_order}
 use Rattle.slice_outlines.proofs.Waiting.{left_is}
 

@@ -7,7 +7,7 @@ use Rattle.scad_geom.specs.declared.shape.Shape.{Shape}
 use Rattle.winding_laws.specs.Edges.{rounded}
 use Rattle.slice_snap.specs.declared.piece.Spot.{Spot}
 use Rattle.slice_snap.specs.Spots.{point_of}
-use Rattle.slice_bool.specs.Pieces.{whole_spot}
+use Rattle.slice_bool.specs.Pieces.{whole_spot, IsSameAcross}
 use Rattle.slice_sweep.specs.declared.change.Change.{Change}
 use Rattle.slice_sweep.specs.Changes.{Group, all_below, all_above, all_at, staying}
 use Rattle.slice_sweep.specs.Front.{bundles_in}
@@ -31,10 +31,15 @@ first_spot es l (b ∷ bs) = spot_of es l b
 abbrev pub group_spots : List LeafEdge → Level → List Group → List Spot
 group_spots es l gs = map (λ g. first_spot es l (all_at g)) gs
 
--- marks that meet the height where a group does, rounded
+-- a spot is where another is, and rounds as it does
+pub record IsSameSpot (s t : Spot) : Type 0 where
+  pub across : IsSameAcross s t
+  pub rounds : rounded (point_of s) ≡ rounded (point_of t)
+
+-- marks that meet the height where a group does
 abbrev pub AreMarksAt : Height → Group → List Mark → Type 0
-AreMarksAt h g ms = AllByRecursion (λ m. rounded (point_of (spot_at h.edges.now h.at.now m))
-    ≡ rounded (point_of (first_spot h.edges.now h.at.now (all_at g)))) ms
+AreMarksAt h g ms = AllByRecursion (λ m. IsSameSpot (spot_at h.edges.now h.at.now m)
+    (first_spot h.edges.now h.at.now (all_at g))) ms
 
 -- ---- ahead of a place among the strands above a height
 -- changes tell of these groups, and then of more that is to the right of them; the marks that lie ahead below the height
@@ -106,3 +111,10 @@ pub record HasPassed (h : Height) (cs rest : List Change) (limit : Run) (p : Pas
   pub from_below : p.last.below_to ≤ limit.below
   pub from_above : p.last.above_to ≤ limit.above
   pub alike : limit.below + p.last.above_to ≡ limit.above + p.last.below_to
+
+-- no change that is left lies in a part, and all others are skipped
+pub record AreSkipped (cs rest : List Change) (limit : Run) (p : Passed) : Type 0 where
+  pub later : drop p.count cs ≡ rest
+  pub from_below : p.last.below_to ≤ limit.below_to
+  pub from_above : p.last.above_to ≤ limit.above_to
+  pub alike : limit.below_to + p.last.above_to ≡ limit.above_to + p.last.below_to

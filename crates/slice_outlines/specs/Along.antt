@@ -4,6 +4,7 @@ use Rattle.std.specs.List.{AllByRecursion, AllZip, position}
 use Rattle.std.specs.List.Sorted.{IsPermutation}
 use Rattle.scad_geom.specs.declared.point.Pt.{Pt}
 use Rattle.scad_geom.specs.declared.point.Edge.{Edge}
+use Rattle.scad_geom.specs.declared.level.Level.{Level}
 use Rattle.scad_geom.specs.declared.level.LeafEdge.{LeafEdge}
 use Rattle.slice_snap.specs.declared.piece.Spot.{Spot}
 use Rattle.winding_laws.specs.Edges.{rounded}
@@ -14,7 +15,7 @@ use Rattle.slice_bool.specs.Pieces.{whole_spot, IsLeft, covers}
 use Rattle.slice_bool.specs.Stops.{is_left}
 use Rattle.sweep_laws.specs.Ways.{Way, pieces_of}
 use Rattle.sweep_laws.specs.Fronts.{bundles_of, value_before}
-use Rattle.sweep_laws.specs.Crossing.{Place, spots_of, all_below, all_above, all_closed, ArePassed}
+use Rattle.sweep_laws.specs.Crossing.{Place, spots_of, all_below, all_above, all_closed, ArePassed, MeetsAt}
 use Rattle.slice_outlines.specs.declared.mark.Mark.{Mark}
 use Rattle.slice_outlines.specs.declared.run.Run.{Run}
 use Rattle.slice_outlines.specs.declared.spot.Stop.{Stop}
@@ -27,7 +28,7 @@ use Rattle.slice_outlines.specs.declared.height.Open.{Open}
 use Rattle.slice_outlines.specs.Marks.{spot_at, mark_at, left_of_first, IsNamed, AreKept}
 use Rattle.slice_outlines.specs.Passing.{IsCourseOf, or_none}
 use Rattle.slice_outlines.specs.Cursor.{StandsOn}
-use Rattle.slice_outlines.specs.Heights.{Onwards, IsRunOf, marks_of}
+use Rattle.slice_outlines.specs.Heights.{Onwards, IsRunOf, AreValuedTo, marks_of}
 
 -- ---- beside a stop
 abbrev pub LiesLeftOf : Height → Stop → Mark → Type 0
@@ -101,6 +102,11 @@ pub record ArePlacesFrom (on : Onwards) (n : ℕ) (left : Bool) (spots : List Sp
   pub value : value_before (all_above later) false ≡ left
   pub first : BeginAt spots later
 
+-- strands are at their place
+pub record AreAtPlace (es : List LeafEdge) (l : Level) (p : Place) : Type 0 where
+  pub below : AllByRecursion (λ s. MeetsAt es l p.at s.bundle) p.below
+  pub above : AllByRecursion (λ s. MeetsAt es l p.at s.bundle) p.above
+
 -- the places that are passed have some spots, and so many strands below the height and above it; a way along the height
 -- may lead to the first of the spots to come
 pub record HasComeOver (on : Onwards) (passed spots : List Spot) (run : Run) (n m : ℕ) (course : Option Course)
@@ -116,7 +122,9 @@ pub record HasComeOver (on : Onwards) (passed spots : List Spot) (run : Run) (n 
       → ArePassed on.height.edges.now on.height.at.now on.upper flat later
       → ArePassed on.height.edges.now on.height.at.now on.upper [] (places ++ later)
   pub kept : AreKept (value_over on.height run marks m) (take m marks) (all_above places)
+  pub met : AllByRecursion (AreAtPlace on.height.edges.now on.height.at.now) places
   pub named : AllZip (λ x b. IsNamed x.name b) marks (bundles_in on.height.front.now)
+  pub valued : AreValuedTo on.height on.shape run.above_to marks
   pub edges : IsPermutation (on.given ++ rounded_edges (pieces_of (all_closed places))) given
   pub stands : StandsOn on.height.edges.now on.shape (bundles_in on.height.front.now) cursor
 

@@ -14,7 +14,7 @@ use Rattle.slice_snap.specs.Rounding.{rounded_edges}
 use Rattle.slice_sweep.specs.declared.change.Change.{Change}
 use Rattle.slice_sweep.specs.Front.{bundles_in}
 use Rattle.slice_bool.specs.Beside.{left_value}
-use Rattle.slice_bool.specs.Pieces.{across, spot_on, passes_at, GoRight}
+use Rattle.slice_bool.specs.Pieces.{across, spot_on, passes_at, GoRight, IsSameAcross}
 use Rattle.scad_geom.specs.Level.{IsAtMost}
 use Rattle.sweep_laws.specs.Ways.{pieces_of}
 use Rattle.sweep_laws.specs.Fronts.{Strand, bundles_of, value_before}
@@ -45,6 +45,11 @@ abbrev pub AreValuedIn : Height → Shape → Run → List Mark → Type 0
 AreValuedIn h shape run ms = (i : ℕ) → run.above ≤ i → i < run.above_to
     → (mark_at ms i).left ≡ left_value h.edges.now shape (drop i (bundles_in h.front.now))
 
+-- so have the first so many marks
+abbrev pub AreValuedTo : Height → Shape → ℕ → List Mark → Type 0
+AreValuedTo h shape n ms = (i : ℕ) → i < n
+    → (mark_at ms i).left ≡ left_value h.edges.now shape (drop i (bundles_in h.front.now))
+
 -- nothing but the values of a part's marks differs
 pub record KeepsMarks (run : Run) (old new : List Mark) : Type 0 where
   pub size : length new ≡ length old
@@ -70,11 +75,6 @@ pub record IsCountOf (cs : List Change) (p : Passed) : Type 0 where
   pub count : p.count ≤ length cs
   pub last : p.last ≡ run_of first p.count cs
 
--- the next change lies to the right of a part
-abbrev pub IsNotIn : List Change → Passed → Run → Type 0
-IsNotIn cs p limit = (c : Change) (later : List Change) → drop p.count cs ≡ c ∷ later
-    → (limit.below_to ≤ (after p.last c).below) × (limit.above_to ≤ (after p.last c).above)
-
 -- ---- a group
 -- the marks of a part, below the height and above it
 abbrev pub marks_of : Height → List Mark → Run → List Mark
@@ -84,6 +84,10 @@ marks_of h ms run = take (run.below_to - run.below) (drop run.below h.below.now)
 -- where their edges meet the height rounds to one point
 abbrev pub MeetAt : Height → List Mark → Run → Pt → Type 0
 MeetAt h ms run p = AllByRecursion (λ m. rounded (point_of (spot_at h.edges.now h.at.now m)) ≡ p) (marks_of h ms run)
+
+-- they meet it where a spot is
+abbrev pub MeetAcross : Height → List Mark → Run → Spot → Type 0
+MeetAcross h ms run s = AllByRecursion (λ m. IsSameAcross (spot_at h.edges.now h.at.now m) s) (marks_of h ms run)
 
 pub record IsGroupAt (h : Height) (ms : List Mark) (r : Run) : Type 0 where
   pub run : IsRunOf h.below.now ms r

@@ -14,3 +14,4 @@ pub mod Stretch
 pub mod Reached
 pub mod Ahead
 pub mod Sweep
+pub mod Level

@@ -1,9 +1,11 @@
 -- What is known of a sweep between two of its levels.
-use Rattle.std.specs.Prelude.{false, ◌≡◌, ◌≤◌, ◌<◌, ◌⊎◌, ⊤, ℕ, List, [], ◌∷◌, length}
+use Rattle.std.specs.Prelude.{false, ◌≡◌, ◌≤◌, ◌<◌, ◌⊎◌, ⊤, ℕ, List, [], ◌∷◌, length, take, drop}
+use Rattle.std.specs.List.{AllByRecursion}
 use Rattle.std.specs.List.Sorted.{IsPermutation}
 use Rattle.scad_geom.specs.declared.level.Level.{Level}
 use Rattle.scad_geom.specs.declared.level.LeafEdge.{LeafEdge}
 use Rattle.scad_geom.specs.declared.shape.Shape.{Shape}
+use Rattle.scad_geom.specs.Level.{level_of, IsLower, IsAtMost}
 use Rattle.scad_geom.specs.Heights.{AreNeighbours}
 use Rattle.slice_events.specs.Levels.{AreLevels}
 use Rattle.slice_snap.specs.Rounding.{rounded_edges}
@@ -22,6 +24,15 @@ abbrev pub IsReadyForFirst : List LeafEdge → List Level → Sweep → Type 0
 IsReadyForFirst es [] s = ⊤
 IsReadyForFirst es (l ∷ ls) s = IsReadyFor es l s.front × IsBegunTo es l s.front
 
+-- the flat edges that are passed lie below the first of some levels, and no others do
+pub record ArePassedBelow (l : Level) (s : Sweep) : Type 0 where
+  pub passed : AllByRecursion (λ f. IsLower (level_of f.y) l) (take s.passed s.flats.items)
+  pub later : AllByRecursion (λ f. IsAtMost l (level_of f.y)) (drop s.passed s.flats.items)
+
+abbrev pub ArePassedBelowFirst : List Level → Sweep → Type 0
+ArePassedBelowFirst [] s = ⊤
+ArePassedBelowFirst (l ∷ ls) s = ArePassedBelow l s
+
 -- nothing lies below the first of all levels; below any other the front is that between it and the one before
 abbrev pub IsFrontBelow : List LeafEdge → Shape → List Level → List Level → List Strand → Type 0
 IsFrontBelow es shape levels [] front = ⊤
@@ -39,6 +50,7 @@ pub record HasSwept (es : List LeafEdge) (shape : Shape) (levels left : List Lev
   pub cursor : StandsOn es shape (bundles_in s.front) s.kept.cursor
   pub flats : AreFlats es s.flats.items
   pub passed : s.passed ≤ length s.flats.items
+  pub flats_below : ArePassedBelowFirst left s
   pub ready : IsReadyForFirst es left s
   pub below : IsFrontBelow es shape levels left front
 

@@ -66,6 +66,18 @@ impl Cursor {
         self.go_right(edges, front, front.count());
     }
 
+    /// Leaves all strands, for a front without any.
+    pub(crate) fn clear(&mut self, edges: &[LeafEdge], front: &Front)
+        requires few { length edges.now < 2 ^ 32 }
+        requires members { AreMembers edges.now (bundles_in front.now) }
+        requires stands { Stands edges.now (bundles_in front.now) self.old }
+        ensures { (shape : Shape) → StandsOn edges.now shape (bundles_in front.now) self.old
+            → StandsOn edges.now shape [] self.new }
+    {
+        self.rest(edges, front);
+        self.at = 0;
+    }
+
     fn go_left(&mut self, edges: &[LeafEdge], front: &Front, place: usize)
         requires few { length edges.now < 2 ^ 32 }
         requires members { AreMembers edges.now (bundles_in front.now) }

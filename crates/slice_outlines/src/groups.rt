@@ -1,5 +1,5 @@
 //! Groups of strands at one place, where nothing leads along the height.
-ghost use Rattle.std.specs.Prelude.{◌≡◌, ◌<◌, ◌≤◌, ◌++◌, ◌∷◌, [], true, false, None, List, length, IfOk, OnOk};
+ghost use Rattle.std.specs.Prelude.{◌≡◌, ◌<◌, ◌≤◌, ◌++◌, ◌∷◌, [], ◌&&◌, nat_le, true, false, None, List, length, IfOk, OnOk};
 ghost use Rattle.scad_geom.specs.declared.point.Pt.{Pt};
 ghost use Rattle.winding_laws.specs.Edges.{rounded};
 ghost use Rattle.slice_snap.specs.Spots.{point_of};
@@ -9,10 +9,12 @@ ghost use Rattle.slice_bool.specs.Beside.{AreMembers};
 ghost use Rattle.slice_outlines.specs.Marks.{AreThere, mark_at};
 ghost use Rattle.slice_outlines.specs.Stops.{AllPass};
 ghost use Rattle.slice_outlines.specs.Cursor.{StandsOn, Stands, StaysOn};
-ghost use Rattle.slice_outlines.specs.Heights.{Onwards, IsOf, IsBalancedBefore, IsGroupAt, IsNameOf, MeetAt, IsCountOf, IsNotIn};
+ghost use Rattle.slice_outlines.specs.Heights.{Onwards, IsOf, IsBalancedBefore, IsGroupAt, IsNameOf, MeetAt, MeetAcross, IsCountOf};
 ghost use Rattle.slice_outlines.specs.Along.{HasComeOver};
 ghost use Rattle.slice_outlines.specs.Reached.{HasReached, CanCount};
-ghost use Rattle.slice_outlines.specs.Ahead.{AreBetween, AreStrandsAhead, HasComeTo, HasPassed, KeepsRight, group_spots};
+ghost use Rattle.slice_outlines.specs.Ahead.{AreBetween, AreStrandsAhead, HasComeTo, HasPassed, AreSkipped, KeepsRight, between, group_spots};
+ghost use Rattle.slice_outlines.specs.declared.height.Height.{Height};
+ghost use Rattle.slice_outlines.specs.declared.mark.Mark.{Mark};
 
 use crate::changing::find_values;
 use crate::height::{Height, Open};
@@ -77,7 +79,9 @@ pub(crate) fn skip_groups(changes: &[Change], passed: &Passed, limit: &Run) -> P
     requires behind { IsCountOf changes.now passed.now }
     requires told { CanCount changes.now }
     ensures behind { IsCountOf changes.now result }
-    ensures next { IsNotIn changes.now result limit.now }
+    ensures next { (h : Height) (ms : List Mark)
+        (w : AreBetween h ms changes.now passed.now (between limit.now.below_to limit.now.above_to))
+        → AreSkipped changes.now w.rest limit.now result }
 {
     let mut passed = *passed;
     'changes: while passed.count < changes.len() {
@@ -95,7 +99,7 @@ pub(crate) fn skip_groups(changes: &[Change], passed: &Passed, limit: &Run) -> P
 
 // Whether one part lies to the right of another.
 fn is_right(run: &Run, other: &Run) -> bool
-    ensures { result ≡ true → (other.now.below_to ≤ run.now.below) × (other.now.above_to ≤ run.now.above) }
+    ensures { result ≡ (nat_le other.now.below_to run.now.below && nat_le other.now.above_to run.now.above) }
 {
     run.below >= other.below_to && run.above >= other.above_to
 }
@@ -111,6 +115,7 @@ fn pass_group(height: &Height<'_>, kept: &mut Open, run: &Run) -> Result<(), All
     requires there_above { AreThere height.now.edges.now kept.old.marks.items }
     ensures passed { (on : Onwards) (passed : List Spot) (s : Spot) → IsOf height.now on
         → MeetAt height.now kept.old.marks.items run.now (rounded (point_of s))
+        → MeetAcross height.now kept.old.marks.items run.now s
         → IsBalancedBefore height.now on.shape run.now
         → StandsOn height.now.edges.now on.shape (bundles_in height.now.front.now) kept.old.cursor
         → HasReached on passed s run.now kept.old

@@ -14,10 +14,11 @@ ghost use Rattle.slice_outlines.specs.declared.course.Course.{Course};
 ghost use Rattle.slice_outlines.specs.declared.spot.Stop.{Stop};
 ghost use Rattle.slice_sweep.specs.Front.{bundles_in};
 ghost use Rattle.slice_bool.specs.Beside.{AreMembers};
-ghost use Rattle.slice_outlines.specs.Cursor.{Stands, StandsOn};
+ghost use Rattle.slice_outlines.specs.Cursor.{Stands, StandsOn, StaysOn};
 ghost use Rattle.slice_outlines.specs.Stops.{AllPass, AreStopsOf, spots_in};
 ghost use Rattle.slice_outlines.specs.Stretch.{AreStopsAt, TellWays, stretch_spots, HasReachedStops};
-ghost use Rattle.slice_outlines.specs.Heights.{Onwards, IsOf, IsRunOf, AreInOrder, IsBalancedBefore, marks_of};
+ghost use Rattle.slice_outlines.specs.Heights.{Onwards, IsOf, IsRunOf, AreInOrder, IsBalancedBefore, MeetAcross, marks_of};
+ghost use Rattle.slice_outlines.specs.Ahead.{KeepsRight};
 ghost use Rattle.slice_outlines.specs.Along.{LieBetween, LiesLeftOf, LiesRightOf, IsNextStop, IsBehindStop, IsWithinRun, HasComeOver, HasComeAlong, HasLive, IsNameTo, RoundAlike, value_over, BeginsBy, StartsAfter, goes_on, course_along, least, lesser, begun_at};
 
 use crate::changing::find_values;
@@ -139,6 +140,9 @@ pub(crate) fn pass_stretch(
         × (HasReachedStops on passed spots run.now kept.old → (course : Option Course)
         × HasComeOver on (passed ++ spots) [] run.now run.now.below_to run.now.above_to course
         kept.new.marks.items kept.new.given.items kept.new.cursor)) }
+    ensures right { OnOk result (KeepsRight run.now kept.old.marks.items kept.new.marks.items) }
+    ensures stands { OnOk result (StaysOn height.now.edges.now (bundles_in height.now.front.now) kept.old.cursor
+        kept.new.cursor) }
 {
     find_values(height, kept, run);
     let stops = stops_of(alloc, height, kept, run, flats)?;
@@ -184,6 +188,8 @@ fn pass_stops(
     requires stops { AreStopsAt height.now stops.now }
     requires strands { AllByRecursion (λ m. HasSpot (spots_in stops.now)
         (spot_at height.now.edges.now height.now.at.now m)) (marks_of height.now kept.old.marks.items run.now) }
+    ensures right { OnOk result (KeepsRight run.now kept.old.marks.items kept.new.marks.items) }
+    ensures cursor { kept.new.cursor ≡ kept.old.cursor }
     ensures passed { (on : Onwards) (passed : List Spot) → IsOf height.now on
         → TellWays height.now.edges.now flats.now stops.now → OnOk result
         (HasComeOver on passed (spots_in stops.now) run.now run.now.below run.now.above None kept.old.marks.items
@@ -235,6 +241,9 @@ fn pass_stop(
     ensures within { OnOk result (IsWithinRun height.now kept.new.marks.items along.new) }
     ensures run { along.new.run ≡ along.old.run }
     ensures names { OnOk result (names_in kept.new.marks.items ≡ names_in kept.old.marks.items) }
+    ensures right { OnOk result (drop along.old.run.above_to kept.new.marks.items
+        ≡ drop along.old.run.above_to kept.old.marks.items) }
+    ensures cursor { kept.new.cursor ≡ kept.old.cursor }
     ensures behind { OnOk result (IsBehindStop height.now kept.old.marks.items along.new s.now) }
     ensures below { OnOk result (along.old.below ≤ along.new.below) }
     ensures above { OnOk result (along.old.above ≤ along.new.above) }
@@ -313,8 +322,12 @@ fn pass_run(
     ensures begun { along.new.begun ≡ along.old.begun }
     ensures live { along.new.live ≡ along.old.live }
     ensures names { OnOk result (names_in kept.new.marks.items ≡ names_in kept.old.marks.items) }
+    ensures right { OnOk result (drop along.old.run.above_to kept.new.marks.items
+        ≡ drop along.old.run.above_to kept.old.marks.items) }
+    ensures cursor { kept.new.cursor ≡ kept.old.cursor }
     ensures passed { (on : Onwards) (passed later : List Spot) → IsOf height.now on
         → RoundAlike height.now kept.old.marks.items run.now s.now.spot
+        → MeetAcross height.now kept.old.marks.items run.now s.now.spot
         → OnOk result (IsNameTo height.now.edges.now s.now.spot later along.old.live.items
         (value_over height.now along.old.run kept.old.marks.items run.now.above_to)
         (left_of_first (drop run.now.below_to height.now.below.now) false)

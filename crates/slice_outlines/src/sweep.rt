@@ -17,6 +17,7 @@ ghost use Rattle.slice_outlines.specs.Marks.{IsNamed};
 ghost use Rattle.slice_outlines.specs.Cursor.{Stands, StaysOn};
 ghost use Rattle.slice_outlines.specs.Heights.{Onwards, IsOf};
 ghost use Rattle.slice_outlines.specs.Ahead.{HasComeTo};
+ghost use Rattle.slice_outlines.specs.Level.{IsAtLevel, IsValuedAt, AreSpotsOf};
 ghost use Rattle.slice_snap.specs.declared.piece.Spot.{Spot};
 
 use crate::above::marks_above;
@@ -133,11 +134,13 @@ impl Sweep {
         ensures { (w : CanEnd edges.now top.now self) → IfOk result (λ v. AreMergedEdges edges.now w.shape v.items) }
     {
         let mut kept = self.kept;
+        kept.cursor.clear(edges, &self.front);
         let below = mem::replace(&mut kept.marks, Vec::new(self.alloc));
+        let front = Front::new(self.alloc, &[])?;
         let height = Height {
             edges,
             at: top,
-            front: &self.front,
+            front: &front,
             below: &below,
         };
         let run = Run {
@@ -181,8 +184,10 @@ fn pass_level(
     changes: &[Change],
     flats: &[Flat],
 ) -> Result<(), AllocError>
-    ensures { (on : Onwards) → IsOf height.now on → OnOk result (HasComeTo on [] 0 0 kept.old
-        → (spots : List Spot)
+    requires level { IsAtLevel height.now kept.old.marks.items changes.now flats.now kept.old.cursor }
+    ensures { (w : IsAtLevel height.now kept.old.marks.items changes.now flats.now kept.old.cursor) (on : Onwards)
+        → IsOf height.now on → IsValuedAt on w.groups → HasComeTo on [] 0 0 kept.old
+        → OnOk result ((spots : List Spot) × AreSpotsOf height.now flats.now spots
         × HasComeTo on spots (length height.now.below.now) (length kept.old.marks.items) kept.new) }
 {
     let mut passed = Passed {

@@ -13,7 +13,7 @@ use Rattle.slice_outlines.proofs.groups.pass_group.Goals as goal
 
 pub returns : goal.returns
 returns c = record {
-  passed = λ on passed s is meet balanced stands reached.
+  passed = λ on passed s is meet across balanced stands reached.
       let h = c.args.height.now in
       let run = c.args.run.now in
       let old : List Mark = c.args.kept.now.marks.items in
@@ -36,7 +36,7 @@ returns c = record {
       (courses right (take (run.above_to - run.above) (drop run.above ms)) ++ or_none None)) seen in
       group_by on h is.0 passed s run old mid c.begin.new.marks.items c.args.kept.now.given.items
       c.pass_strands.new.given.items c.args.kept.now.cursor c.find_values.new.kept.cursor p c.in_ok-from.from right is.1
-      c.find_values.ensures.rest c.requires.group.run (sym point) (subst (MeetAt h old run) (sym point) meet)
+      c.find_values.ensures.rest c.requires.group.run (sym point) (subst (MeetAt h old run) (sym point) meet) across
       (c.find_values.ensures.stands on.shape stands) (reached mid c.find_values.ensures.rest valued)
       c.value_at-right.ensures from c.begin.ensures more;
   right = keeps_right c.args.run.now c.args.kept.now.marks.items c.find_values.new.kept.marks.items

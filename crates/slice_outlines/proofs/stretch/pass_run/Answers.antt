@@ -1,12 +1,12 @@
 -- The place is passed.
-use Rattle.std.proofs.Common.{◌++◌, ◌∷◌, [], List, sym, ap, refl, ◌∙◌}
+use Rattle.std.proofs.Common.{◌++◌, ◌∷◌, [], List, drop, sym, ap, refl, ◌∙◌}
 use Rattle.scad_geom.specs.declared.point.Edge.{Edge}
 use Rattle.slice_outlines.specs.declared.mark.Mark.{Mark}
 use Rattle.slice_outlines.specs.Marks.{names_in, begun_in}
 use Rattle.slice_outlines.specs.Passing.{start_of, ended_at}
 use Rattle.slice_outlines.specs.Places.{ins_in, outs_in}
 use Rattle.slice_outlines.specs.Along.{begun_at}
-use Rattle.slice_outlines.proofs.Onward.{run_passed, come_as, names_begun}
+use Rattle.slice_outlines.proofs.Onward.{run_passed, come_as, names_begun, begun_right}
 use Rattle.slice_outlines.proofs.stretch.pass_run.Goals as goal
 
 pub returns-clause-names : goal.returns-clause-names
@@ -14,8 +14,15 @@ returns-clause-names c = ap names_in c.begin.ensures
     ∙ names_begun c.args.run.now.above c.args.run.now.above_to c.in_ok-from.from c.args.kept.now.marks.items
     c.requires.run.above
 
+pub returns-clause-right : goal.returns-clause-right
+returns-clause-right c =
+    let k = c.args.along.now.run.above_to in
+    ap (drop k) c.begin.ensures
+    ∙ begun_right c.args.run.now.above c.args.run.now.above_to k c.in_ok-from.from c.args.kept.now.marks.items
+    c.requires.run.above c.requires.above_to c.requires.run.above_to
+
 pub returns-clause-passed : goal.returns-clause-passed
-returns-clause-passed c = λ on passed later of round name come.
+returns-clause-passed c = λ on passed later of round across name come.
     let h = c.args.height.now in
     let a = c.args.along.now in
     let run = c.args.run.now in
@@ -47,5 +54,6 @@ returns-clause-passed c = λ on passed later of round name come.
           ∙ ap (λ (ms : List Mark). given ++ ended_at b.at (ins_in h.below.now run b) (outs_in ms run b))
           c.deref.ensures.value;
       round = round;
+      across = across;
       name = name;
     }))

@@ -3,9 +3,10 @@ use Rattle.std.proofs.Common.{◌∷◌, List, ℕ, drop, false, sym, ap, ap₂,
 use Rattle.slice_outlines.specs.declared.mark.Mark.{Mark}
 use Rattle.slice_outlines.specs.declared.run.Run.{Run}
 use Rattle.slice_outlines.specs.Marks.{left_of_first}
+use Rattle.slice_outlines.specs.Heights.{MeetAcross}
 use Rattle.slice_outlines.specs.Along.{value_over, RoundAlike}
 use Rattle.slice_outlines.proofs.Onward.{come_as, name_as}
-use Rattle.slice_outlines.proofs.Rounding.{round_alike}
+use Rattle.slice_outlines.proofs.Rounding.{meet_across, round_alike}
 use Rattle.slice_outlines.proofs.stretch.pass_stop.Goals as goal
 
 pub returns-clause-passed : goal.returns-clause-passed
@@ -18,10 +19,13 @@ returns-clause-passed c = λ on passed later of name come.
     let run = c.run_at-run.result in
     let marks : List Mark = c.args.kept.now.marks.items in
     let s = c.args.s.now.spot in
+    let across : MeetAcross h marks run s = meet_across h marks a run c.args.s.now c.requires.at
+    c.run_at-run.ensures.below c.run_at-run.ensures.above c.run_at-run.ensures.below_to c.run_at-run.ensures.above_to
+    c.requires.below_pass c.requires.above_pass c.requires.next c.run_at-run.ensures.by in
     let round : RoundAlike h marks run s = round_alike h marks a run c.args.s.now c.requires.at c.run_at-run.ensures.below
     c.run_at-run.ensures.above c.run_at-run.ensures.below_to c.run_at-run.ensures.above_to c.requires.below_pass
     c.requires.above_pass c.requires.next c.run_at-run.ensures.by in
-    c.in_ok-pass_run.ensures.passed on passed later of round
+    c.in_ok-pass_run.ensures.passed on passed later of round across
     (name_as es s later new.live.items mid.live.items (value_over h a.run marks new.above)
     (value_over h mid.run marks run.above_to) (left_of_first (drop new.below h.below.now) false)
     (left_of_first (drop run.below_to h.below.now) false)

@@ -3,6 +3,7 @@ use Rattle.std.proofs.Common.{◌≡◌, ◌+◌, ◌++◌, ◌∷◌, [], List,
 use Rattle.std.proofs.lemmas.List.{append-nil, drop_all, take_all}
 use Rattle.slice_snap.specs.declared.piece.Spot.{Spot}
 use Rattle.slice_outlines.specs.declared.mark.Mark.{Mark}
+use Rattle.slice_outlines.specs.declared.run.Run.{Run}
 use Rattle.slice_outlines.specs.declared.spot.Stop.{Stop}
 use Rattle.slice_outlines.specs.declared.flat.Flat.{Flat}
 use Rattle.slice_outlines.specs.Stops.{spots_in}
@@ -18,6 +19,9 @@ stops-init c =
     let ss : List Stop = c.args.stops.now in
     let kept = c.args.kept.now in
     record {
+      names = refl;
+      right = refl;
+      cursor = refl;
       waits = first_waits c.args.height.now kept.marks.items run c.args.flats.now ss _ c.requires.run c.requires.above_order
           c.requires.above_pass c.requires.strands refl refl refl refl c.new.ensures.items;
       passed = λ on passed of tell come. subst (λ (ps : List Spot). HasComeOver on ps (spots_in ss) run run.below run.above None
@@ -94,6 +98,10 @@ stops-preserved c =
     let later : Waits h ns run fs rest b = wait_on h ms ns run fs s rest a b c.requires.below_order c.requires.below_pass
     from.at from.right step waits in
     record {
+      names = c.in_ok-pass_stop.ensures.names ∙ c.stops.invariant.names;
+      right = subst (λ (r : Run). drop r.above_to ns ≡ drop r.above_to ms) waits.run_is c.in_ok-pass_stop.ensures.right
+          ∙ c.stops.invariant.right;
+      cursor = c.in_ok-pass_stop.ensures.cursor ∙ c.stops.invariant.cursor;
       waits = later;
       passed = λ on passed of tell come.
           let done : List Spot = passed ++ spots_in (take i ss) in
@@ -107,6 +115,8 @@ stops-preserved c =
 
 pub returns : goal.returns
 returns c = record {
+  right = record { names = c.stops.invariant.names; right = c.stops.invariant.right };
+  cursor = c.stops.invariant.cursor;
   passed = λ on passed of tell come.
       let h = c.args.height.now in
       let run = c.args.run.now in

@@ -1,5 +1,5 @@
 -- The values of its strands are found, then its stops are passed.
-use Rattle.std.proofs.Common.{◌≡◌, ◌++◌, [], List, None, refl, sym, subst}
+use Rattle.std.proofs.Common.{◌≡◌, ◌++◌, [], List, None, refl, sym, ◌∙◌, subst}
 use Rattle.std.specs.List.{AllByRecursion}
 use Rattle.scad_geom.specs.declared.point.Edge.{Edge}
 use Rattle.slice_snap.specs.declared.piece.Spot.{Spot}
@@ -68,6 +68,15 @@ pass_stops-requires-clause-strands c =
 
 pub returns : goal.returns
 returns c = record {
+  right = record {
+    names = c.in_ok-pass_stops.ensures.right.names
+        ∙ sym (same_names c.args.kept.now.marks.items c.find_values.new.kept.marks.items c.find_values.ensures.rest.size
+        c.find_values.ensures.rest.names);
+    right = c.in_ok-pass_stops.ensures.right.right ∙ c.find_values.ensures.rest.right;
+  };
+  stands = λ shape s.
+      subst (StandsOn c.args.height.now.edges.now shape (bundles_in c.args.height.now.front.now))
+      (sym c.in_ok-pass_stops.ensures.cursor) (c.find_values.ensures.stands shape s);
   passed = λ on passed of balanced stands tells.
       let h = c.args.height.now in
       let old : List Mark = c.args.kept.now.marks.items in

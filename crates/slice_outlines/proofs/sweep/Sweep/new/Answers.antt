@@ -1,5 +1,5 @@
 -- No level is passed.
-use Rattle.std.proofs.Common.{ℕ, false, List, [], sym, subst, arith}
+use Rattle.std.proofs.Common.{ℕ, false, List, [], refl, sym, subst, arith}
 use Rattle.std.specs.List.Sorted.{IsPermutation}
 use Rattle.std.proofs.lemmas.List.Sorted.{IsPermutation-refl}
 use Rattle.scad_geom.specs.declared.point.Edge.{Edge}
@@ -8,7 +8,7 @@ use Rattle.sweep_laws.proofs.Edges.{ways_give_edges}
 use Rattle.slice_outlines.specs.declared.mark.Mark.{Mark}
 use Rattle.slice_outlines.specs.Marks.{AreKept}
 use Rattle.slice_outlines.specs.Cursor.{StandsOn}
-use Rattle.slice_outlines.proofs.Beginning.{ready_first, none_below}
+use Rattle.slice_outlines.proofs.Beginning.{ready_first, none_below, flats_above}
 use Rattle.slice_outlines.proofs.sweep.Sweep.new.Goals as goal
 
 pub returns : goal.returns
@@ -28,6 +28,14 @@ returns c ls a =
           (subst (StandsOn es shape []) (sym c.nothing.ensures.cursor) c.in_ok-cursor.ensures);
       flats = c.in_ok-flats.ensures;
       passed = omega arith;
+      flats_below = flats_above es ls
+          (record {
+            alloc = c.args.alloc;
+            front = c.in_ok-front.front;
+            kept = kept;
+            flats = c.in_ok-flats.flats;
+            passed = 0;
+          }) a refl c.in_ok-flats.ensures.each;
       ready = ready_first es ls
           (record {
             alloc = c.args.alloc;
