@@ -30,7 +30,7 @@ pub record IsMet (h : Height) (g : Group) : Type 0 where
       (first_spot h.edges.now h.at.now (all_at g))) (all_at g)
 
 -- ---- marks of bundles
-mark_spot : (es : List LeafEdge) (l : Level) (m : Mark) (b : List ℕ) → IsNamed m.name b
+pub mark_spot : (es : List LeafEdge) (l : Level) (m : Mark) (b : List ℕ) → IsNamed m.name b
     → spot_of es l b ≡ spot_at es l m
 mark_spot es l m [] h = absurd h
 mark_spot es l m (k ∷ ks) h = ap (λ (j : ℕ). spot_on (edge_at es j) l) (sym h)

@@ -29,3 +29,7 @@ mod Balancing
 mod Fitting
 mod Climbing
 mod Few
+mod Across
+mod Apart
+mod Cuts
+mod StretchWays

@@ -32,7 +32,7 @@ use Rattle.slice_outlines.proofs.Sought.{left_true, scaled_order}
 use Rattle.slice_outlines.proofs.Waiting.{left_is}
 
 -- ---- flat edges of a height
-flat_rise : (e : Edge) → e.a.y ≡ e.b.y → rise e ≡ pos 0
+pub flat_rise : (e : Edge) → e.a.y ≡ e.b.y → rise e ≡ pos 0
 unfolding rise low high
 flat_rise e h = by_test (int_lt e.b.y e.a.y)
   where
@@ -40,14 +40,14 @@ flat_rise e h = by_test (int_lt e.b.y e.a.y)
     by_test true = omega (arith, ints, h)
     by_test false = omega (arith, ints, h)
 
-lies_flat : (es : List LeafEdge) (f : Flat) (l : Level) → IsFlatOf es f → LiesOn l f
+pub lies_flat : (es : List LeafEdge) (f : Flat) (l : Level) → IsFlatOf es f → LiesOn l f
     → is_flat_at (edge_at es f.number) l ≡ true
 lies_flat es f l h on = and_from (is_zero (rise (edge_at es f.number))) (int_eq ((edge_at es f.number).a.y *ℤ l.d) l.n)
     (ap is_zero (flat_rise (edge_at es f.number) (h.height ∙ sym h.flat)))
     ((signed_Decides ((edge_at es f.number).a.y *ℤ l.d) l.n).1 (ap (λ (y : ℤ). y *ℤ l.d) h.height ∙ on))
 
 -- ---- places of whole numbers
-grouped : (x d r : ℤ) → (x *ℤ d) *ℤ r ≡ x *ℤ (d *ℤ r)
+pub grouped : (x d r : ℤ) → (x *ℤ d) *ℤ r ≡ x *ℤ (d *ℤ r)
 grouped x d r = ring (x ∷ d ∷ r ∷ []) (v0 ⊗ v1 ⊗ v2) (v0 ⊗ (v1 ⊗ v2)) refl
 
 by_one : (z : ℤ) → z *ℤ pos 1 ≡ z
@@ -66,10 +66,14 @@ less_not : (a b : ℤ) → b ≤ℤ a → a <ℤ b → ⊥
 less_not a b h k = omega (arith, ints)
 
 -- a whole number doesn't lie to the right of a spot, or to its left
-by_spot : (s : Spot) (x : ℤ) → (IsLeft s (whole_spot x s.at) → ⊥) → (x *ℤ (s.at.d *ℤ pos s.run)) ≤ℤ s.x
+pub by_spot : (s : Spot) (x : ℤ) → (IsLeft s (whole_spot x s.at) → ⊥) → (x *ℤ (s.at.d *ℤ pos s.run)) ≤ℤ s.x
 by_spot s x h = subst (λ (z : ℤ). z ≤ℤ s.x) (grouped x s.at.d (pos s.run))
     (subst (λ (z : ℤ). ((x *ℤ s.at.d) *ℤ pos s.run) ≤ℤ z) (by_one s.x)
     (not_less (s.x *ℤ pos 1) ((x *ℤ s.at.d) *ℤ pos s.run) h))
+
+pub past_spot : (s : Spot) (x : ℤ) → IsLeft s (whole_spot x s.at) → s.x <ℤ (x *ℤ (s.at.d *ℤ pos s.run))
+past_spot s x h = subst (λ (z : ℤ). s.x <ℤ z) (grouped x s.at.d (pos s.run))
+    (subst (λ (z : ℤ). z <ℤ ((x *ℤ s.at.d) *ℤ pos s.run)) (by_one s.x) h)
 
 spot_by : (s : Spot) (x : ℤ) → (x *ℤ (s.at.d *ℤ pos s.run)) ≤ℤ s.x → IsLeft s (whole_spot x s.at) → ⊥
 spot_by s x h = less_not (s.x *ℤ pos 1) ((x *ℤ s.at.d) *ℤ pos s.run)
@@ -146,7 +150,7 @@ farther s l x y rs d o h =
     lower_then_at_most (across s) (across (whole_spot x l)) (across (whole_spot y l)) rs (whole_runs x l) (whole_runs y l) h
     (omega (arith, ints, less))
 
-covers_by : (es : List LeafEdge) (f : Flat) (s t : Spot) → t.at ≡ s.at → pos 0 <ℤ s.at.d → pos 0 <ℤ pos s.run
+pub covers_by : (es : List LeafEdge) (f : Flat) (s t : Spot) → t.at ≡ s.at → pos 0 <ℤ s.at.d → pos 0 <ℤ pos s.run
     → pos 0 <ℤ pos t.run → IsFlatOf es f → IsLeft s t → covers s t (get_or es f.number no_edge) ≡ true
     → (IsLeft s (whole_spot f.left s.at) → ⊥) × IsLeft s (whole_spot f.right s.at)
 covers_by es f s t same d rs rt h o c =

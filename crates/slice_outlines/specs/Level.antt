@@ -1,7 +1,6 @@
 -- What a level asks of its sweep, and the spots that it passes.
-use Rattle.std.specs.Prelude.{true, ◌≡◌, ◌⊎◌, ◌<◌, ◌^◌, ⊥, List, [], ◌∷◌, ℕ, length}
+use Rattle.std.specs.Prelude.{true, ◌≡◌, ◌⊎◌, ◌<◌, ◌^◌, ◌≤ℤ◌, ⊤, List, [], ◌∷◌, ℕ, length}
 use Rattle.std.specs.List.{AllByRecursion, AllZip}
-use Rattle.std.specs.List.Sorted.{IsSorted}
 use Rattle.scad_geom.specs.declared.level.Level.{Level}
 use Rattle.scad_geom.specs.declared.level.LeafEdge.{LeafEdge}
 use Rattle.slice_slab.specs.Bundles.{edge_at}
@@ -21,7 +20,7 @@ use Rattle.slice_outlines.specs.declared.height.Height.{Height}
 use Rattle.slice_outlines.specs.Above.{AreTaken}
 use Rattle.slice_outlines.specs.Marks.{IsNamed}
 use Rattle.slice_outlines.specs.Stops.{AllPass}
-use Rattle.slice_outlines.specs.Flats.{IsFlatOf, LiesOn, flat_cmp}
+use Rattle.slice_outlines.specs.Flats.{IsFlatOf, LiesOn}
 use Rattle.slice_outlines.specs.Cursor.{Stands}
 use Rattle.slice_outlines.specs.Heights.{Onwards}
 
@@ -30,11 +29,16 @@ abbrev pub HasNumber : List Flat → ℕ → Type 0
 HasNumber [] k = ⊥
 HasNumber (f ∷ fs) k = (f.number ≡ k) ⊎ HasNumber fs k
 
+-- flat edges by their left ends
+abbrev pub GoByLeft : List Flat → Type 0
+GoByLeft [] = ⊤
+GoByLeft (f ∷ fs) = AllByRecursion (λ g. f.left ≤ℤ g.left) fs × GoByLeft fs
+
 -- all flat edges of a height, from left to right
 pub record AreFlatsOn (es : List LeafEdge) (l : Level) (fs : List Flat) : Type 0 where
   pub each : AllByRecursion (IsFlatOf es) fs
   pub on : AllByRecursion (LiesOn l) fs
-  pub sorted : IsSorted flat_cmp fs
+  pub rightwards : GoByLeft fs
   pub all : (k : ℕ) → k < length es → is_flat_at (edge_at es k) l ≡ true → HasNumber fs k
 
 -- changes tell of the groups of a height: those of the strands below it, of whose marks these above it are taken, and of
