@@ -361,14 +361,14 @@ module _ (es : List LeafEdge) (l : Level) (s : Spot) (hs : IsSpotAt l s) where
       → passing es true (point_of s) (bs ++ cs) ≡ cs
   right_of bs cs q r o a = right_part es (point_of s) bs cs (none_right bs q o) (first_is cs r a)
 
-heads_under : (h : Height) (gs : List Group) → AllByRecursion (IsPlaced h) gs
+pub heads_under : (h : Height) (gs : List Group) → AllByRecursion (IsPlaced h) gs
     → AllByRecursion (HeadPasses h.edges.now h.at.now) (all_below gs)
 heads_under h [] p = tt
 heads_under h (g ∷ gs) p =
     let P : List ℕ → Type 0 = HeadPasses h.edges.now h.at.now in
     all_append P g.below (all_below gs) (front P g.below g.above p.0.passes) (heads_under h gs p.1)
 
-heads_over : (h : Height) (gs : List Group) → AllByRecursion (IsPlaced h) gs
+pub heads_over : (h : Height) (gs : List Group) → AllByRecursion (IsPlaced h) gs
     → AllByRecursion (HeadPasses h.edges.now h.at.now) (all_above gs)
 heads_over h [] p = tt
 heads_over h (g ∷ gs) p =

@@ -17,12 +17,12 @@ use Rattle.slice_outlines.specs.Cursor.{IsApartAt, Fit}
 use Rattle.slice_outlines.proofs.Placing.{AreNamed}
 
 -- ---- marks and bundles
-named_past : (ms : List Mark) (bs cs : List (List ℕ)) → AreNamed ms (bs ++ cs) → AreNamed (drop (length bs) ms) cs
+pub named_past : (ms : List Mark) (bs cs : List (List ℕ)) → AreNamed ms (bs ++ cs) → AreNamed (drop (length bs) ms) cs
 named_past ms [] cs z = z
 named_past [] (b ∷ bs) cs z = absurd z
 named_past (m ∷ ms) (b ∷ bs) cs z = named_past ms bs cs z.1
 
-named_size : (ms : List Mark) (bs : List (List ℕ)) → AreNamed ms bs → length ms ≡ length bs
+pub named_size : (ms : List Mark) (bs : List (List ℕ)) → AreNamed ms bs → length ms ≡ length bs
 named_size [] [] z = refl
 named_size [] (b ∷ bs) z = absurd z
 named_size (m ∷ ms) [] z = absurd z

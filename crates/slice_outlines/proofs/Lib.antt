@@ -33,3 +33,5 @@ mod Across
 mod Apart
 mod Cuts
 mod StretchWays
+mod Levelling
+mod Stretching

@@ -33,6 +33,7 @@ use Rattle.slice_outlines.specs.Marks.{mark_at, no_mark, spot_at, names_in, left
 use Rattle.slice_outlines.specs.Heights.{Onwards, IsRunOf, IsBalancedBefore, KeepsMarks, AreValuedIn, AreValuedTo, MeetAt, MeetAcross, IsGroupAt, IsCountOf, IsOf, marks_of}
 use Rattle.slice_outlines.specs.Along.{value_over, LeadTo, BeginAt, ArePlacesFrom, HasComeOver}
 use Rattle.slice_outlines.specs.Reached.{HasReached}
+use Rattle.slice_outlines.specs.Stretch.{HasReachedStops}
 use Rattle.slice_outlines.specs.Ahead.{IsSameSpot, AreMarksAt, LieAhead, IsBehind, AreBetween, between, HasComeTo, AreBalancedFrom, AreStrandsAhead, KeepsRight, HasPassed, AreSkipped, first_spot, group_spots}
 use Rattle.slice_outlines.specs.Ahead.LieAhead.{none as no_more, stays as one_stays, changes as one_changes}
 use Rattle.slice_outlines.proofs.Placing.{first_kept}
@@ -402,12 +403,12 @@ group_left h shape r ns o before behind valued = by_test (nat_lt r.above r.above
     by_test false e =
         behind ∙ ap (λ (i : ℕ). left_value h.edges.now shape (drop i (bundles_in h.front.now))) (not_less e) ∙ sym before
 
-pub group_reached : (on : Onwards) (passed : List Spot) (s : Spot) (r : Run) (o : Open) → r.above ≤ r.above_to
+pub part_reached : (on : Onwards) (passed spots : List Spot) (r : Run) (o : Open) → r.above ≤ r.above_to
     → IsBalancedBefore on.height on.shape (between r.below r.above)
     → IsBalancedBefore on.height on.shape (between r.below_to r.above_to) → HasComeTo on passed r.below r.above o
-    → HasReached on passed s r o
-group_reached on passed s r o a before behind come = λ ns keeps valued.
-    turned on passed (s ∷ []) (between r.below r.above) r r.below r.above o.marks.items ns o.given.items o.cursor
+    → HasReachedStops on passed spots r o
+part_reached on passed spots r o a before behind come = λ ns keeps valued.
+    turned on passed spots (between r.below r.above) r r.below r.above o.marks.items ns o.given.items o.cursor
     (group_left on.height on.shape r ns a before behind valued ∙ sym (left_here on.height r.below r.above o.marks.items))
     keeps.left keeps.size keeps.names (λ i to. elim (cases_lt i r.above) [
       | inl l ↦ ap (λ (x : Mark). x.left) (front_same ns o.marks.items r.above i l keeps.left) ∙ come.valued i l
@@ -417,6 +418,12 @@ group_reached on passed s r o a before behind come = λ ns keeps valued.
     front_same : (xs ys : List Mark) (n i : ℕ) → i < n → take n xs ≡ take n ys → mark_at xs i ≡ mark_at ys i
     front_same xs ys n i l e =
         sym (get_or-take n xs i no_mark l) ∙ ap (λ (zs : List Mark). mark_at zs i) e ∙ get_or-take n ys i no_mark l
+
+pub group_reached : (on : Onwards) (passed : List Spot) (s : Spot) (r : Run) (o : Open) → r.above ≤ r.above_to
+    → IsBalancedBefore on.height on.shape (between r.below r.above)
+    → IsBalancedBefore on.height on.shape (between r.below_to r.above_to) → HasComeTo on passed r.below r.above o
+    → HasReached on passed s r o
+group_reached on passed s r o a before behind come = part_reached on passed (s ∷ []) r o a before behind come
 
 pub group_past : (on : Onwards) (passed : List Spot) (r : Run) (o : Open)
     → HasComeOver on passed [] r r.below_to r.above_to None o.marks.items o.given.items o.cursor

@@ -237,12 +237,12 @@ number_split (f ∷ fs) gs k (inr q) = elim (number_split fs gs k q) [
   | inr b ↦ inr b
 ]
 
-all_take : (P : Flat → Type 0) (n : ℕ) (fs : List Flat) → AllByRecursion P fs → AllByRecursion P (take n fs)
+pub all_take : (P : Flat → Type 0) (n : ℕ) (fs : List Flat) → AllByRecursion P fs → AllByRecursion P (take n fs)
 all_take P zero fs a = tt
 all_take P (suc n) [] a = tt
 all_take P (suc n) (f ∷ fs) a = (a.0, all_take P n fs a.1)
 
-all_drop : (P : Flat → Type 0) (n : ℕ) (fs : List Flat) → AllByRecursion P fs → AllByRecursion P (drop n fs)
+pub all_drop : (P : Flat → Type 0) (n : ℕ) (fs : List Flat) → AllByRecursion P fs → AllByRecursion P (drop n fs)
 all_drop P zero fs a = a
 all_drop P (suc n) [] a = tt
 all_drop P (suc n) (f ∷ fs) a = all_drop P n fs a.1
