@@ -35,3 +35,4 @@ mod Cuts
 mod StretchWays
 mod Levelling
 mod Stretching
+mod LevelEnds

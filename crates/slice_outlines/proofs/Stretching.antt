@@ -96,7 +96,7 @@ whole_by l a b d o =
     let less : (a *ℤ l.d) ≤ℤ (b *ℤ l.d) = scaled_order a b l.d o d in
     omega (arith, ints, less)
 
-whole_left : (l : Level) (a b : ℤ) → pos 0 <ℤ l.d → a <ℤ b → IsLeft (whole_spot a l) (whole_spot b l)
+pub whole_left : (l : Level) (a b : ℤ) → pos 0 <ℤ l.d → a <ℤ b → IsLeft (whole_spot a l) (whole_spot b l)
 whole_left l a b d o =
     let next : (a +ℤ pos 1) ≤ℤ b = omega (arith, ints, o) in
     let less : ((a +ℤ pos 1) *ℤ l.d) ≤ℤ (b *ℤ l.d) = scaled_order (a +ℤ pos 1) b l.d next d in

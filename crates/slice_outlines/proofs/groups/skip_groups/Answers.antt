@@ -1,5 +1,4 @@
 -- One more change is counted, up to one that lies to the right.
-use Rattle.slice_outlines.proofs.Stretching.{stretch_passed}
 use Rattle.std.proofs.Common.{◌+◌, refl}
 use Rattle.slice_outlines.specs.Ahead.{between}
 use Rattle.slice_outlines.proofs.Counting.{next_fits, count_more}
