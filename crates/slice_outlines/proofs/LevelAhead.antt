@@ -149,12 +149,12 @@ pub is_behind : (limit : Run) (n : ℕ) (cs : List Change) (gs : List Group) (lo
     → AreTaken n cs gs lower upper → AllByRecursion (λ g. all_at g ≡ [] → ⊥) gs → limit.above ≡ n → IsBehind limit cs
 is_behind limit n cs gs lower upper t a e = taken_behind limit n cs gs lower upper t a (omega (arith, e))
 
-somes : (h : Height) (gs : List Group) → AllByRecursion (IsMet h) gs → AllByRecursion (λ g. all_at g ≡ [] → ⊥) gs
+pub somes : (h : Height) (gs : List Group) → AllByRecursion (IsMet h) gs → AllByRecursion (λ g. all_at g ≡ [] → ⊥) gs
 somes h [] a = tt
 somes h (g ∷ gs) a = (a.0.some, somes h gs a.1)
 
 -- the groups from a place to a part of the height
-pub between_by : (h : Height) (ms : List Mark) (cs : List Change) (p : Passed) (limit : Run) (n m : ℕ)
+unfoldable pub between_by : (h : Height) (ms : List Mark) (cs : List Change) (p : Passed) (limit : Run) (n m : ℕ)
     (left right : List Group) → AreTaken m (drop p.count cs) (left ++ right) (drop n h.below.now) (drop m ms)
     → AreNamed (drop n h.below.now) (all_below (left ++ right)) → AreNamed (drop m ms) (all_above (left ++ right))
     → AllByRecursion (IsMet h) left → AllByRecursion (IsMet h) right → p.last.below_to ≤ n → p.last.above_to ≤ m

@@ -1,11 +1,13 @@
 -- A level from its left end to its right one.
-use Rattle.std.proofs.Common.{◌≡◌, ℕ, zero, suc, ◌+◌, ◌-◌, ◌*◌, ◌<◌, ◌≤◌, true, List, [], ◌∷◌, ◌++◌, length, take, drop, refl, sym, ap, ◌∙◌, subst, arith, length-append}
+use Rattle.std.proofs.Common.{◌≡◌, ℕ, zero, suc, ◌+◌, ◌-◌, ◌*◌, ◌<◌, ◌≤◌, true, List, [], ◌∷◌, ◌++◌, length, get_or, take, drop, refl, sym, ap, ◌∙◌, subst, arith, length-append}
 use lib.IntN.{ℤ, pos, negsuc, ◌*ℤ◌}
 use lib.Signed.{◌<ℤ◌, ◌≤ℤ◌}
+use mir.Syntax.{w32}
+use mir.Val.{to_z, of_z}
 use Rattle.std.specs.Prelude.{unsigned_abs}
 use Rattle.std.specs.List.{AllByRecursion}
 use Rattle.std.proofs.lemmas.Int.{ints}
-use Rattle.std.proofs.lemmas.List.{append-nil, drop_all, take_all}
+use Rattle.std.proofs.lemmas.List.{append-nil, drop_all, take_all, drop_more}
 use Rattle.scad_base.proofs.Products.{positive_product}
 use Rattle.scad_geom.specs.declared.level.Level.{Level}
 use Rattle.scad_geom.specs.declared.level.LeafEdge.{LeafEdge}
@@ -13,7 +15,7 @@ use Rattle.scad_geom.specs.Limits.{coordinate_limit}
 use Rattle.slice_slab.specs.Bundles.{no_edge, edge_at}
 use Rattle.slice_snap.specs.declared.piece.Spot.{Spot}
 use Rattle.slice_snap.specs.Spots.{IsSpotWithin}
-use Rattle.slice_bool.specs.Pieces.{spot_on, whole_spot, IsLeft}
+use Rattle.slice_bool.specs.Pieces.{spot_on, whole_spot, passes_at, IsLeft}
 use Rattle.slice_bool.proofs.Middle.{size_of}
 use Rattle.slice_sweep.specs.declared.change.Change.{Change}
 use Rattle.slice_sweep.specs.Changes.{Group, all_below, all_above, all_at}
@@ -24,18 +26,25 @@ use Rattle.slice_outlines.specs.declared.height.Height.{Height}
 use Rattle.slice_outlines.specs.declared.height.Open.{Open}
 use Rattle.slice_outlines.specs.declared.groups.Passed.{Passed}
 use Rattle.slice_outlines.specs.Runs.{first}
-use Rattle.slice_outlines.specs.Heights.{Onwards, IsOf}
+use Rattle.slice_outlines.specs.Marks.{AreThere}
+use Rattle.slice_outlines.specs.Stops.{AllPass}
+use Rattle.slice_outlines.specs.Flats.{IsFlatOf, AreJoined, StartsBehind}
+use Rattle.slice_outlines.specs.Cursor.{Stands}
+use Rattle.slice_outlines.specs.Along.{LieBetween}
+use Rattle.slice_sweep.specs.Front.{bundles_in}
+use Rattle.slice_outlines.specs.Heights.{Onwards, IsOf, IsRunOf, AreInOrder}
 use Rattle.slice_outlines.specs.Ahead.{first_spot, HasComeTo}
 use Rattle.slice_outlines.specs.Level.{IsAtLevel, IsValuedAt, AreSpotsOf}
+use Rattle.slice_outlines.proofs.Joining.{whole_cast}
 use Rattle.slice_outlines.proofs.EndPoints.{passing_within, passes_there}
 use Rattle.slice_outlines.proofs.GroupsMet.{HeadPasses}
-use Rattle.slice_outlines.proofs.Passage.{size_named}
-use Rattle.slice_outlines.proofs.WayCovers.{grouped}
+use Rattle.slice_outlines.proofs.Passage.{all_named}
+use Rattle.slice_outlines.proofs.WayCovers.{grouped, all_drop}
 use Rattle.slice_outlines.proofs.Fitting.{named_size}
-use Rattle.slice_outlines.proofs.Apart.{IsPlaced, at_group, below-append, above-append}
+use Rattle.slice_outlines.proofs.Apart.{IsPlaced, at_group, below-append, above-append, below_in_order, above_in_order}
 use Rattle.slice_outlines.proofs.Cuts.{IsCutAt, whole_at}
-use Rattle.slice_outlines.proofs.Levelling.{IsReached, IsSoFar, IsToLimit, all_placed, named_now}
-use Rattle.slice_outlines.proofs.Stretching.{whole_left}
+use Rattle.slice_outlines.proofs.Levelling.{IsReached, IsSoFar, IsToLimit, all_placed, all_apart, named_now}
+use Rattle.slice_outlines.proofs.Stretching.{IsStretch, whole_left, joined_by}
 
 -- ---- to the left of all
 abbrev far_left : Level → Spot
@@ -167,3 +176,78 @@ module _ (h : Height) (cs : List Change) (fs : List Flat) (old : Open)
         subst (λ (j : ℕ). HasComeTo on r.spots (length h.below.now) j new) ea
             (subst (λ (i : ℕ). HasComeTo on r.spots i (length (all_above f.left)) new) eb r.come),
       )
+
+-- ---- as the code finds a stretch
+pub left_cast : (fs : List Flat) (from : ℕ) (one : Flat) → one ≡ get_or fs from one
+    → to_z w32 (of_z w32 (get_or fs from one).left) ≡ one.left
+left_cast fs from one is = ap (λ (k : Flat). to_z w32 (of_z w32 k.left)) (sym is) ∙ whole_cast one.left one.left_size
+
+pub stretch_by : (h : Height) (fs : List Flat) (from to : ℕ) (one : Flat) (right left' right' : ℤ) (run : Run)
+    (ms seen : List Mark) → from < length fs → one ≡ get_or fs from one → from < to → to ≤ length fs
+    → AreJoined (take (to - from) (drop from fs)) right → StartsBehind right (drop to fs) → seen ≡ ms → left' ≡ one.left
+    → right' ≡ right → IsRunOf h.below.now seen run → LieBetween h left' right' h.below.now run.below run.below_to
+    → LieBetween h left' right' seen run.above run.above_to → IsStretch h fs from to one right run ms
+stretch_by h fs from to one right left' right' run ms seen there is later within joined next same e f r a b = record {
+  first_is = drop_more fs from one there ∙ ap (λ (k : Flat). k ∷ drop (from + 1) fs) (sym is);
+  later = later;
+  within = within;
+  joined = joined;
+  next = next;
+  run_of = subst (λ (xs : List Mark). IsRunOf h.below.now xs run) same r;
+  below = subst (λ (z : ℤ). LieBetween h one.left z h.below.now run.below run.below_to) f
+      (subst (λ (z : ℤ). LieBetween h z right' h.below.now run.below run.below_to) e a);
+  above = subst (λ (xs : List Mark). LieBetween h one.left right xs run.above run.above_to) same
+      (subst (λ (z : ℤ). LieBetween h one.left z seen run.above run.above_to) f
+      (subst (λ (z : ℤ). LieBetween h z right' seen run.above run.above_to) e b));
+}
+
+-- the first of flat edges that are joined starts no farther to the right than they reach
+pub first_order : (es : List LeafEdge) (fs : List Flat) (from to : ℕ) (one : Flat) (right left' right' : ℤ)
+    → AllByRecursion (IsFlatOf es) fs → from < length fs → one ≡ get_or fs from one → from < to
+    → AreJoined (take (to - from) (drop from fs)) right → left' ≡ one.left → right' ≡ right → left' ≤ℤ right'
+first_order es fs from to one right left' right' each there is later joined e f =
+    let here : drop from fs ≡ one ∷ drop (from + 1) fs = drop_more fs from one there
+    ∙ ap (λ (k : Flat). k ∷ drop (from + 1) fs) (sym is) in
+    let flat : AllByRecursion (IsFlatOf es) (one ∷ drop (from + 1) fs) =
+    subst (AllByRecursion (IsFlatOf es)) here (all_drop (IsFlatOf es) from fs each) in
+    let order = flat.0.order in
+    by_size (to - from) refl (subst (λ (gs : List Flat). AreJoined (take (to - from) gs) right) here joined) order
+  where
+    by_size : (k : ℕ) → to - from ≡ k → AreJoined (take (to - from) (one ∷ drop (from + 1) fs)) right
+        → one.left ≤ℤ one.right → left' ≤ℤ right'
+    by_size zero q j o = absurd (omega (arith, q, later))
+    by_size (suc k) q j o =
+        let all = joined_by right (one ∷ take k (drop (from + 1) fs))
+        (subst (λ (n : ℕ). AreJoined (take n (one ∷ drop (from + 1) fs)) right) q j) in
+        let to = all.0 in
+        omega (arith, ints, e, f, o, to)
+
+-- ---- what the code asks for
+there_by : (es : List LeafEdge) (l : Level) (ms : List Mark) → AllPass es l ms → AreThere es ms
+there_by es l ms p k d o = passes_there es (get_or ms k d).name l (p k d o)
+
+module _ (h : Height) (cs : List Change) (fs : List Flat) (old : Open)
+    (w : IsAtLevel h old.marks.items cs fs old.cursor) where
+  pub below_order : AreInOrder h h.below.now
+  below_order = below_in_order h h.below.now w.groups w.named_below (all_placed h cs fs old w) (all_apart h cs fs old w)
+
+  pub below_there : AreThere h.edges.now h.below.now
+  below_there = there_by h.edges.now h.at.now h.below.now w.pass_below
+
+  module _ (from : ℕ) (p : Passed) (now : Open) (f : IsSoFar h cs fs old w from p now) where
+    pub now_order : AreInOrder h now.marks.items
+    now_order = above_in_order h now.marks.items w.groups (named_now h cs fs old w from p now f)
+        (all_placed h cs fs old w) (all_apart h cs fs old w)
+
+    pub now_pass : AllPass h.edges.now h.at.now now.marks.items
+    now_pass = all_named (λ k. passes_at (edge_at h.edges.now k) h.at.now ≡ true) old.marks.items now.marks.items f.names
+        w.pass_above
+
+    pub now_there : AreThere h.edges.now now.marks.items
+    now_there = there_by h.edges.now h.at.now now.marks.items now_pass
+
+    pub now_size : length now.marks.items ≡ length (bundles_in h.front.now)
+    now_size = named_size now.marks.items (all_above w.groups) (named_now h cs fs old w from p now f) ∙ ap length w.above
+
+    pub now_stands : Stands h.edges.now (bundles_in h.front.now) now.cursor
+    now_stands = record { shape = w.stands.shape; on = f.stands w.stands.shape w.stands.on }

@@ -375,6 +375,10 @@ module _ (h : Height) (cs : List Change) (fs : List Flat) (old : Open)
       pub whole_is : w.groups ≡ f.left ++ (t.xs ++ t.ys)
       whole_is = f.groups ∙ ap (λ (gs : List Group). f.left ++ gs) t.groups
 
+      pub rest_is : between_at.rest ≡ groups_ahead.rest
+      unfolding between_at between_by
+      rest_is = refl
+
       module _ (ahead : AllByRecursion (λ g. AllByRecursion (λ fl. IsLeft (at_group h g) (whole_spot fl.left l)) (drop from fs))
           t.xs) where
         on_cut : (c : Spot) × IsCutAt h (take from fs) (drop from fs) (f.left ++ t.xs) t.ys c × IsNotRightOf f.cut c
@@ -448,3 +452,14 @@ module _ (h : Height) (cs : List Change) (fs : List Flat) (old : Open)
                   ahead) r.come);
             } in
             (r, below_is, above_is)
+
+        pub groups_done : (q : Passed) (mid : Open)
+            → ((on : Onwards) (spots : List Spot) → IsOf h on
+            → AreStrandsAhead on between_at.below between_at.above between_at.groups
+            → HasComeTo on spots between_at.below between_at.above now
+            → HasComeTo on (spots ++ group_spots es l between_at.groups) limit.below limit.above mid)
+            → HasPassed h cs between_at.rest limit q now mid
+            → (r : IsSoFar h cs fs old w from q mid) × (length (all_below r.left) ≡ limit.below)
+            × (length (all_above r.left) ≡ limit.above)
+        unfolding between_at between_by
+        groups_done q mid passes passed = groups_passed q mid passes passed

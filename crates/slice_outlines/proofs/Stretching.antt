@@ -53,7 +53,7 @@ use Rattle.slice_outlines.proofs.Across.{left_chain, left_or_not, left_not, not_
 use Rattle.slice_outlines.proofs.Apart.{IsPlaced, AreApart, at_group, below-append, above-append}
 use Rattle.slice_outlines.proofs.Cuts.{AreCut, AreSplit, split_behind, IsCutAt, whole_at}
 use Rattle.slice_outlines.proofs.StretchWays.{IsWithin, AreFlatsWithin, all_inside, all_sound, ends_among, tell_ways}
-use Rattle.slice_outlines.proofs.Levelling.{go_join, up_to_cut, all_by, all_left_of, HasEnds, ends_front, ends_back, IsReached, IsSoFar, IsToLimit, beside_as, all_placed, flats_parted, named_as, placed_left, placed_right, apart_right, named_now, between_at, groups_ahead, below_is, above_is, taken_on, whole_is, met_xs, met_ys, placed_both}
+use Rattle.slice_outlines.proofs.Levelling.{go_join, up_to_cut, all_by, all_left_of, HasEnds, ends_front, ends_back, IsReached, IsSoFar, IsToLimit, beside_as, all_placed, flats_parted, named_as, placed_left, placed_right, apart_right, named_now, between_at, rest_is, below_is, above_is, taken_on, whole_is, met_xs, met_ys, placed_both}
 
 -- ---- flat edges of a stretch
 go_drop : (n : ℕ) (fs : List Flat) → GoByLeft fs → GoByLeft (drop n fs)
@@ -87,7 +87,7 @@ join_most most right (f ∷ fs) j =
     let m = max_by most f.right right r.0 in
     (m.0, (m.1, r.1))
 
-joined_by : (right : ℤ) (fs : List Flat) → AreJoined fs right → AllByRecursion (λ f. f.right ≤ℤ right) fs
+pub joined_by : (right : ℤ) (fs : List Flat) → AreJoined fs right → AllByRecursion (λ f. f.right ≤ℤ right) fs
 joined_by right [] j = tt
 joined_by right (f ∷ fs) j = let r = join_most f.right right fs j in (r.0, r.1)
 
@@ -582,7 +582,7 @@ module _ (h : Height) (cs : List Change) (fs : List Flat) (old : Open)
 
     pub stretch_passed : (q : Passed) (new : Open) → PassesStretch new → KeepsRight run mid.marks.items new.marks.items
         → StaysOn es (bundles_in h.front.now) mid.cursor new.cursor
-        → AreSkipped cs (groups_ahead h cs fs old w from p mid f end t).rest run q → IsCountOf cs q
+        → AreSkipped cs (between_at h cs fs old w from p mid f end t).rest run q → IsCountOf cs q
         → IsSoFar h cs fs old w to q new
     stretch_passed q new passes keeps stays skipped count =
         let below = below_is h cs fs old w from p mid f end t in
@@ -595,7 +595,8 @@ module _ (h : Height) (cs : List Change) (fs : List Flat) (old : Open)
           right = t.ys;
           groups = whole_is h cs fs old w from p mid f end t ∙ sym (append_assoc f.left t.xs t.ys);
           within = st.within;
-          taken = taken_on h cs fs old w from p mid f end t q new.marks.items skipped.later keeps.right;
+          taken = taken_on h cs fs old w from p mid f end t q new.marks.items
+              (skipped.later ∙ rest_is h cs fs old w from p mid f end t) keeps.right;
           from_below = omega (arith, from_below, below);
           from_above = omega (arith, from_above, above);
           alike = omega (arith, alike, below, above);
