@@ -36,3 +36,4 @@ mod StretchWays
 mod Levelling
 mod Stretching
 mod LevelEnds
+mod FlatsOn
