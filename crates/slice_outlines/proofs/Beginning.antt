@@ -29,7 +29,7 @@ at_or_above l [] h p d r (inr k) = absurd k
 at_or_above l (u ∷ ls) h p d r (inr k) =
     at_most_chain l u h p.0 p.1.0 d (lower_weak l u r.0) (at_or_above u ls h p.1 d r.1 k)
 
-all_above_first : (l : Level) (ls hs : List Level) → AllByRecursion (λ (u : Level). pos 0 <ℤ u.d) (l ∷ ls)
+pub all_above_first : (l : Level) (ls hs : List Level) → AllByRecursion (λ (u : Level). pos 0 <ℤ u.d) (l ∷ ls)
     → IsRising (l ∷ ls) → AllByRecursion (λ (h : Level). pos 0 <ℤ h.d) hs
     → AllByRecursion (HasHeight (l ∷ ls)) hs → AllByRecursion (IsAtMost l) hs
 all_above_first l ls [] p r d k = tt

@@ -12,8 +12,8 @@ use Rattle.std.specs.List.Sorted.{IsPermutation, IsSorted}
 use Rattle.std.proofs.lemmas.Int.{ints}
 use Rattle.std.proofs.lemmas.Bool.{and_parts}
 use Rattle.std.proofs.lemmas.List.{drop-drop, get_or-drop, take-append-drop}
-use Rattle.std.proofs.lemmas.List.Elements.{All-from_recursion, recursion_from_All, All-permutation}
-use Rattle.std.proofs.lemmas.List.Sorted.{sorted_far, IsPermutation-sym}
+use Rattle.std.proofs.lemmas.List.Elements.{All-from_recursion, recursion_from_All}
+use Rattle.std.proofs.lemmas.List.Sorted.{sorted_far, All-permutation, IsPermutation-sym}
 use Rattle.scad_geom.specs.declared.point.Edge.{Edge}
 use Rattle.scad_geom.specs.declared.level.Level.{Level}
 use Rattle.scad_geom.specs.declared.level.LeafEdge.{LeafEdge}

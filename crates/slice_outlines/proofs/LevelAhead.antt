@@ -46,7 +46,7 @@ marks_by h s (m ∷ ms) (b ∷ bs) z a = (
   marks_by h s ms bs z.1 a.1,
 )
 
-zip_front : (ms ns : List Mark) (bs cs : List (List ℕ)) → length ms ≡ length bs → AreNamed (ms ++ ns) (bs ++ cs)
+pub zip_front : (ms ns : List Mark) (bs cs : List (List ℕ)) → length ms ≡ length bs → AreNamed (ms ++ ns) (bs ++ cs)
     → AreNamed ms bs × AreNamed ns cs
 zip_front [] ns [] cs e z = (tt, z)
 zip_front [] ns (b ∷ bs) cs e z = absurd (omega (arith, e))

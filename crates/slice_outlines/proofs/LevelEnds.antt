@@ -47,7 +47,7 @@ use Rattle.slice_outlines.proofs.Levelling.{IsReached, IsSoFar, IsToLimit, all_p
 use Rattle.slice_outlines.proofs.Stretching.{IsStretch, whole_left, joined_by}
 
 -- ---- to the left of all
-abbrev far_left : Level → Spot
+abbrev pub far_left : Level → Spot
 far_left l = whole_spot (negsuc coordinate_limit) l
 
 farther : (x : ℤ) (u : ℕ) → 0 < u → unsigned_abs x ≤ coordinate_limit * u → (negsuc coordinate_limit *ℤ pos u) <ℤ x
@@ -101,6 +101,16 @@ module _ (h : Height) where
   flats_left : (fs : List Flat) → AllByRecursion (λ f. IsLeft (far_left h.at.now) (whole_spot f.left h.at.now)) fs
   flats_left [] = tt
   flats_left (f ∷ fs) = (flat_left h.at.now f.left h.at_within.positive f.left_size, flats_left fs)
+
+-- all groups lie to its right
+pub far_cut : (h : Height) (gs : List Group) → AllByRecursion (IsPlaced h) gs → IsCutAt h [] [] [] gs (far_left h.at.now)
+far_cut h gs p = record {
+  at = whole_at h.at.now (negsuc coordinate_limit);
+  before = tt;
+  behind = groups_left h gs p;
+  flats_before = tt;
+  flats_behind = tt;
+}
 
 module _ (h : Height) (cs : List Change) (fs : List Flat) (old : Open)
     (w : IsAtLevel h old.marks.items cs fs old.cursor) where

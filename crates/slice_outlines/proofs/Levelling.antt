@@ -147,7 +147,7 @@ groups_at h [] p = tt
 groups_at h (g ∷ gs) p = (p.0.at, groups_at h gs p.1)
 
 -- to the right of a cut and of groups behind it there is another
-cut_on : (h : Height) (fb fa : List Flat) (left xs ys : List Group) (s : Spot) → AllByRecursion (IsPlaced h) left
+pub cut_on : (h : Height) (fb fa : List Flat) (left xs ys : List Group) (s : Spot) → AllByRecursion (IsPlaced h) left
     → AllByRecursion (IsPlaced h) (xs ++ ys) → AreApart h (xs ++ ys) → IsCutAt h fb fa left (xs ++ ys) s
     → AllByRecursion (λ g. AllByRecursion (λ f. IsLeft (at_group h g) (whole_spot f.left h.at.now)) fa) xs
     → (t : Spot) × IsCutAt h fb fa (left ++ xs) ys t × IsNotRightOf s t

@@ -37,3 +37,4 @@ mod Levelling
 mod Stretching
 mod LevelEnds
 mod FlatsOn
+mod Advancing

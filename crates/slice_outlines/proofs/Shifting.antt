@@ -30,14 +30,25 @@ tell_from n c cs gs (changes d ds g hs e f t) = omega arith
 
 -- so many strands that stay
 stay_on : (n : ℕ) (cs : List Change) (gs : List Group) → Tell n cs gs → (a : ℕ) → a ≤ length (all_below gs)
-    → ((c : Change) (later : List Change) → cs ≡ c ∷ later → n + a ≤ c.from) → IsShifted gs a a
+    → ((c : Change) (later : List Change) → cs ≡ c ∷ later → (n + a ≤ c.from) × (n + a < c.from + c.gone))
+    → IsShifted gs a a
 stay_on n cs gs (none m) a h k =
-    record { left = []; right = []; groups = refl; lower = omega arith; upper = omega arith }
+    record { left = []; right = []; groups = refl; lower = omega arith; upper = omega arith; next = tt }
 stay_on n cs gs (stays m ds b hs t) zero h k =
-    record { left = []; right = staying b ∷ hs; groups = refl; lower = refl; upper = refl }
+    record {
+      left = [];
+      right = staying b ∷ hs;
+      groups = refl;
+      lower = refl;
+      upper = refl;
+      next = λ e. omega (arith, ap length e);
+    }
 stay_on n cs gs (stays m ds b hs t) (suc a) h k =
     let s : IsShifted hs a a = stay_on (n + 1) cs hs t a (omega arith)
-    (λ c later e. let l : n + suc a ≤ c.from = k c later e in omega (arith, l)) in
+    (λ c later e.
+    let l : n + suc a ≤ c.from = (k c later e).0 in
+    let o : n + suc a < c.from + c.gone = (k c later e).1 in
+    (omega (arith, l), omega (arith, o))) in
     let lower : length (all_below s.left) ≡ a = s.lower in
     let upper : length (all_above s.left) ≡ a = s.upper in
     record {
@@ -46,11 +57,20 @@ stay_on n cs gs (stays m ds b hs t) (suc a) h k =
       groups = ap (λ (gs : List Group). staying b ∷ gs) s.groups;
       lower = omega (arith, lower);
       upper = omega (arith, upper);
+      next = s.next;
     }
 stay_on n cs gs (changes c ds g hs e f t) a h k =
-    let l : c.from + a ≤ c.from = k c ds refl in
+    let l : c.from + a ≤ c.from = (k c ds refl).0 in
+    let o : c.from + a < c.from + c.gone = (k c ds refl).1 in
     let z : 0 ≡ a = omega (arith, l) in
-    record { left = []; right = g ∷ hs; groups = refl; lower = z; upper = z }
+    record {
+      left = [];
+      right = g ∷ hs;
+      groups = refl;
+      lower = z;
+      upper = z;
+      next = λ none. omega (arith, o, e, ap length none);
+    }
 
 -- ---- past a change
 record Steps (n : ℕ) (c : Change) (cs : List Change) (gs : List Group) : Type 0 where
@@ -185,13 +205,17 @@ shifted_by gs cs done at p next =
     in
     let from : done.above_to ≤ c.from = tell_from done.above_to c later p.right t in
     let h : at < (after done c).below_to = next c later e in
-    not_within done.above_to c later p.right t a p.fits.0 p.fits.1 p.fits.2 p.fits.3 (omega (arith, h, from, p.by))) in
+    (
+      not_within done.above_to c later p.right t a p.fits.0 p.fits.1 p.fits.2 p.fits.3 (omega (arith, h, from, p.by)),
+      omega (arith, h, from, p.by),
+    )) in
     record {
       left = p.left ++ s.left;
       right = s.right;
       groups = p.groups ∙ ap (λ (hs : List Group). p.left ++ hs) s.groups ∙ sym (append_assoc p.left s.left s.right);
       lower = omega (arith, p.lower, s.lower, p.by, below-append p.left s.left);
       upper = omega (arith, p.upper, s.upper, above-append p.left s.left);
+      next = s.next;
     }
 
 -- ---- sizes

@@ -1,5 +1,5 @@
 -- A cursor: the headings of the strands from its place on, leaf by leaf.
-use Rattle.std.specs.Prelude.{Bool, ◌≡◌, ◌≤◌, ◌<◌, ◌+◌, ◌^◌, ◌*ℤ◌, List, ◌++◌, ℕ, length, drop}
+use Rattle.std.specs.Prelude.{Bool, ◌≡◌, ◌≤◌, ◌<◌, ◌+◌, ◌^◌, ◌*ℤ◌, ⊤, List, [], ◌∷◌, ◌++◌, ℕ, length, drop}
 use Rattle.std.specs.List.{concat}
 use Rattle.std.specs.Ordering.{int_eq}
 use Rattle.scad_geom.specs.declared.point.Edge.{Edge}
@@ -39,13 +39,20 @@ abbrev pub IsApartAt : List LeafEdge → Level → List Mark → ℕ → Type 0
 IsApartAt es l ms n = (i : ℕ) → i + 1 ≡ n → n < length ms
     → IsSamePlaceAt l (edge_at es (mark_at ms i).name) (edge_at es (mark_at ms n).name) → ⊥
 
--- a place among the strands below a height is between two groups of it, and the other is that place above it
+-- strands come to the first of these groups from below
+abbrev pub IsMetFromBelow : List Group → Type 0
+IsMetFromBelow [] = ⊤
+IsMetFromBelow (g ∷ gs) = g.below ≡ [] → ⊥
+
+-- a place among the strands below a height is between two groups of it, and the other is that place above it, where all
+-- groups that no strand comes to are to the left
 pub record IsShifted (gs : List Group) (below above : ℕ) : Type 0 where
   pub left : List Group
   pub right : List Group
   pub groups : gs ≡ left ++ right
   pub lower : length (all_below left) ≡ below
   pub upper : length (all_above left) ≡ above
+  pub next : IsMetFromBelow right
 
 -- a place is between two groups that changes tell of
 abbrev pub Fit : List Group → ℕ → Type 0
