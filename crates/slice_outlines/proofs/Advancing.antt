@@ -184,6 +184,17 @@ held_alike : (es : List LeafEdge) (shape : Shape) (below above : List (List ℕ)
 held_alike es shape below above h = ap (λ (f : ℕ → ℤ). is_held f shape) (fun_ext (λ leaf. h leaf))
 
 -- ---- a level of a sweep
+-- what it is for
+abbrev pub on_level : (h : Height) (upper : Level) (shape : Shape) (levels later : List Level) (s : Sweep)
+    → HasSwept h.edges.now shape levels (h.at.now ∷ (upper ∷ later)) s → Onwards
+on_level h upper shape levels later s swept = record {
+  shape = shape;
+  upper = upper;
+  height = h;
+  below = swept.front;
+  given = rounded_edges (pieces_of swept.closed);
+}
+
 module _ (h : Height) (upper : Level) (shape : Shape) (levels later : List Level) (s : Sweep) (cs : List Change)
     (swept : HasSwept h.edges.now shape levels (h.at.now ∷ (upper ∷ later)) s) (are : AreLevels h.edges.now levels)
     (leaves : AreLeavesBalanced h.edges.now) (next : AreNeighbours h.edges.now h.at.now upper)
@@ -342,19 +353,10 @@ module _ (h : Height) (upper : Level) (shape : Shape) (levels later : List Level
     flats = flats;
   }
 
-  abbrev pub on_level : Onwards
-  on_level = record {
-    shape = shape;
-    upper = upper;
-    height = h;
-    below = swept.front;
-    given = rounded_edges (pieces_of swept.closed);
-  }
-
   pub kept_below : AreKept false h.below.now swept.front
   kept_below = subst (λ (us : List Mark). AreKept false us swept.front) (sym below_is) swept.kept
 
-  pub valued_level : IsValuedAt on_level ch.groups
+  pub valued_level : IsValuedAt (on_level h upper shape levels later s swept) ch.groups
   valued_level = record {
     below = swept.bundles ∙ sym ch.below_is;
     values = front_values es shape levels at (upper ∷ later) are swept.front swept.below;
@@ -367,7 +369,7 @@ module _ (h : Height) (upper : Level) (shape : Shape) (levels later : List Level
   }
 
   pub starts : (kept : Open) → kept.marks.items ≡ ms → kept.given.items ≡ s.kept.given.items
-      → StandsOn es shape up kept.cursor → HasComeTo on_level [] 0 0 kept
+      → StandsOn es shape up kept.cursor → HasComeTo (on_level h upper shape levels later s swept) [] 0 0 kept
   starts kept e g on = record {
     places = [];
     flat = [];
@@ -390,55 +392,55 @@ module _ (h : Height) (upper : Level) (shape : Shape) (levels later : List Level
 
 -- ---- places that are passed
 -- the values of strands, by those of their marks
-strands_valued : (es : List LeafEdge) (shape : Shape) (ms : List Mark) (ss : List Strand) → AreKept false ms ss
-    → ((i : ℕ) → i < length ms → (mark_at ms i).left ≡ left_value es shape (drop i (bundles_of ss)))
-    → AreValued es shape ss
-strands_valued es shape [] [] k v = tt
-strands_valued es shape [] (t ∷ ss) k v = absurd k
-strands_valued es shape (m ∷ ms) [] k v = absurd k
-strands_valued es shape (m ∷ ms) (t ∷ ss) k v =
-    (sym k.0.left ∙ v 0 (omega arith), strands_valued es shape ms ss k.1 (λ i o. v (suc i) (omega (arith, o))))
+strands_valued : (edges : List LeafEdge) (shape : Shape) (ms : List Mark) (ss : List Strand) → AreKept false ms ss
+    → ((i : ℕ) → i < length ms → (mark_at ms i).left ≡ left_value edges shape (drop i (bundles_of ss)))
+    → AreValued edges shape ss
+strands_valued edges shape [] [] k v = tt
+strands_valued edges shape [] (t ∷ ss) k v = absurd k
+strands_valued edges shape (m ∷ ms) [] k v = absurd k
+strands_valued edges shape (m ∷ ms) (t ∷ ss) k v =
+    (sym k.0.left ∙ v 0 (omega arith), strands_valued edges shape ms ss k.1 (λ i o. v (suc i) (omega (arith, o))))
 
-valued_before : (es : List LeafEdge) (shape : Shape) (xs ys : List Strand) → AreValued es shape (xs ++ ys)
-    → AreValuedBefore es shape xs (bundles_of ys)
-valued_before es shape [] ys v = tt
-valued_before es shape (t ∷ xs) ys v = (
-  v.0 ∙ ap (λ (bs : List (List ℕ)). left_value es shape (t.bundle ∷ bs)) (map-append (λ (r : Strand). r.bundle) xs ys),
-  valued_before es shape xs ys v.1,
+valued_before : (edges : List LeafEdge) (shape : Shape) (xs ys : List Strand) → AreValued edges shape (xs ++ ys)
+    → AreValuedBefore edges shape xs (bundles_of ys)
+valued_before edges shape [] ys v = tt
+valued_before edges shape (t ∷ xs) ys v = (
+  v.0 ∙ ap (λ (bs : List (List ℕ)). left_value edges shape (t.bundle ∷ bs)) (map-append (λ (r : Strand). r.bundle) xs ys),
+  valued_before edges shape xs ys v.1,
 )
 
-valued_after : (es : List LeafEdge) (shape : Shape) (xs ys : List Strand) → AreValued es shape (xs ++ ys)
-    → AreValued es shape ys
-valued_after es shape [] ys v = v
-valued_after es shape (t ∷ xs) ys v = valued_after es shape xs ys v.1
+valued_after : (edges : List LeafEdge) (shape : Shape) (xs ys : List Strand) → AreValued edges shape (xs ++ ys)
+    → AreValued edges shape ys
+valued_after edges shape [] ys v = v
+valued_after edges shape (t ∷ xs) ys v = valued_after edges shape xs ys v.1
 
-news_valued : (es : List LeafEdge) (shape : Shape) (ps : List Place) → AreValued es shape (placed_above ps)
-    → AreNewValued es shape ps
-news_valued es shape [] v = tt
-news_valued es shape (p ∷ ps) v = (
-  inr (valued_before es shape p.above (placed_above ps) v),
-  news_valued es shape ps (valued_after es shape p.above (placed_above ps) v),
+news_valued : (edges : List LeafEdge) (shape : Shape) (ps : List Place) → AreValued edges shape (placed_above ps)
+    → AreNewValued edges shape ps
+news_valued edges shape [] v = tt
+news_valued edges shape (p ∷ ps) v = (
+  inr (valued_before edges shape p.above (placed_above ps) v),
+  news_valued edges shape ps (valued_after edges shape p.above (placed_above ps) v),
 )
 
-mets_below : (es : List LeafEdge) (l : Level) (ps : List Place) → AllByRecursion (AreAtPlace es l) ps
-    → AllByRecursion (λ p. AllByRecursion (λ t. MeetsAt es l p.at t.bundle) p.below) ps
-mets_below es l [] a = tt
-mets_below es l (p ∷ ps) a = (a.0.below, mets_below es l ps a.1)
+mets_below : (edges : List LeafEdge) (l : Level) (ps : List Place) → AllByRecursion (AreAtPlace edges l) ps
+    → AllByRecursion (λ p. AllByRecursion (λ t. MeetsAt edges l p.at t.bundle) p.below) ps
+mets_below edges l [] a = tt
+mets_below edges l (p ∷ ps) a = (a.0.below, mets_below edges l ps a.1)
 
-mets_above : (es : List LeafEdge) (l : Level) (ps : List Place) → AllByRecursion (AreAtPlace es l) ps
-    → AllByRecursion (λ p. AllByRecursion (λ t. MeetsAt es l p.at t.bundle) p.above) ps
-mets_above es l [] a = tt
-mets_above es l (p ∷ ps) a = (a.0.above, mets_above es l ps a.1)
+mets_above : (edges : List LeafEdge) (l : Level) (ps : List Place) → AllByRecursion (AreAtPlace edges l) ps
+    → AllByRecursion (λ p. AllByRecursion (λ t. MeetsAt edges l p.at t.bundle) p.above) ps
+mets_above edges l [] a = tt
+mets_above edges l (p ∷ ps) a = (a.0.above, mets_above edges l ps a.1)
 
 -- the ends of each flat edge of the height are among the spots
-ends_there : (es : List LeafEdge) (l : Level) (fs : List Flat) (spots : List Spot) → AreFlatsOn es l fs
+ends_there : (edges : List LeafEdge) (l : Level) (fs : List Flat) (spots : List Spot) → AreFlatsOn edges l fs
     → AllByRecursion (λ f. HasSpot spots (whole_spot f.left l) × HasSpot spots (whole_spot f.right l)) fs
     → AllByRecursion (λ e. is_flat_at e.edge l ≡ true → HasSpot spots (whole_spot e.edge.a.x l)
-    × HasSpot spots (whole_spot e.edge.b.x l)) es
-ends_there es l fs spots flats ends =
+    × HasSpot spots (whole_spot e.edge.b.x l)) edges
+ends_there edges l fs spots flats ends =
     by_places (λ e. is_flat_at e.edge l ≡ true → HasSpot spots (whole_spot e.edge.a.x l)
-    × HasSpot spots (whole_spot e.edge.b.x l)) es (λ k d o t.
-    let same : get_or es k d ≡ get_or es k no_edge = get_or_default es k d no_edge o in
+    × HasSpot spots (whole_spot e.edge.b.x l)) edges (λ k d o t.
+    let same : get_or edges k d ≡ get_or edges k no_edge = get_or_default edges k d no_edge o in
     subst (λ (e : LeafEdge). HasSpot spots (whole_spot e.edge.a.x l) × HasSpot spots (whole_spot e.edge.b.x l)) (sym same)
     (one k o (subst (λ (e : LeafEdge). is_flat_at e.edge l ≡ true) same t)))
   where
@@ -454,13 +456,13 @@ ends_there es l fs spots flats ends =
       subst (λ (z : ℤ). HasSpot spots (whole_spot z l)) (sym q.1) p.0,
     )
 
-    one : (k : ℕ) → k < length es → is_flat_at (edge_at es k) l ≡ true
-        → HasSpot spots (whole_spot (edge_at es k).a.x l) × HasSpot spots (whole_spot (edge_at es k).b.x l)
+    one : (k : ℕ) → k < length edges → is_flat_at (edge_at edges k) l ≡ true
+        → HasSpot spots (whole_spot (edge_at edges k).a.x l) × HasSpot spots (whole_spot (edge_at edges k).b.x l)
     one k o t =
-        let x = found es (λ f. HasSpot spots (whole_spot f.left l) × HasSpot spots (whole_spot f.right l)) fs k
+        let x = found edges (λ f. HasSpot spots (whole_spot f.left l) × HasSpot spots (whole_spot f.right l)) fs k
         (flats.all k o t) flats.each ends in
-        subst (λ (n : ℕ). HasSpot spots (whole_spot (edge_at es n).a.x l) × HasSpot spots (whole_spot (edge_at es n).b.x l))
-        x.1 (at_x k (edge_at es x.0.number).a.x (edge_at es x.0.number).b.x x.0.left x.0.right x.2.ends x.3)
+        subst (λ (n : ℕ). HasSpot spots (whole_spot (edge_at edges n).a.x l) × HasSpot spots (whole_spot (edge_at edges n).b.x l))
+        x.1 (at_x k (edge_at edges x.0.number).a.x (edge_at edges x.0.number).b.x x.0.left x.0.right x.2.ends x.3)
 
 kept_size : (v : Bool) (ms : List Mark) (ss : List Strand) → AreKept v ms ss → length ms ≡ length ss
 kept_size v [] [] k = refl

@@ -1,6 +1,4 @@
 -- One more change is counted, up to one that lies to the right.
-use Rattle.slice_outlines.proofs.Advancing.{lifted}
-use Rattle.slice_outlines.proofs.FlatsOn.{higher}
 use Rattle.std.proofs.Common.{◌+◌, refl}
 use Rattle.slice_outlines.specs.Ahead.{between}
 use Rattle.slice_outlines.proofs.Counting.{next_fits, count_more}
