@@ -31,7 +31,7 @@ use Rattle.slice_bool.specs.Beside.{left_value, passing, AreMembers}
 use Rattle.slice_bool.specs.Tally.{headings, is_held, IsTally}
 use Rattle.slice_bool.proofs.Bundled.{are_members}
 use Rattle.slice_sweep.specs.declared.change.Change.{Change}
-use Rattle.slice_sweep.specs.Changes.{Group, all_below, all_above, staying, AreChanges}
+use Rattle.slice_sweep.specs.Changes.{Group, Tell, all_below, all_above, staying, AreChanges}
 use Rattle.slice_sweep.specs.Front.{bundles_in, IsReadyFor, IsBegunTo}
 use Rattle.sweep_laws.specs.Ways.{Way, pieces_of}
 use Rattle.sweep_laws.specs.Fronts.{Strand, bundles_of, value_before, AreValued, IsFront}
@@ -54,12 +54,12 @@ use Rattle.slice_outlines.specs.declared.height.Open.{Open}
 use Rattle.slice_outlines.specs.declared.sweep.Sweep.{Sweep}
 use Rattle.slice_outlines.specs.Marks.{mark_at, left_of_first, IsNamed, AreKept}
 use Rattle.slice_outlines.specs.Stops.{AllPass}
-use Rattle.slice_outlines.specs.Above.{name_of, new_mark, AreTaken}
+use Rattle.slice_outlines.specs.Above.{name_of, new_mark, IsTold, AreTaken}
 use Rattle.slice_outlines.specs.Above.AreTaken.{none as taken_none, stays as taken_stays, changes as taken_changes}
 use Rattle.slice_outlines.specs.Cursor.{StandsOn, IsShifted, IsMetFromBelow}
 use Rattle.slice_outlines.specs.Tallies.{Tells}
 use Rattle.slice_outlines.specs.Flats.{IsFlatOf, AreFlats}
-use Rattle.slice_outlines.specs.Heights.{Onwards}
+use Rattle.slice_outlines.specs.Heights.{Onwards, IsOf}
 use Rattle.slice_outlines.specs.Along.{AreAtPlace, ArePlacesFrom, value_over}
 use Rattle.slice_outlines.specs.Ahead.{HasComeTo, between}
 use Rattle.slice_outlines.specs.Level.{AreFlatsOn, IsAtLevel, IsValuedAt, AreSpotsOf}
@@ -580,3 +580,63 @@ module _ (h : Height) (upper : Level) (shape : Shape) (levels later : List Level
     ready = (ready, begun);
     below = inr (h.at.now, next, crossed.1);
   }
+
+-- ---- as the code climbs
+abbrev pub changes_as : (es : List LeafEdge) (l : Level) (low up : List (List ℕ)) (cs ds : List Change) → ds ≡ cs
+    → AreChanges es l low up cs → AreChanges es l low up ds
+changes_as es l low up cs ds e ch = record {
+  groups = ch.groups;
+  are_groups = ch.are_groups;
+  below_is = ch.below_is;
+  above_is = ch.above_is;
+  told = subst (λ (xs : List Change). Tell 0 xs ch.groups) (sym e) ch.told;
+}
+
+abbrev pub told_as : (es : List LeafEdge) (l : Level) (ms : List Mark) (low up : List (List ℕ)) (cs : List Change)
+    → AreChanges es l low up cs → length ms ≡ length low → IsTold ms up cs
+told_as es l ms low up cs ch e = record {
+  groups = ch.groups;
+  told = ch.told;
+  lower = ap length ch.below_is ∙ sym e;
+  upper = ch.above_is;
+}
+
+pub empty_or_not : (fs : List Flat) → (fs ≡ [] → ⊥) ⊎ (fs ≡ [])
+empty_or_not [] = inr refl
+empty_or_not (f ∷ fs) = inl (λ e. absurd (omega (arith, ap length e)))
+
+module _ (h : Height) (upper : Level) (shape : Shape) (levels later : List Level) (s : Sweep) (cs : List Change)
+    (swept : HasSwept h.edges.now shape levels (h.at.now ∷ (upper ∷ later)) s) (are : AreLevels h.edges.now levels)
+    (leaves : AreLeavesBalanced h.edges.now) (next : AreNeighbours h.edges.now h.at.now upper)
+    (bundles : AreBundles h.edges.now h.at.now upper (bundles_in h.front.now))
+    (ch : AreChanges h.edges.now h.at.now (bundles_in s.front) (bundles_in h.front.now) cs)
+    (below_is : h.below.now ≡ s.kept.marks.items) (kept new : Open)
+    (taken : AreTaken 0 cs ch.groups h.below.now kept.marks.items) (fs : List Flat)
+    (flats : AreFlatsOn h.edges.now h.at.now fs) (few : length h.edges.now < 2 ^ 32)
+    (given_is : kept.given.items ≡ s.kept.given.items)
+    (on_front : StandsOn h.edges.now shape (bundles_in h.front.now) kept.cursor) where
+  pub climbs : IsAtLevel h kept.marks.items cs fs kept.cursor
+  climbs = at_level h upper shape levels later s cs swept are leaves next bundles ch below_is kept.marks.items taken fs
+      flats few kept.cursor on_front
+
+  pub climbed : ((w : IsAtLevel h kept.marks.items cs fs kept.cursor) (on : Onwards) → IsOf h on
+      → IsValuedAt on w.groups → HasComeTo on [] 0 0 kept → (spots : List Spot) × AreSpotsOf h fs spots
+      × HasComeTo on spots (length h.below.now) (length kept.marks.items) new) → (t : Sweep) → t.front ≡ h.front.now
+      → t.kept ≡ new → t.flats.items ≡ s.flats.items → t.passed ≤ length s.flats.items → ArePassedBelow upper t
+      → IsReadyFor h.edges.now upper t.front → IsBegunTo h.edges.now upper t.front
+      → HasSwept h.edges.now shape levels (upper ∷ later) t
+  unfolding climbs at_level
+  climbed pass t ef ek el o passed ready begun =
+      let on : Onwards = on_level h upper shape levels later s swept in
+      let start : HasComeTo on [] 0 0 kept = starts h upper shape levels later s cs swept are leaves next bundles ch
+      below_is kept.marks.items taken fs flats kept refl given_is on_front in
+      let valued : IsValuedAt on ch.groups = valued_level h upper shape levels later s cs swept are leaves next bundles ch
+      below_is kept.marks.items taken fs flats in
+      let below : AreKept false h.below.now swept.front = kept_below h upper shape levels later s cs swept are leaves next
+      bundles ch below_is kept.marks.items taken fs flats in
+      let r = pass climbs on (refl, below) valued start in
+      let size : length kept.marks.items ≡ length (bundles_in h.front.now) = named_size kept.marks.items
+      (bundles_in h.front.now) start.named in
+      lifted h upper shape levels later s swept are leaves next bundles fs new
+      (over_by on fs new (length h.below.now) (length kept.marks.items) below refl size flats r.0 r.1 r.2) t ef ek el o
+      passed ready begun

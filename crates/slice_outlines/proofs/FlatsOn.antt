@@ -20,6 +20,9 @@ use Rattle.scad_geom.specs.declared.level.LeafEdge.{LeafEdge}
 use Rattle.scad_geom.specs.Line.{low, high, rise}
 use Rattle.scad_geom.specs.Sign.{is_zero}
 use Rattle.scad_geom.specs.Level.{level_of, IsLower, IsAtMost}
+use Rattle.scad_geom.specs.Heights.{heights, AreNeighbours}
+use Rattle.scad_geom.proofs.Heights.{lower_chain, same_lower}
+use Rattle.scad_geom.proofs.Order.{all_ends}
 use Rattle.winding_laws.proofs.Sameness.{cancel_mul}
 use Rattle.slice_slab.specs.Bundles.{no_edge, edge_at}
 use Rattle.slice_bool.specs.Pieces.{is_flat_at}
@@ -27,6 +30,8 @@ use Rattle.slice_outlines.specs.declared.flat.Flat.{Flat}
 use Rattle.slice_outlines.specs.Flats.{IsFlatOf, LiesOn, AreFlats, IsOff, flat_cmp, flat_numbers, numbers_of}
 use Rattle.slice_outlines.specs.Level.{HasNumber, GoByLeft, AreFlatsOn}
 use Rattle.slice_outlines.proofs.Joining.{comes_before, flat_order}
+use Rattle.slice_outlines.proofs.Placing.{all_append}
+use Rattle.slice_outlines.proofs.Onward.{take_then}
 use Rattle.slice_outlines.proofs.Sought.{by_places, scaled_order}
 use Rattle.slice_outlines.proofs.WayCovers.{all_take, all_drop}
 use Rattle.slice_outlines.proofs.Cuts.{number_split, found}
@@ -166,6 +171,9 @@ each_flat es fs k a o f = elim (has_or_not fs k) [
       (IsPermutation-sym (flat_numbers 0 es) (numbers_of fs) a.all) (All-from_recursion P (numbers_of fs) n)))))
 ]
 
+whole_up : (y : ℤ) → pos 0 <ℤ (level_of y).d
+whole_up y = omega (arith, ints)
+
 -- ---- those of a level
 module _ (es : List LeafEdge) (l : Level) (d : pos 0 <ℤ l.d) (fs : List Flat) (a : AreFlats es fs) where
   not_lower : (k : ℕ) (f : Flat) → f.number ≡ k → IsFlatOf es f → is_flat_at (edge_at es k) l ≡ true
@@ -242,3 +250,59 @@ module _ (es : List LeafEdge) (l : Level) (d : pos 0 <ℤ l.d) (fs : List Flat) 
           → AllByRecursion (λ f. IsLower l (level_of f.y)) gs
       by_list [] s m o = tt
       by_list (f ∷ gs) s m o = (not_on f m.0 o, each f gs s.0 (not_on f m.0 o))
+
+  -- from a place up to another, behind those that are lower
+  module _ (from to : ℕ) (o : from ≤ to) (lows : AllByRecursion (λ f. IsLower (level_of f.y) l) (take from fs))
+      (most : AllByRecursion (λ f. IsAtMost l (level_of f.y)) (drop from fs))
+      (ons : AllByRecursion (LiesOn l) (take (to - from) (drop from fs))) (off : IsOff l (drop to fs)) where
+    place : from + (to - from) ≡ to
+    place = omega (arith, o)
+
+    highs : AllByRecursion (λ f. IsLower l (level_of f.y)) (drop to fs)
+    highs = higher to (subst (AllByRecursion (λ f. IsAtMost l (level_of f.y)))
+        (drop-drop (to - from) from fs ∙ ap (λ (n : ℕ). drop n fs) place)
+        (all_drop (λ f. IsAtMost l (level_of f.y)) (to - from) (drop from fs) most)) off
+
+    pub level_flats : AreFlatsOn es l (take (to - from) (drop from fs))
+    level_flats = flats_on from to o lows ons highs
+
+    module _ (upper : Level) (n : AreNeighbours es l upper) where
+      lower_up : (gs : List Flat) → AllByRecursion (λ f. IsLower (level_of f.y) l) gs
+          → AllByRecursion (λ f. IsLower (level_of f.y) upper) gs
+      lower_up [] a = tt
+      lower_up (f ∷ gs) a = (
+        lower_chain (level_of f.y) l upper (whole_up f.y) n.lower_divisor n.upper_divisor a.0 n.in_order,
+        lower_up gs a.1,
+      )
+
+      on_up : (gs : List Flat) → AllByRecursion (LiesOn l) gs → AllByRecursion (λ f. IsLower (level_of f.y) upper) gs
+      on_up [] a = tt
+      on_up (f ∷ gs) a =
+          let here = a.0 in (
+            same_lower (level_of f.y) l upper (whole_up f.y) n.lower_divisor n.upper_divisor (omega (arith, ints, here))
+                n.in_order,
+            on_up gs a.1,
+          )
+
+      -- no height lies between the level and the next
+      high_up : (gs : List Flat) → AllByRecursion (IsFlatOf es) gs → AllByRecursion (λ f. IsLower l (level_of f.y)) gs
+          → AllByRecursion (λ f. IsAtMost upper (level_of f.y)) gs
+      high_up [] i a = tt
+      high_up (f ∷ gs) i a = (by_case either, high_up gs i.1 a.1)
+        where
+          either : IsAtMost (level_of f.y) l ⊎ IsAtMost upper (level_of f.y)
+          either = subst (λ (y : ℤ). IsAtMost (level_of y) l ⊎ IsAtMost upper (level_of y)) i.0.height
+              (all_ends (λ h. IsAtMost h l ⊎ IsAtMost upper h) es f.number no_edge (recursion_from_All (λ h. IsAtMost h l
+              ⊎ IsAtMost upper h) (heights es) n.between) i.0.there).0
+
+          by_case : IsAtMost (level_of f.y) l ⊎ IsAtMost upper (level_of f.y) → IsAtMost upper (level_of f.y)
+          by_case (inl q) = let less = a.0 in absurd (omega (arith, ints, q, less))
+          by_case (inr q) = q
+
+      pub next_lower : AllByRecursion (λ f. IsLower (level_of f.y) upper) (take to fs)
+      next_lower = subst (AllByRecursion (λ f. IsLower (level_of f.y) upper)) (take_then fs from to o)
+          (all_append (λ f. IsLower (level_of f.y) upper) (take from fs) (take (to - from) (drop from fs))
+          (lower_up (take from fs) lows) (on_up (take (to - from) (drop from fs)) ons))
+
+      pub next_later : AllByRecursion (λ f. IsAtMost upper (level_of f.y)) (drop to fs)
+      next_later = high_up (drop to fs) (all_drop (IsFlatOf es) to fs a.each) highs
