@@ -7,7 +7,7 @@ use Rattle.std.specs.Prelude.{int_lt, int_le}
 use Rattle.std.specs.List.{AllByRecursion, AllZip, All, concat}
 use Rattle.std.specs.List.Sorted.{IsPermutation}
 use Rattle.std.proofs.lemmas.Int.{ints}
-use Rattle.std.proofs.lemmas.Bool.{and_from}
+use Rattle.std.proofs.lemmas.Bool.{and_from, cases_lt}
 use Rattle.std.proofs.lemmas.List.{append-nil, drop_at, drop_all, get_or_default, take_all, map-append}
 use Rattle.std.proofs.lemmas.List.Elements.{All-from_recursion, recursion_from_All}
 use Rattle.scad_geom.specs.declared.point.Edge.{Edge}
@@ -605,6 +605,16 @@ pub empty_or_not : (fs : List Flat) → (fs ≡ [] → ⊥) ⊎ (fs ≡ [])
 empty_or_not [] = inr refl
 empty_or_not (f ∷ fs) = inl (λ e. absurd (omega (arith, ap length e)))
 
+-- where there are flat edges, what holds where some are passed holds
+pub none_between : (fs : List Flat) (from to : ℕ) (all : List Flat) (i j : ℕ) → fs ≡ take (to - from) (drop from all)
+    → (from < to → i ≡ j) → (fs ≡ [] → ⊥) → i ≡ j
+none_between fs from to all i j e h n = elim (cases_lt from to) [
+  | inl o ↦ h o
+  | inr o ↦
+      let none : to - from ≡ 0 = omega (arith, o) in
+      absurd (n (e ∙ ap (λ (k : ℕ). take k (drop from all)) none))
+]
+
 module _ (h : Height) (upper : Level) (shape : Shape) (levels later : List Level) (s : Sweep) (cs : List Change)
     (swept : HasSwept h.edges.now shape levels (h.at.now ∷ (upper ∷ later)) s) (are : AreLevels h.edges.now levels)
     (leaves : AreLeavesBalanced h.edges.now) (next : AreNeighbours h.edges.now h.at.now upper)
@@ -614,7 +624,13 @@ module _ (h : Height) (upper : Level) (shape : Shape) (levels later : List Level
     (taken : AreTaken 0 cs ch.groups h.below.now kept.marks.items) (fs : List Flat)
     (flats : AreFlatsOn h.edges.now h.at.now fs) (few : length h.edges.now < 2 ^ 32)
     (given_is : kept.given.items ≡ s.kept.given.items)
-    (on_front : StandsOn h.edges.now shape (bundles_in h.front.now) kept.cursor) where
+    (cursor : Cursor) (on_low : StandsOn h.edges.now shape (bundles_in s.front) cursor)
+    (tally_is : kept.cursor.tally ≡ cursor.tally) (place : IsShifted ch.groups cursor.at kept.cursor.at)
+    (clear : (fs ≡ [] → ⊥) → cursor.at ≡ length (bundles_in s.front)) where
+  on_front : StandsOn h.edges.now shape (bundles_in h.front.now) kept.cursor
+  on_front = shifted h upper shape levels later s cs swept are leaves next bundles ch below_is kept.marks.items taken fs flats
+      cursor kept.cursor on_low tally_is place (empty_or_not fs) clear
+
   pub climbs : IsAtLevel h kept.marks.items cs fs kept.cursor
   climbs = at_level h upper shape levels later s cs swept are leaves next bundles ch below_is kept.marks.items taken fs
       flats few kept.cursor on_front
