@@ -562,8 +562,10 @@ module _ (h : Height) (upper : Level) (shape : Shape) (levels later : List Level
       → t.passed ≤ length s.flats.items → ArePassedBelow upper t → IsReadyFor h.edges.now upper t.front
       → IsBegunTo h.edges.now upper t.front → HasSwept h.edges.now shape levels (upper ∷ later) t
   lifted t ef ek el o passed ready begun = record {
+    done = swept.done ++ (h.at.now ∷ []);
     front = placed_above over.places;
     closed = swept.closed ++ all_closed over.places;
+    all = swept.all ∙ sym (append_assoc swept.done (h.at.now ∷ []) (upper ∷ later));
     swept = sweeps_go_on h.edges.now shape levels h.at.now upper later swept.front swept.closed over.places swept.swept
         crossed.0 crossed.1;
     given = subst (IsPermutation (rounded_edges (pieces_of (swept.closed ++ all_closed over.places))))

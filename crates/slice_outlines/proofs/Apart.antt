@@ -244,7 +244,7 @@ module _ (h : Height) where
       (over_spots gs p.1) (all_over (λ t. IsLeft s t) (closed_right l s p.0.at) gs p.1 a.0)
       (ordered_over gs p.1 a.1)
 
-  in_order : (ms : List Mark) (bs : List (List ℕ)) → AreNamed ms bs → AreOrdered bs → AreInOrder h ms
+  pub in_order : (ms : List Mark) (bs : List (List ℕ)) → AreNamed ms bs → AreOrdered bs → AreInOrder h ms
   in_order [] bs z o = tt
   in_order (m ∷ []) bs z o = tt
   in_order (m ∷ (n ∷ ms)) [] z o = absurd z

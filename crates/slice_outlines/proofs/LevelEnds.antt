@@ -54,7 +54,16 @@ farther : (x : ℤ) (u : ℕ) → 0 < u → unsigned_abs x ≤ coordinate_limit 
 farther (pos n) u o h = omega (arith, ints, o)
 farther (negsuc n) u o h = omega (arith, ints, o, h)
 
-left_of : (l : Level) (s : Spot) → pos 0 <ℤ l.d → s.at ≡ l → IsSpotWithin coordinate_limit s → IsLeft (far_left l) s
+pub product_positive : (a b : ℕ) → 0 < a → 0 < b → 0 < a * b
+product_positive a b p q = grind (arith, p, q)
+
+turned_product : (a b : ℕ) → pos b *ℤ pos a ≡ pos (a * b)
+turned_product a b = omega (arith, ints)
+
+pub as_product : (a b : ℕ) (z : ℤ) → pos b ≡ z → z *ℤ pos a ≡ pos (a * b)
+as_product a b z e = ap (λ (y : ℤ). y *ℤ pos a) (sym e) ∙ turned_product a b
+
+pub left_of : (l : Level) (s : Spot) → pos 0 <ℤ l.d → s.at ≡ l → IsSpotWithin coordinate_limit s → IsLeft (far_left l) s
 left_of l s d at w =
     let u : ℕ = s.run * unsigned_abs l.d in
     let size : unsigned_abs s.x ≤ coordinate_limit * u =
@@ -68,17 +77,8 @@ left_of l s d at w =
     let same : (negsuc coordinate_limit *ℤ l.d) *ℤ pos s.run ≡ negsuc coordinate_limit *ℤ pos u =
     grouped (negsuc coordinate_limit) l.d (pos s.run) ∙ ap (λ (z : ℤ). negsuc coordinate_limit *ℤ z) product in
     omega (arith, ints, less, same)
-  where
-    product_positive : (a b : ℕ) → 0 < a → 0 < b → 0 < a * b
-    product_positive a b p q = grind (arith, p, q)
 
-    as_product : (a b : ℕ) (z : ℤ) → pos b ≡ z → z *ℤ pos a ≡ pos (a * b)
-    as_product a b z e = ap (λ (y : ℤ). y *ℤ pos a) (sym e) ∙ turned_product a b
-      where
-        turned_product : (a b : ℕ) → pos b *ℤ pos a ≡ pos (a * b)
-        turned_product a b = omega (arith, ints)
-
-flat_left : (l : Level) (x : ℤ) → pos 0 <ℤ l.d → unsigned_abs x ≤ coordinate_limit → IsLeft (far_left l) (whole_spot x l)
+pub flat_left : (l : Level) (x : ℤ) → pos 0 <ℤ l.d → unsigned_abs x ≤ coordinate_limit → IsLeft (far_left l) (whole_spot x l)
 flat_left l x d h =
     let less : (negsuc coordinate_limit *ℤ pos 1) <ℤ x = farther x 1 (omega arith) (omega (arith, h)) in
     whole_left l (negsuc coordinate_limit) x d (omega (arith, ints, less))

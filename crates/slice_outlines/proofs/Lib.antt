@@ -38,3 +38,4 @@ mod Stretching
 mod LevelEnds
 mod FlatsOn
 mod Advancing
+mod Ended

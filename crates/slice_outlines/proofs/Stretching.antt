@@ -243,7 +243,7 @@ no_course : (ws : List Way) (c : Option Course) → ws ≡ [] → AllZip IsCours
 no_course ws None e z = refl
 no_course ws (Some c) e z = absurd (subst (λ (vs : List Way). AllZip IsCourseOf vs (c ∷ [])) e z)
 
-without_course : (on : Onwards) (passed : List Spot) (run : Run) (n m : ℕ) (c : Option Course) (ms : List Mark)
+pub without_course : (on : Onwards) (passed : List Spot) (run : Run) (n m : ℕ) (c : Option Course) (ms : List Mark)
     (given : List Edge) (cursor : Cursor) → HasComeOver on passed [] run n m c ms given cursor
     → HasComeOver on passed [] run n m None ms given cursor
 without_course on passed run n m c ms given cursor come =

@@ -1,5 +1,5 @@
 -- What is known of a sweep between two of its levels.
-use Rattle.std.specs.Prelude.{false, ◌≡◌, ◌≤◌, ◌<◌, ◌⊎◌, ⊤, ℕ, List, [], ◌∷◌, length, take, drop}
+use Rattle.std.specs.Prelude.{false, ◌≡◌, ◌≤◌, ◌<◌, ◌⊎◌, ⊤, ℕ, List, [], ◌∷◌, ◌++◌, length, take, drop}
 use Rattle.std.specs.List.{AllByRecursion}
 use Rattle.std.specs.List.Sorted.{IsPermutation}
 use Rattle.scad_geom.specs.declared.level.Level.{Level}
@@ -41,8 +41,10 @@ IsFrontBelow es shape levels (m ∷ ls) front = ((front ≡ []) × (levels ≡ m
 
 -- a sweep over some levels that has passed all but those that are left
 pub record HasSwept (es : List LeafEdge) (shape : Shape) (levels left : List Level) (s : Sweep) : Type 0 where
+  pub done : List Level
   pub front : List Strand
   pub closed : List Way
+  pub all : levels ≡ done ++ left
   pub swept : HasSweptTo es shape levels left front closed
   pub given : IsPermutation (rounded_edges (pieces_of closed)) s.kept.given.items
   pub bundles : bundles_of front ≡ bundles_in s.front

@@ -145,6 +145,36 @@ pub(crate) fn pass_stretch(
         kept.new.cursor) }
 {
     find_values(height, kept, run);
+    pass_places(alloc, height, kept, run, flats)?;
+    Ok(())
+}
+
+/// Passes the places of a stretch whose strands have their values.
+pub(crate) fn pass_places(
+    alloc: Global,
+    height: &Height<'_>,
+    kept: &mut Open,
+    run: &Run,
+    flats: &[Flat],
+) -> Result<(), AllocError>
+    requires run { IsRunOf height.now.below.now kept.old.marks.items run.now }
+    requires below_order { AreInOrder height.now height.now.below.now }
+    requires above_order { AreInOrder height.now kept.old.marks.items }
+    requires below_pass { AllPass height.now.edges.now height.now.at.now height.now.below.now }
+    requires above_pass { AllPass height.now.edges.now height.now.at.now kept.old.marks.items }
+    ensures passed { (on : Onwards) (passed : List Spot) → IsOf height.now on
+        → ((stops : List Stop) → AreStopsAt height.now stops
+        → AreStopsOf (stretch_spots height.now kept.old.marks.items run.now flats.now) (spots_in stops)
+        → TellWays height.now.edges.now flats.now stops)
+        → OnOk result ((spots : List Spot)
+        × AreStopsOf (stretch_spots height.now kept.old.marks.items run.now flats.now) spots
+        × (HasComeOver on passed spots run.now run.now.below run.now.above None kept.old.marks.items
+        kept.old.given.items kept.old.cursor → (course : Option Course)
+        × HasComeOver on (passed ++ spots) [] run.now run.now.below_to run.now.above_to course
+        kept.new.marks.items kept.new.given.items kept.new.cursor)) }
+    ensures right { OnOk result (KeepsRight run.now kept.old.marks.items kept.new.marks.items) }
+    ensures cursor { kept.new.cursor ≡ kept.old.cursor }
+{
     let stops = stops_of(alloc, height, kept, run, flats)?;
     pass_stops(alloc, height, kept, run, flats, &stops)?;
     Ok(())

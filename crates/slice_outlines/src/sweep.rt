@@ -28,7 +28,7 @@ use crate::groups::{Passed, pass_groups, skip_groups};
 use crate::height::{Height, Open};
 use crate::mark::Mark;
 use crate::run::{Run, first};
-use crate::stretch::{pass_stretch, run_between};
+use crate::stretch::{pass_places, pass_stretch, run_between};
 use scad_geom::{Edge, LeafEdge, Level, Shape};
 use slice_sweep::{Change, Front};
 use std::alloc::{AllocError, Global};
@@ -150,7 +150,7 @@ impl Sweep {
             above_to: 0,
         };
         let flats = &self.flats[self.passed..];
-        pass_stretch(self.alloc, &height, &mut kept, &run, flats)?;
+        pass_places(self.alloc, &height, &mut kept, &run, flats)?;
         Ok(kept.given)
     }
 }

@@ -17,8 +17,10 @@ returns c ls a =
     let shape = c.args.shape.now in
     let kept = c.nothing.result in
     record {
+      done = [];
       front = [];
       closed = [];
+      all = refl;
       swept = sweeps_begin es shape ls;
       given = subst (λ (xs : List Edge). IsPermutation xs kept.given.items) (sym ways_give_edges.none)
           (subst (λ (xs : List Edge). IsPermutation [] xs) (sym c.nothing.ensures.given) (IsPermutation-refl []));
