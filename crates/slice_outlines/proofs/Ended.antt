@@ -72,6 +72,9 @@ use Rattle.slice_outlines.proofs.WayCovers.{grouped, all_drop}
 use Rattle.slice_outlines.proofs.FlatsOn.{flats_on}
 use Rattle.slice_outlines.proofs.Advancing.{all_pass, front_heads, first_most, IsOver, over_by}
 
+pub all_from : (xs ys : List Flat) (n : ℕ) → xs ≡ ys → take (length xs - n) (drop n xs) ≡ drop n ys
+all_from xs ys n e = take_all (length xs - n) (drop n xs) (omega (arith, length-drop n xs)) ∙ ap (drop n) e
+
 -- ---- the last level is the highest
 most_of : (x : Level) (done : List Level) (top : Level) → AllByRecursion (λ (u : Level). pos 0 <ℤ u.d) (x ∷ (done ++ (top ∷ [])))
     → IsRising (x ∷ (done ++ (top ∷ []))) → IsAtMost x top
@@ -197,6 +200,16 @@ module _ (h : Height) where
   are_ordered (b ∷ bs) p a = (one_ordered b bs p.0 p.1 a.0, are_ordered bs p.1 a.1)
 
 -- ---- the last level
+-- the marks below it meet it
+pub marks_all_pass : (es : List LeafEdge) (shape : Shape) (levels : List Level) (top : Level) (s : Sweep)
+    → HasSwept es shape levels (top ∷ []) s → AreLevels es levels → (ms : List Mark) → ms ≡ s.kept.marks.items
+    → AllPass es top ms
+marks_all_pass es shape levels top s swept are ms e =
+    all_pass es top ms (bundles_in s.front)
+    (subst (λ (us : List Mark). AreNamed us (bundles_in s.front)) (sym e) (swept_named es shape levels top [] s swept))
+    (subst (AllByRecursion (HeadPasses es top)) swept.bundles
+    (front_heads es shape levels top [] are swept.front swept.below))
+
 module _ (h : Height) (shape : Shape) (levels : List Level) (s : Sweep)
     (swept : HasSwept h.edges.now shape levels (h.at.now ∷ []) s) (are : AreLevels h.edges.now levels)
     (below_is : h.below.now ≡ s.kept.marks.items) (none : bundles_in h.front.now ≡ []) where
@@ -353,16 +366,24 @@ module _ (h : Height) (shape : Shape) (levels : List Level) (s : Sweep)
           nothing over.met over.passed)
 
   -- as the code passes it
-  pub all_merged : (kept new : Open) → kept.marks.items ≡ [] → kept.given.items ≡ s.kept.given.items
-      → StandsOn h.edges.now shape [] kept.cursor
-      → ((on : Onwards) (passed : List Spot) → IsOf h on → ((stops : List Stop) → AreStopsAt h stops
-      → AreStopsOf (stretch_spots h kept.marks.items whole lasts) (spots_in stops) → TellWays h.edges.now lasts stops)
-      → (spots : List Spot) × AreStopsOf (stretch_spots h kept.marks.items whole lasts) spots
-      × (HasComeOver on passed spots whole 0 0 None kept.marks.items kept.given.items kept.cursor
-      → (course : Option Course)
-      × HasComeOver on (passed ++ spots) [] whole (length h.below.now) 0 course new.marks.items new.given.items
-      new.cursor)) → AreMergedEdges h.edges.now shape new.given.items
-  all_merged kept new e g stands pass =
+  abbrev pub PassesAll : Open → Open → ℕ → List Flat → Type 0
+  PassesAll kept new n fs = (on : Onwards) (passed : List Spot) → IsOf h on
+      → ((stops : List Stop) → AreStopsAt h stops
+      → AreStopsOf (stretch_spots h kept.marks.items (record { below = 0; below_to = n; above = 0; above_to = 0 }) fs)
+      (spots_in stops) → TellWays h.edges.now fs stops)
+      → (spots : List Spot)
+      × AreStopsOf (stretch_spots h kept.marks.items (record { below = 0; below_to = n; above = 0; above_to = 0 }) fs) spots
+      × (HasComeOver on passed spots (record { below = 0; below_to = n; above = 0; above_to = 0 }) 0 0 None
+      kept.marks.items kept.given.items kept.cursor → (course : Option Course)
+      × HasComeOver on (passed ++ spots) [] (record { below = 0; below_to = n; above = 0; above_to = 0 }) n 0 course
+      new.marks.items new.given.items new.cursor)
+
+  pub all_merged : (kept new : Open) (n : ℕ) (fs : List Flat) → n ≡ length h.below.now → fs ≡ lasts
+      → kept.marks.items ≡ [] → kept.given.items ≡ s.kept.given.items → StandsOn h.edges.now shape [] kept.cursor
+      → PassesAll kept new n fs → AreMergedEdges h.edges.now shape new.given.items
+  all_merged kept new n fs en ef e g stands passes =
+      let pass : PassesAll kept new (length h.below.now) lasts =
+      subst (PassesAll kept new (length h.below.now)) ef (subst (λ (k : ℕ). PassesAll kept new k fs) en passes) in
       let r = pass on_last [] (refl, last_kept) (λ stops a b.
       last_tells stops a (subst (λ (ms : List Mark). AreStopsOf (stretch_spots h ms whole lasts) (spots_in stops)) e b)) in
       let stops : AreStopsOf (stretch_spots h [] whole lasts) r.0 =
