@@ -1,25 +1,25 @@
 -- A sweep that is lifted over a level.
-use Rattle.std.proofs.Common.{◌≡◌, ◌⊎◌, inl, inr, ℕ, zero, suc, ◌+◌, ◌-◌, ◌^◌, ◌<◌, ◌≤◌, Bool, true, false, List, [], ◌∷◌, ◌++◌, map, length, get_or, take, drop, None, refl, sym, ap, ap₂, ◌∙◌, subst, arith, append_assoc, length-append}
+use Rattle.std.proofs.Common.{◌≡◌, ◌⊎◌, inl, inr, ℕ, suc, ◌+◌, ◌-◌, ◌^◌, ◌<◌, ◌≤◌, Bool, true, false, List, [], ◌∷◌, ◌++◌, map, length, get_or, take, drop, refl, sym, ap, ◌∙◌, subst, arith, append_assoc, length-append}
 use mathlib.Core.Path.{fun_ext}
 use lib.IntN.{ℤ, pos, ◌*ℤ◌}
-use lib.Signed.{◌<ℤ◌, ◌≤ℤ◌}
+use lib.Signed.{◌<ℤ◌}
 use Rattle.std.specs.Prelude.{int_lt, int_le}
-use Rattle.std.specs.List.{AllByRecursion, AllZip, All, concat}
+use Rattle.std.specs.List.{AllByRecursion, concat}
 use Rattle.std.specs.List.Sorted.{IsPermutation}
 use Rattle.std.proofs.lemmas.Int.{ints}
 use Rattle.std.proofs.lemmas.Bool.{and_from, cases_lt}
 use Rattle.std.proofs.lemmas.List.{append-nil, drop_at, drop_all, get_or_default, take_all, map-append}
-use Rattle.std.proofs.lemmas.List.Elements.{All-from_recursion, recursion_from_All}
+use Rattle.std.proofs.lemmas.List.Elements.{All-from_recursion}
 use Rattle.scad_geom.specs.declared.point.Edge.{Edge}
 use Rattle.scad_geom.specs.declared.level.Level.{Level}
 use Rattle.scad_geom.specs.declared.level.LeafEdge.{LeafEdge}
 use Rattle.scad_geom.specs.declared.shape.Shape.{Shape}
 use Rattle.scad_geom.specs.Line.{low, high, rise}
-use Rattle.scad_geom.specs.Level.{level_of, IsLower, IsAtMost}
+use Rattle.scad_geom.specs.Level.{level_of, IsAtMost}
 use Rattle.scad_geom.specs.Leaves.{AreLeavesBalanced}
 use Rattle.scad_geom.specs.Heights.{heights, AreNeighbours}
-use Rattle.scad_geom.proofs.Heights.{Reaches, heights_positive, at_most_chain, lower_weak}
-use Rattle.scad_geom.proofs.Order.{front, back, all_ends}
+use Rattle.scad_geom.proofs.Heights.{heights_positive, at_most_chain, lower_weak}
+use Rattle.scad_geom.proofs.Order.{front, back}
 use Rattle.slice_events.specs.Levels.{AreLevels}
 use Rattle.slice_slab.specs.Bundles.{no_edge, edge_at, AreBundles, AreRanked}
 use Rattle.slice_slab.proofs.Live.{IsLive, live_bundles}
@@ -27,15 +27,15 @@ use Rattle.slice_snap.specs.declared.piece.Spot.{Spot}
 use Rattle.slice_snap.specs.Spots.{point_of}
 use Rattle.slice_snap.specs.Rounding.{rounded_edges}
 use Rattle.slice_bool.specs.Pieces.{whole_spot, passes_at, is_flat_at, spots_at, GoRight, HasSpot, IsOneOf}
-use Rattle.slice_bool.specs.Beside.{left_value, passing, AreMembers}
-use Rattle.slice_bool.specs.Tally.{headings, is_held, IsTally}
+use Rattle.slice_bool.specs.Beside.{left_value, passing}
+use Rattle.slice_bool.specs.Tally.{headings, is_held}
 use Rattle.slice_bool.proofs.Bundled.{are_members}
 use Rattle.slice_sweep.specs.declared.change.Change.{Change}
-use Rattle.slice_sweep.specs.Changes.{Group, Tell, all_below, all_above, staying, AreChanges}
+use Rattle.slice_sweep.specs.Changes.{Group, Tell, all_below, all_above, AreChanges}
 use Rattle.slice_sweep.specs.Front.{bundles_in, IsReadyFor, IsBegunTo}
-use Rattle.sweep_laws.specs.Ways.{Way, pieces_of}
-use Rattle.sweep_laws.specs.Fronts.{Strand, bundles_of, value_before, AreValued, IsFront}
-use Rattle.sweep_laws.specs.Crossing.{Place, spots_of, all_closed, ArePassed, MeetsAt, IsCrossing}
+use Rattle.sweep_laws.specs.Ways.{pieces_of}
+use Rattle.sweep_laws.specs.Fronts.{Strand, bundles_of, AreValued, IsFront}
+use Rattle.sweep_laws.specs.Crossing.{Place, all_closed, ArePassed, MeetsAt, IsCrossing}
 use Rattle.sweep_laws.specs.Crossing.{all_below as placed_below, all_above as placed_above}
 use Rattle.sweep_laws.specs.Balance.{StaysAside}
 use Rattle.sweep_laws.specs.Stops.{AreMet}
@@ -58,23 +58,23 @@ use Rattle.slice_outlines.specs.Above.{name_of, new_mark, IsTold, AreTaken}
 use Rattle.slice_outlines.specs.Above.AreTaken.{none as taken_none, stays as taken_stays, changes as taken_changes}
 use Rattle.slice_outlines.specs.Cursor.{StandsOn, IsShifted, IsMetFromBelow}
 use Rattle.slice_outlines.specs.Tallies.{Tells}
-use Rattle.slice_outlines.specs.Flats.{IsFlatOf, AreFlats}
+use Rattle.slice_outlines.specs.Flats.{AreFlats}
 use Rattle.slice_outlines.specs.Heights.{Onwards, IsOf}
 use Rattle.slice_outlines.specs.Along.{AreAtPlace, ArePlacesFrom, value_over}
 use Rattle.slice_outlines.specs.Ahead.{HasComeTo, between}
 use Rattle.slice_outlines.specs.Level.{AreFlatsOn, IsAtLevel, IsValuedAt, AreSpotsOf}
 use Rattle.slice_outlines.specs.Sweep.{HasSwept, IsFrontBelow, ArePassedBelow}
 use Rattle.slice_outlines.proofs.Beginning.{all_above_first}
-use Rattle.slice_outlines.proofs.Placing.{AreNamed, all_append, zip_append}
-use Rattle.slice_outlines.proofs.GroupsMet.{HeadPasses, heads_pass}
+use Rattle.slice_outlines.proofs.Placing.{AreNamed, zip_append}
+use Rattle.slice_outlines.proofs.GroupsMet.{HeadPasses}
 use Rattle.slice_outlines.proofs.LevelAhead.{zip_front}
 use Rattle.slice_outlines.proofs.Grouping.{value_end}
 use Rattle.slice_outlines.proofs.Fitting.{named_size}
 use Rattle.slice_outlines.proofs.Few.{bundles_few}
-use Rattle.slice_outlines.proofs.Climbing.{swept_members, swept_named, swept_few}
+use Rattle.slice_outlines.proofs.Climbing.{swept_named, swept_few}
 use Rattle.slice_outlines.proofs.Sought.{by_places}
 use Rattle.slice_outlines.proofs.Apart.{IsPlaced, AreApart, groups_placed, groups_apart, below-append, above-append}
-use Rattle.slice_outlines.proofs.Cuts.{IsCutAt, under_right, over_right, stays_aside, found}
+use Rattle.slice_outlines.proofs.Cuts.{under_right, over_right, stays_aside, found}
 use Rattle.slice_outlines.proofs.Levelling.{cut_on}
 use Rattle.slice_outlines.proofs.LevelEnds.{far_left, far_cut}
 
@@ -584,9 +584,9 @@ module _ (h : Height) (upper : Level) (shape : Shape) (levels later : List Level
   }
 
 -- ---- as the code climbs
-abbrev pub changes_as : (es : List LeafEdge) (l : Level) (low up : List (List ℕ)) (cs ds : List Change) → ds ≡ cs
-    → AreChanges es l low up cs → AreChanges es l low up ds
-changes_as es l low up cs ds e ch = record {
+abbrev pub changes_as : (edges : List LeafEdge) (l : Level) (below above : List (List ℕ)) (cs ds : List Change) → ds ≡ cs
+    → AreChanges edges l below above cs → AreChanges edges l below above ds
+changes_as edges l below above cs ds e ch = record {
   groups = ch.groups;
   are_groups = ch.are_groups;
   below_is = ch.below_is;
@@ -594,9 +594,9 @@ changes_as es l low up cs ds e ch = record {
   told = subst (λ (xs : List Change). Tell 0 xs ch.groups) (sym e) ch.told;
 }
 
-abbrev pub told_as : (es : List LeafEdge) (l : Level) (ms : List Mark) (low up : List (List ℕ)) (cs : List Change)
-    → AreChanges es l low up cs → length ms ≡ length low → IsTold ms up cs
-told_as es l ms low up cs ch e = record {
+abbrev pub told_as : (edges : List LeafEdge) (l : Level) (ms : List Mark) (below above : List (List ℕ)) (cs : List Change)
+    → AreChanges edges l below above cs → length ms ≡ length below → IsTold ms above cs
+told_as edges l ms below above cs ch e = record {
   groups = ch.groups;
   told = ch.told;
   lower = ap length ch.below_is ∙ sym e;

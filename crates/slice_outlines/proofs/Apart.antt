@@ -1,9 +1,8 @@
 -- The groups of a height from left to right, by the spots of their strands.
-use Rattle.std.proofs.Common.{◌≡◌, ◌⊎◌, inl, inr, ℕ, zero, suc, ◌+◌, ◌-◌, ◌<◌, ◌≤◌, true, List, [], ◌∷◌, ◌++◌, length, take, drop, refl, sym, ap, ◌∙◌, subst, arith, append_assoc, length-append}
+use Rattle.std.proofs.Common.{◌≡◌, ℕ, true, List, [], ◌∷◌, ◌++◌, refl, sym, ap, ◌∙◌, subst, append_assoc}
 use lib.IntN.{ℤ, pos, ◌*ℤ◌}
 use lib.Signed.{◌<ℤ◌}
 use Rattle.std.specs.List.{AllByRecursion}
-use Rattle.std.proofs.lemmas.Int.{ints}
 use Rattle.scad_geom.specs.declared.point.Edge.{Edge}
 use Rattle.scad_geom.specs.declared.level.Level.{Level}
 use Rattle.scad_geom.specs.declared.level.LeafEdge.{LeafEdge}
@@ -12,7 +11,7 @@ use Rattle.scad_geom.proofs.Order.{front, back}
 use Rattle.slice_slab.specs.Bundles.{edge_at}
 use Rattle.slice_slab.specs.KeptOrder.{IsLeftAt}
 use Rattle.slice_snap.specs.declared.piece.Spot.{Spot}
-use Rattle.slice_bool.specs.Pieces.{spot_on, whole_spot, passes_at, spots_at, IsLeft, IsSameAcross, IsOneOf, GoRight}
+use Rattle.slice_bool.specs.Pieces.{spot_on, passes_at, spots_at, IsLeft, IsSameAcross, IsOneOf, GoRight}
 use Rattle.slice_bool.proofs.Middle.{size_of}
 use Rattle.slice_bool.proofs.Winding.{IsSpotAt}
 use Rattle.slice_sweep.specs.Chains.{Chain}
@@ -22,7 +21,7 @@ use Rattle.sweep_laws.proofs.Spots.{spot_at as edge_spot}
 use Rattle.sweep_laws.proofs.Stops.{spots_are_there}
 use Rattle.slice_outlines.specs.declared.mark.Mark.{Mark}
 use Rattle.slice_outlines.specs.declared.height.Height.{Height}
-use Rattle.slice_outlines.specs.Marks.{spot_at, IsNamed}
+use Rattle.slice_outlines.specs.Marks.{spot_at}
 use Rattle.slice_outlines.specs.Heights.{IsNotRightOf, AreInOrder}
 use Rattle.slice_outlines.specs.Ahead.{first_spot, group_spots, IsSameSpot}
 use Rattle.slice_outlines.proofs.EndPoints.{passes_then_rises, passes_there}

@@ -1,28 +1,19 @@
 -- One value below a height and above it, beside what lies ahead.
-use Rattle.std.proofs.Common.{◌≡◌, ◌<◌, ℕ, zero, suc, Bool, true, false, List, [], ◌∷◌, ◌++◌, drop, refl, sym, ap, ◌∙◌, true≢false}
+use Rattle.std.proofs.Common.{◌≡◌, ℕ, zero, suc, Bool, true, false, List, [], ◌∷◌, ◌++◌, drop, refl, sym, ap, ◌∙◌, true≢false}
 use Rattle.std.specs.Prelude.{⊤, if◌then◌else◌}
 use Rattle.std.specs.List.{AllByRecursion}
-use Rattle.scad_geom.specs.declared.level.Level.{Level}
 use Rattle.scad_geom.specs.declared.level.LeafEdge.{LeafEdge}
 use Rattle.scad_geom.specs.declared.shape.Shape.{Shape}
 use Rattle.scad_geom.specs.Point.{Point}
-use Rattle.scad_geom.specs.Leaves.{AreLeavesBalanced}
-use Rattle.scad_geom.specs.Heights.{AreNeighbours}
-use Rattle.slice_slab.specs.Bundles.{AreBundles}
-use Rattle.slice_snap.specs.declared.piece.Spot.{Spot}
-use Rattle.slice_snap.specs.Spots.{point_of}
 use Rattle.slice_sweep.specs.Front.{bundles_in}
 use Rattle.slice_bool.specs.Beside.{left_value, passing, is_right_of}
 use Rattle.slice_bool.proofs.Bundled.{outside_right}
-use Rattle.sweep_laws.specs.Fronts.{Strand, bundles_of, AreValued, IsFront}
-use Rattle.sweep_laws.specs.Balance.{StaysAside}
-use Rattle.sweep_laws.proofs.Balance.{values_are_kept}
+use Rattle.sweep_laws.specs.Fronts.{Strand, bundles_of, AreValued}
 use Rattle.slice_outlines.specs.declared.mark.Mark.{Mark}
 use Rattle.slice_outlines.specs.declared.height.Height.{Height}
 use Rattle.slice_outlines.specs.Marks.{left_of_first, AreKept}
 use Rattle.slice_outlines.specs.Heights.{IsBalancedBefore}
 use Rattle.slice_outlines.specs.Ahead.{between}
-use Rattle.slice_outlines.proofs.Placing.{first_kept}
 use Rattle.slice_outlines.proofs.Onward.{kept_drop}
 
 -- ---- below the height
@@ -68,19 +59,3 @@ right_part es p ([] ∷ bs) cs a b = right_part es p bs cs a.1 b
 right_part es p ((k ∷ ks) ∷ bs) cs a b =
     ap (λ (t : Bool). if t then (k ∷ ks) ∷ (bs ++ cs) else passing es true p (bs ++ cs)) a.0
     ∙ right_part es p bs cs a.1 b
-
--- where no flat edge leads on from a spot
-pub balanced_beside : (h : Height) (shape : Shape) (l u : Level) (ss : List Strand) (s : Spot) (n m : ℕ)
-    → AreLeavesBalanced h.edges.now → AreNeighbours h.edges.now l h.at.now → AreNeighbours h.edges.now h.at.now u
-    → IsFront h.edges.now shape l h.at.now ss → AreBundles h.edges.now h.at.now u (bundles_in h.front.now)
-    → AreKept false h.below.now ss → s.at ≡ h.at.now → 0 < s.run
-    → AllByRecursion (StaysAside (point_of s)) h.edges.now
-    → passing h.edges.now true (point_of s) (bundles_of ss) ≡ bundles_of (drop n ss)
-    → passing h.edges.now true (point_of s) (bundles_in h.front.now) ≡ drop m (bundles_in h.front.now)
-    → IsBalancedBefore h shape (between n m)
-balanced_beside h shape l u ss s n m b below above front bundles kept at run aside lower upper =
-    let es : List LeafEdge = h.edges.now in
-    balanced_by h shape ss n m kept front.values
-    (ap (left_value es shape) (sym lower)
-    ∙ values_are_kept es shape b l h.at.now u below above (bundles_of ss) (bundles_in h.front.now) front.bundles bundles s
-    at run aside ∙ ap (left_value es shape) upper)

@@ -1,20 +1,19 @@
 -- What a level asks of a sweep that has come to it.
-use Rattle.std.proofs.Common.{◌≡◌, ℕ, ◌+◌, ◌^◌, ◌<◌, ◌≤◌, ◌⊎◌, inl, inr, false, List, [], ◌∷◌, ◌++◌, length, refl, sym, ap, ◌∙◌, subst, arith, length-append}
+use Rattle.std.proofs.Common.{◌≡◌, ℕ, ◌^◌, ◌<◌, ◌≤◌, inl, inr, false, List, [], ◌∷◌, length, sym, ap, subst, arith, length-append}
 use Rattle.std.specs.List.{concat}
 use Rattle.scad_geom.specs.declared.level.Level.{Level}
 use Rattle.scad_geom.specs.declared.level.LeafEdge.{LeafEdge}
 use Rattle.scad_geom.specs.declared.shape.Shape.{Shape}
 use Rattle.slice_sweep.specs.declared.change.Change.{Change}
-use Rattle.slice_sweep.specs.Changes.{Group, all_below, all_above, AreChanges}
+use Rattle.slice_sweep.specs.Changes.{all_below, all_above, AreChanges}
 use Rattle.slice_sweep.specs.Front.{bundles_in}
 use Rattle.slice_bool.specs.Beside.{AreMembers}
 use Rattle.slice_bool.proofs.Bundled.{are_members}
 use Rattle.sweep_laws.specs.Fronts.{Strand, bundles_of}
 use Rattle.slice_outlines.specs.declared.mark.Mark.{Mark}
 use Rattle.slice_outlines.specs.declared.sweep.Sweep.{Sweep}
-use Rattle.slice_outlines.specs.Marks.{IsNamed, AreKept}
-use Rattle.slice_outlines.specs.Above.{IsTold}
-use Rattle.slice_outlines.specs.Cursor.{Stands, IsApartAt, CanShift}
+use Rattle.slice_outlines.specs.Marks.{AreKept}
+use Rattle.slice_outlines.specs.Cursor.{IsApartAt, CanShift}
 use Rattle.slice_outlines.specs.Sweep.{HasSwept, IsFrontBelow}
 use Rattle.slice_outlines.proofs.Placing.{AreNamed}
 use Rattle.slice_outlines.proofs.Fitting.{fits_apart}
@@ -51,9 +50,6 @@ module _ (es : List LeafEdge) (shape : Shape) (levels : List Level) (m : Level) 
   pub swept_named : AreNamed s.kept.marks.items (bundles_in s.front)
   swept_named = subst (AreNamed s.kept.marks.items) swept.bundles (kept_named s.kept.marks.items swept.front swept.kept)
 
-  pub swept_stands : Stands es (bundles_in s.front) s.kept.cursor
-  swept_stands = record { shape = shape; on = swept.cursor }
-
   pub swept_few : length es < 2 ^ 32 → length (bundles_in s.front) < 2 ^ 32
   swept_few o =
       let few = swept_members.few in
@@ -75,12 +71,3 @@ can_shift es l ms below above cs n c z a o few few' =
       few_below = omega (arith, low, few);
       few_above = omega (arith, up, few');
     }
-
-pub told_by : (es : List LeafEdge) (l : Level) (ms : List Mark) (below above : List (List ℕ)) (cs : List Change)
-    → AreChanges es l below above cs → length ms ≡ length below → IsTold ms above cs
-told_by es l ms below above cs c e = record {
-  groups = c.groups;
-  told = c.told;
-  lower = ap length c.below_is ∙ sym e;
-  upper = c.above_is;
-}

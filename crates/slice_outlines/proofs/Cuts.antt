@@ -1,5 +1,5 @@
 -- The groups and flat edges of a height on both sides of a cut.
-use Rattle.std.proofs.Common.{◌≡◌, ◌⊎◌, inl, inr, ℕ, zero, suc, ◌+◌, ◌-◌, ◌<◌, ◌≤◌, Bool, true, false, List, [], ◌∷◌, ◌++◌, length, get_or, take, drop, refl, sym, ap, ap₂, ◌∙◌, subst, arith, append_assoc, length-append}
+use Rattle.std.proofs.Common.{◌≡◌, ◌⊎◌, inl, inr, ℕ, zero, suc, ◌+◌, ◌<◌, ◌≤◌, Bool, true, false, List, [], ◌∷◌, ◌++◌, length, get_or, take, drop, refl, sym, ap, ◌∙◌, subst, arith, append_assoc, length-append}
 use lib.IntN.{ℤ, pos, ◌*ℤ◌}
 use lib.Signed.{◌<ℤ◌, ◌≤ℤ◌}
 use Rattle.std.specs.Prelude.{int_lt, if◌then◌else◌}
@@ -10,10 +10,8 @@ use Rattle.std.proofs.lemmas.Int.{ints}
 use Rattle.std.proofs.lemmas.Bool.{and_from}
 use Rattle.std.proofs.lemmas.List.{append-nil, drop-map, drop_at, get_or_default}
 use Rattle.scad_base.proofs.Products.{positive_product}
-use Rattle.scad_geom.specs.declared.point.Edge.{Edge}
 use Rattle.scad_geom.specs.declared.level.Level.{Level}
 use Rattle.scad_geom.specs.declared.level.LeafEdge.{LeafEdge}
-use Rattle.scad_geom.specs.declared.shape.Shape.{Shape}
 use Rattle.scad_geom.specs.Line.{rise}
 use Rattle.scad_geom.specs.Sign.{is_zero}
 use Rattle.scad_geom.specs.Point.{Point}
@@ -22,21 +20,20 @@ use Rattle.winding_laws.proofs.Sameness.{cancel_mul}
 use Rattle.slice_slab.specs.Bundles.{no_edge, edge_at}
 use Rattle.slice_snap.specs.declared.piece.Spot.{Spot}
 use Rattle.slice_snap.specs.Spots.{point_of}
-use Rattle.slice_bool.specs.Pieces.{spot_on, whole_spot, is_flat_at, passes_at, IsLeft}
+use Rattle.slice_bool.specs.Pieces.{spot_on, whole_spot, is_flat_at, IsLeft}
 use Rattle.slice_bool.specs.Beside.{left_value, passing, lies_left, is_right_of}
 use Rattle.slice_bool.proofs.Winding.{IsSpotAt}
-use Rattle.slice_sweep.specs.Changes.{Group, all_below, all_above, all_at}
+use Rattle.slice_sweep.specs.Changes.{Group, all_below, all_above}
 use Rattle.slice_sweep.specs.Front.{bundles_in}
 use Rattle.sweep_laws.specs.Fronts.{Strand, bundles_of}
-use Rattle.sweep_laws.specs.Crossing.{Place}
 use Rattle.sweep_laws.specs.Staying.{spot_of}
 use Rattle.sweep_laws.specs.Balance.{StaysAside}
 use Rattle.sweep_laws.proofs.LevelPieces.{pass_strands, stop_places}
 use Rattle.slice_outlines.specs.declared.mark.Mark.{Mark}
 use Rattle.slice_outlines.specs.declared.flat.Flat.{Flat}
 use Rattle.slice_outlines.specs.declared.height.Height.{Height}
-use Rattle.slice_outlines.specs.Marks.{spot_at, IsNamed, AreKept}
-use Rattle.slice_outlines.specs.Flats.{IsFlatOf, LiesOn}
+use Rattle.slice_outlines.specs.Marks.{spot_at, AreKept}
+use Rattle.slice_outlines.specs.Flats.{IsFlatOf}
 use Rattle.slice_outlines.specs.Heights.{Onwards, IsNotRightOf, IsBalancedBefore}
 use Rattle.slice_outlines.specs.Ahead.{between, AreBalancedFrom}
 use Rattle.slice_outlines.specs.Level.{HasNumber, AreFlatsOn, IsValuedAt}
@@ -47,7 +44,7 @@ use Rattle.slice_outlines.proofs.GroupsMet.{HeadPasses}
 use Rattle.slice_outlines.proofs.Balancing.{balanced_by, IsFirstRight, right_part}
 use Rattle.slice_outlines.proofs.Sought.{by_places, scaled_order}
 use Rattle.slice_outlines.proofs.WayCovers.{flat_rise, grouped, by_spot, past_spot}
-use Rattle.slice_outlines.proofs.Across.{IsClosed, left_not, weakly, by_chain, by_then_left, left_then_by, closed_by, closed_right}
+use Rattle.slice_outlines.proofs.Across.{IsClosed, left_not, weakly, by_then_left, closed_by, closed_right}
 use Rattle.slice_outlines.proofs.Apart.{IsPlaced, AreApart, at_group, in_group, all_under, all_over, of_bundles, below-append, above-append, bundle_spot}
 
 -- ---- a part of a height and all others

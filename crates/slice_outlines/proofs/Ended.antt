@@ -1,9 +1,9 @@
 -- A sweep that ends with the last level.
-use Rattle.std.proofs.Common.{◌≡◌, ◌⊎◌, inl, inr, ℕ, zero, suc, ◌+◌, ◌-◌, ◌*◌, ◌<◌, ◌≤◌, true, false, List, [], ◌∷◌, ◌++◌, length, take, drop, Option, None, refl, sym, ap, ◌∙◌, subst, arith}
+use Rattle.std.proofs.Common.{◌≡◌, inl, inr, ℕ, suc, ◌-◌, ◌*◌, ◌<◌, ◌≤◌, true, false, List, [], ◌∷◌, ◌++◌, length, take, drop, Option, None, refl, sym, ap, ◌∙◌, subst, arith}
 use lib.IntN.{ℤ, pos, negsuc, ◌*ℤ◌}
 use lib.Signed.{◌<ℤ◌, ◌≤ℤ◌}
 use Rattle.std.specs.Prelude.{unsigned_abs}
-use Rattle.std.specs.List.{AllByRecursion, All, concat}
+use Rattle.std.specs.List.{AllByRecursion}
 use Rattle.std.specs.List.Sorted.{IsPermutation}
 use Rattle.std.proofs.lemmas.Int.{ints}
 use Rattle.std.proofs.lemmas.List.{append-nil, drop_all, take_all, length-drop}
@@ -15,9 +15,9 @@ use Rattle.scad_geom.specs.declared.shape.Shape.{Shape}
 use Rattle.scad_geom.specs.Limits.{coordinate_limit}
 use Rattle.scad_geom.specs.Line.{rise, x_at}
 use Rattle.scad_geom.specs.Level.{level_of, IsLower, IsAtMost}
-use Rattle.scad_geom.specs.Heights.{heights, AreNeighbours}
+use Rattle.scad_geom.specs.Heights.{heights}
 use Rattle.scad_geom.proofs.Heights.{at_most_chain, lower_weak, same_at_most, heights_positive}
-use Rattle.scad_geom.proofs.Order.{front, back, all_ends}
+use Rattle.scad_geom.proofs.Order.{back, all_ends}
 use Rattle.slice_events.specs.Levels.{IsRising, HasHeight, AreLevels}
 use Rattle.slice_slab.specs.Bundles.{no_edge, edge_at, AreBundles}
 use Rattle.slice_slab.specs.KeptOrder.{IsNotRightAt, AllStand, AllStandInOrder}
@@ -29,10 +29,10 @@ use Rattle.slice_bool.specs.Pieces.{spot_on, whole_spot, passes_at, spots_at, Is
 use Rattle.slice_bool.proofs.Winding.{of_stops}
 use Rattle.slice_bool.proofs.Middle.{size_of}
 use Rattle.slice_sweep.specs.Front.{bundles_in}
-use Rattle.sweep_laws.specs.Ways.{Way, pieces_of}
+use Rattle.sweep_laws.specs.Ways.{pieces_of}
 use Rattle.sweep_laws.specs.Fronts.{Strand, bundles_of}
-use Rattle.sweep_laws.specs.Crossing.{Place, all_closed, IsCrossing}
-use Rattle.sweep_laws.specs.Crossing.{all_below as placed_below, all_above as placed_above}
+use Rattle.sweep_laws.specs.Crossing.{all_closed, IsCrossing}
+use Rattle.sweep_laws.specs.Crossing.{all_above as placed_above}
 use Rattle.sweep_laws.specs.Sweeps.{AreMergedEdges}
 use Rattle.sweep_laws.specs.Staying.{spot_of}
 use Rattle.sweep_laws.proofs.Spots.{spot_at as edge_spot}
@@ -47,9 +47,9 @@ use Rattle.slice_outlines.specs.declared.course.Course.{Course}
 use Rattle.slice_outlines.specs.declared.height.Height.{Height}
 use Rattle.slice_outlines.specs.declared.height.Open.{Open}
 use Rattle.slice_outlines.specs.declared.sweep.Sweep.{Sweep}
-use Rattle.slice_outlines.specs.Marks.{spot_at, AreKept}
+use Rattle.slice_outlines.specs.Marks.{AreKept}
 use Rattle.slice_outlines.specs.Stops.{spots_in, mark_spots, flat_spots, AllPass, AreStopsOf}
-use Rattle.slice_outlines.specs.Flats.{IsFlatOf, LiesOn, AreFlats}
+use Rattle.slice_outlines.specs.Flats.{IsFlatOf, LiesOn}
 use Rattle.slice_outlines.specs.Cursor.{StandsOn}
 use Rattle.slice_outlines.specs.Heights.{Onwards, IsOf, IsNotRightOf, AreInOrder}
 use Rattle.slice_outlines.specs.Along.{HasComeOver, LeadTo}

@@ -1,5 +1,5 @@
 -- The bundles of a group meet its height where it does.
-use Rattle.std.proofs.Common.{◌≡◌, ℕ, true, List, [], ◌∷◌, ◌++◌, refl, sym, ap, ap₂, ◌∙◌, subst, arith}
+use Rattle.std.proofs.Common.{◌≡◌, ℕ, true, List, [], ◌∷◌, sym, ap, ◌∙◌, subst}
 use lib.IntN.{ℤ, pos, ◌*ℤ◌}
 use lib.Signed.{◌<ℤ◌}
 use Rattle.std.specs.List.{AllByRecursion}
@@ -23,7 +23,6 @@ use Rattle.sweep_laws.proofs.Spots.{spot_at as edge_spot, same_place}
 use Rattle.sweep_laws.proofs.Edges.{same_spots_round_alike}
 use Rattle.slice_outlines.specs.declared.mark.Mark.{Mark}
 use Rattle.slice_outlines.specs.declared.height.Height.{Height}
-use Rattle.slice_outlines.specs.Marks.{IsNamed}
 use Rattle.slice_outlines.specs.Ahead.{first_spot, IsSameSpot}
 use Rattle.slice_outlines.proofs.EndPoints.{passes_then_rises}
 use Rattle.slice_outlines.proofs.Placing.{AreNamed, all_append}

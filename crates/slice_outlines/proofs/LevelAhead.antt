@@ -1,6 +1,6 @@
 -- What lies ahead of a place of a height, from the marks that are taken above it.
 use Rattle.std.proofs.Common.{◌≡◌, ℕ, suc, ◌+◌, ◌≤◌, List, [], ◌∷◌, ◌++◌, map, length, drop, refl, sym, ap, ◌∙◌, subst, arith}
-use Rattle.std.specs.List.{AllByRecursion, AllZip}
+use Rattle.std.specs.List.{AllByRecursion}
 use Rattle.std.proofs.lemmas.List.{drop-drop, drop_at, length-map, length-append}
 use Rattle.scad_geom.specs.declared.level.Level.{Level}
 use Rattle.scad_geom.specs.declared.level.LeafEdge.{LeafEdge}
@@ -18,7 +18,6 @@ use Rattle.slice_outlines.specs.Marks.{spot_at, IsNamed}
 use Rattle.slice_outlines.specs.Above.{new_mark, AreTaken}
 use Rattle.slice_outlines.specs.Above.AreTaken.{none as taken_none, stays as taken_stays, changes as taken_changes}
 use Rattle.slice_outlines.specs.declared.groups.Passed.{Passed}
-use Rattle.slice_outlines.specs.Runs.{first}
 use Rattle.slice_outlines.specs.Ahead.{first_spot, IsSameSpot, AreMarksAt, LieAhead, IsBehind, AreBetween}
 use Rattle.slice_outlines.specs.Ahead.LieAhead.{none as no_more, stays as one_stays, changes as one_changes}
 use Rattle.slice_outlines.proofs.Placing.{AreNamed, all_append}
@@ -181,13 +180,3 @@ between_by h ms cs p limit n m left right t z y a b from from' alike there there
       to_below = to;
       to_above = to';
     }
-
--- at the left end of a height
-pub first_between : (h : Height) (ms : List Mark) (cs : List Change) (limit : Run) (left right : List Group)
-    → AreTaken 0 cs (left ++ right) h.below.now ms → AreNamed h.below.now (all_below (left ++ right))
-    → AreNamed ms (all_above (left ++ right)) → AllByRecursion (IsMet h) left → AllByRecursion (IsMet h) right
-    → length (all_below left) ≡ limit.below → length (all_above left) ≡ limit.above
-    → AreBetween h ms cs (record { count = 0; last = first }) limit
-first_between h ms cs limit left right t z y a b to to' =
-    between_by h ms cs (record { count = 0; last = first }) limit 0 0 left right t z y a b (omega arith) (omega arith)
-    refl (omega arith) (omega arith) (omega (arith, to)) (omega (arith, to'))

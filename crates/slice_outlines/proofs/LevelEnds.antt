@@ -1,5 +1,5 @@
 -- A level from its left end to its right one.
-use Rattle.std.proofs.Common.{◌≡◌, ℕ, zero, suc, ◌+◌, ◌-◌, ◌*◌, ◌<◌, ◌≤◌, true, List, [], ◌∷◌, ◌++◌, length, get_or, take, drop, refl, sym, ap, ◌∙◌, subst, arith, length-append}
+use Rattle.std.proofs.Common.{◌≡◌, ℕ, zero, suc, ◌+◌, ◌-◌, ◌*◌, ◌<◌, ◌≤◌, true, List, [], ◌∷◌, length, get_or, take, drop, refl, sym, ap, ◌∙◌, subst, arith, length-append}
 use lib.IntN.{ℤ, pos, negsuc, ◌*ℤ◌}
 use lib.Signed.{◌<ℤ◌, ◌≤ℤ◌}
 use mir.Syntax.{w32}
@@ -8,7 +8,6 @@ use Rattle.std.specs.Prelude.{unsigned_abs}
 use Rattle.std.specs.List.{AllByRecursion}
 use Rattle.std.proofs.lemmas.Int.{ints}
 use Rattle.std.proofs.lemmas.List.{append-nil, drop_all, take_all, drop_more}
-use Rattle.scad_base.proofs.Products.{positive_product}
 use Rattle.scad_geom.specs.declared.level.Level.{Level}
 use Rattle.scad_geom.specs.declared.level.LeafEdge.{LeafEdge}
 use Rattle.scad_geom.specs.Limits.{coordinate_limit}
@@ -43,7 +42,7 @@ use Rattle.slice_outlines.proofs.WayCovers.{grouped, all_drop}
 use Rattle.slice_outlines.proofs.Fitting.{named_size}
 use Rattle.slice_outlines.proofs.Apart.{IsPlaced, at_group, below-append, above-append, below_in_order, above_in_order}
 use Rattle.slice_outlines.proofs.Cuts.{IsCutAt, whole_at}
-use Rattle.slice_outlines.proofs.Levelling.{IsReached, IsSoFar, IsToLimit, all_placed, all_apart, named_now}
+use Rattle.slice_outlines.proofs.Levelling.{IsSoFar, IsToLimit, all_placed, all_apart, named_now}
 use Rattle.slice_outlines.proofs.Stretching.{IsStretch, whole_left, joined_by}
 
 -- ---- to the left of all

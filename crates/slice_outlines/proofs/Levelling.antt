@@ -1,58 +1,39 @@
 -- How far the code has come along a level, between its stretches of flat edges.
-use Rattle.std.proofs.Common.{◌≡◌, ◌⊎◌, inl, inr, ℕ, zero, suc, ◌+◌, ◌-◌, ◌<◌, ◌≤◌, true, false, List, [], ◌∷◌, ◌++◌, length, get_or, take, drop, Option, None, Some, refl, sym, ap, ◌∙◌, subst, arith, append_assoc, length-append}
-use lib.IntN.{ℤ, pos, negsuc, ◌*ℤ◌}
-use lib.Signed.{◌<ℤ◌, ◌≤ℤ◌}
-use Rattle.std.specs.Prelude.{unsigned_abs, int_lt}
-use Rattle.std.specs.Int.{int_max}
-use Rattle.std.specs.List.{AllByRecursion, AllZip}
+use Rattle.std.proofs.Common.{◌≡◌, inl, inr, ℕ, ◌+◌, ◌≤◌, true, false, List, [], ◌∷◌, ◌++◌, length, get_or, take, drop, refl, sym, ap, ◌∙◌, subst, arith, append_assoc, length-append}
+use Rattle.std.specs.List.{AllByRecursion}
 use Rattle.std.proofs.lemmas.Int.{ints}
-use Rattle.std.proofs.lemmas.List.{append-nil, drop-drop, drop-map, drop_at, drop-take, take-append-drop, take-take, drop_more}
+use Rattle.std.proofs.lemmas.List.{append-nil, drop-drop, drop-map, drop_at, take-append-drop}
 use Rattle.std.proofs.lemmas.List.Elements.{recursion_from_All}
-use Rattle.scad_base.proofs.Products.{positive_product}
 use Rattle.scad_geom.specs.declared.level.Level.{Level}
 use Rattle.scad_geom.specs.declared.level.LeafEdge.{LeafEdge}
-use Rattle.scad_geom.specs.Limits.{coordinate_limit}
 use Rattle.scad_geom.proofs.Order.{front, back}
-use Rattle.slice_slab.specs.Bundles.{no_edge, edge_at}
+use Rattle.slice_slab.specs.Bundles.{edge_at}
 use Rattle.slice_snap.specs.declared.piece.Spot.{Spot}
-use Rattle.slice_snap.specs.Spots.{IsSpotWithin}
-use Rattle.slice_bool.specs.Pieces.{across, spot_on, whole_spot, passes_at, spots_at, IsLeft, IsSameAcross, GoRight, HasSpot, IsOneOf}
-use Rattle.slice_bool.proofs.Middle.{size_of}
+use Rattle.slice_bool.specs.Pieces.{whole_spot, passes_at, spots_at, IsLeft, GoRight, HasSpot, IsOneOf}
 use Rattle.slice_bool.proofs.Winding.{IsSpotAt, of_stops, spots_are_at}
 use Rattle.slice_sweep.specs.declared.change.Change.{Change}
-use Rattle.slice_sweep.specs.Changes.{Group, all_below, all_above, all_at}
+use Rattle.slice_sweep.specs.Changes.{Group, all_below, all_above}
 use Rattle.slice_sweep.specs.Front.{bundles_in}
 use Rattle.sweep_laws.specs.Fronts.{Strand, bundles_of}
-use Rattle.slice_outlines.specs.declared.course.Course.{Course}
 use Rattle.slice_outlines.specs.declared.mark.Mark.{Mark}
 use Rattle.slice_outlines.specs.declared.flat.Flat.{Flat}
 use Rattle.slice_outlines.specs.declared.run.Run.{Run}
-use Rattle.slice_outlines.specs.declared.spot.Stop.{Stop}
 use Rattle.slice_outlines.specs.declared.height.Height.{Height}
 use Rattle.slice_outlines.specs.declared.height.Open.{Open}
 use Rattle.slice_outlines.specs.declared.groups.Passed.{Passed}
 use Rattle.slice_outlines.specs.Above.{AreTaken}
-use Rattle.slice_outlines.specs.Marks.{spot_at, names_in, IsNamed, AreKept}
-use Rattle.slice_outlines.specs.Cursor.{StandsOn, StaysOn}
-use Rattle.slice_outlines.specs.Flats.{IsFlatOf, LiesOn, AreJoined, JoinOn, StartsBehind}
-use Rattle.slice_outlines.specs.Stops.{spots_in, AllPass, AreStopsOf}
-use Rattle.slice_outlines.specs.Heights.{Onwards, IsOf, IsNotRightOf, IsRunOf, IsBalancedBefore, IsCountOf, AreInOrder}
-use Rattle.slice_outlines.specs.Along.{HasComeOver, LieBetween}
-use Rattle.slice_outlines.specs.Stretch.{AreStopsAt, TellWays, stretch_spots, HasReachedStops}
-use Rattle.slice_outlines.specs.Ahead.{first_spot, group_spots, between, AreBetween, AreStrandsAhead, AreBalancedFrom, HasComeTo, HasPassed, AreSkipped, KeepsRight}
-use Rattle.slice_outlines.specs.Level.{GoByLeft, AreFlatsOn, IsAtLevel, IsValuedAt, AreSpotsOf}
-use Rattle.slice_outlines.proofs.EndPoints.{passing_within, passes_there}
+use Rattle.slice_outlines.specs.Marks.{names_in, IsNamed, AreKept}
+use Rattle.slice_outlines.specs.Cursor.{StaysOn}
+use Rattle.slice_outlines.specs.Heights.{Onwards, IsOf, IsNotRightOf, IsBalancedBefore, IsCountOf}
+use Rattle.slice_outlines.specs.Ahead.{group_spots, between, AreBetween, AreStrandsAhead, HasComeTo, HasPassed}
+use Rattle.slice_outlines.specs.Level.{AreFlatsOn, IsAtLevel, IsValuedAt, AreSpotsOf}
 use Rattle.slice_outlines.proofs.Placing.{AreNamed, all_append}
 use Rattle.slice_outlines.proofs.LevelAhead.{ahead_by, between_by, IsAhead}
-use Rattle.slice_outlines.proofs.GroupsMet.{HeadPasses, heads_pass}
-use Rattle.slice_outlines.proofs.Passage.{part_reached, group_past, size_named}
-use Rattle.slice_outlines.proofs.Sought.{scaled_order}
-use Rattle.slice_outlines.proofs.Stretched.{same_stretch}
+use Rattle.slice_outlines.proofs.GroupsMet.{heads_pass}
 use Rattle.slice_outlines.proofs.Fitting.{named_past, named_size}
-use Rattle.slice_outlines.proofs.Across.{left_or_not, left_not, not_left, weakly, left_chain, by_chain, by_then_left, left_then_by, closed_left, closed_right, closed_by, closed_from}
+use Rattle.slice_outlines.proofs.Across.{weakly, by_chain, by_then_left, left_then_by}
 use Rattle.slice_outlines.proofs.Apart.{IsPlaced, AreApart, at_group, groups_placed, groups_apart, are_met, below-append, above-append, groups_go_right, groups_sound}
-use Rattle.slice_outlines.proofs.Cuts.{AreCut, AreSplit, split_behind, IsCutAt, whole_at, cut_next, balanced_at, balanced_on}
-use Rattle.slice_outlines.proofs.StretchWays.{IsWithin, AreFlatsWithin, all_inside, all_sound, ends_among, tell_ways}
+use Rattle.slice_outlines.proofs.Cuts.{IsCutAt, cut_next, balanced_at, balanced_on}
 
 -- ---- spots one after another
 itself : (s : Spot) → IsNotRightOf s s

@@ -4,7 +4,7 @@ use Rattle.std.specs.Prelude.{nat_lt, nat_le, ◌&&◌, if◌then◌else◌}
 use Rattle.std.specs.List.{AllByRecursion, AllZip, All}
 use Rattle.std.proofs.lemmas.List.Elements.{All-from_recursion, recursion_from_All}
 use Rattle.std.proofs.lemmas.Bool.{cases_lt}
-use Rattle.std.proofs.lemmas.List.{get_or-take, append-nil, map-append, drop-drop, drop-map, drop_more, take_at, drop_at, length-map, length-append, length-drop}
+use Rattle.std.proofs.lemmas.List.{get_or-take, append-nil, drop-drop, drop-map, drop_more, take_at, drop_at, length-map, length-append, length-drop}
 use Rattle.scad_geom.specs.declared.point.Edge.{Edge}
 use Rattle.scad_geom.specs.declared.level.Level.{Level}
 use Rattle.scad_geom.specs.declared.level.LeafEdge.{LeafEdge}
@@ -30,8 +30,8 @@ use Rattle.slice_outlines.specs.Cursor.{StandsOn, StaysOn}
 use Rattle.winding_laws.specs.Edges.{rounded}
 use Rattle.slice_snap.specs.Spots.{point_of}
 use Rattle.slice_outlines.specs.Marks.{mark_at, no_mark, spot_at, names_in, left_of_first, IsNamed, IsKept, AreKept}
-use Rattle.slice_outlines.specs.Heights.{Onwards, IsRunOf, IsBalancedBefore, KeepsMarks, AreValuedIn, AreValuedTo, MeetAt, MeetAcross, IsGroupAt, IsCountOf, IsOf, marks_of}
-use Rattle.slice_outlines.specs.Along.{value_over, LeadTo, BeginAt, ArePlacesFrom, HasComeOver}
+use Rattle.slice_outlines.specs.Heights.{Onwards, IsRunOf, IsBalancedBefore, AreValuedIn, AreValuedTo, MeetAt, MeetAcross, IsGroupAt, IsCountOf, IsOf, marks_of}
+use Rattle.slice_outlines.specs.Along.{value_over, LeadTo, HasComeOver}
 use Rattle.slice_outlines.specs.Reached.{HasReached}
 use Rattle.slice_outlines.specs.Stretch.{HasReachedStops}
 use Rattle.slice_outlines.specs.Ahead.{IsSameSpot, AreMarksAt, LieAhead, IsBehind, AreBetween, between, HasComeTo, AreBalancedFrom, AreStrandsAhead, KeepsRight, HasPassed, AreSkipped, first_spot, group_spots}
@@ -41,7 +41,7 @@ use Rattle.slice_outlines.proofs.Onward.{kept_drop}
 use Rattle.slice_outlines.proofs.Grouping.{value_end, to_names, of_names}
 use Rattle.slice_outlines.proofs.Taking.{no_change}
 use Rattle.slice_outlines.proofs.Shifting.{none_next}
-use Rattle.slice_outlines.proofs.Steady.{Stays, stay_passed}
+use Rattle.slice_outlines.proofs.Steady.{stay_passed}
 
 -- ---- lists
 tail_of : {X : Type 0} (xs : List X) (n : ℕ) (x : X) (ys : List X) → drop n xs ≡ x ∷ ys → drop (n + 1) xs ≡ ys

@@ -204,8 +204,7 @@ shifted_by gs cs done at p next =
     let t : Tell done.above_to (c ∷ later) p.right = subst (λ (ds : List Change). Tell done.above_to ds p.right) e p.told
     in
     let from : done.above_to ≤ c.from = tell_from done.above_to c later p.right t in
-    let h : at < (after done c).below_to = next c later e in
-    (
+    let h : at < (after done c).below_to = next c later e in (
       not_within done.above_to c later p.right t a p.fits.0 p.fits.1 p.fits.2 p.fits.3 (omega (arith, h, from, p.by)),
       omega (arith, h, from, p.by),
     )) in

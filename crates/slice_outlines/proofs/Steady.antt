@@ -1,7 +1,7 @@
 -- A strand that stays, between places where something passes.
-use Rattle.std.proofs.Common.{◌≡◌, ℕ, ◌+◌, ◌-◌, ◌<◌, ◌≤◌, Bool, true, false, List, [], ◌∷◌, ◌++◌, map, length, take, drop, Option, None, Some, refl, sym, ap, ap₂, ◌∙◌, subst, arith, append_assoc, true≢false}
+use Rattle.std.proofs.Common.{◌≡◌, ℕ, ◌+◌, ◌<◌, Bool, true, false, List, [], ◌∷◌, ◌++◌, length, take, drop, Option, None, Some, refl, sym, ap, ap₂, ◌∙◌, subst, arith, append_assoc, true≢false}
 use Rattle.std.specs.Prelude.{nat_lt, if◌then◌else◌}
-use Rattle.std.specs.List.{AllByRecursion, AllZip, position}
+use Rattle.std.specs.List.{AllZip, position}
 use Rattle.std.specs.List.Sorted.{IsPermutation}
 use Rattle.std.proofs.lemmas.List.{append-nil, map-append, take_more, take-append-drop, drop-take, take-take}
 use Rattle.scad_geom.specs.declared.point.Edge.{Edge}
@@ -13,12 +13,11 @@ use Rattle.slice_snap.specs.Rounding.{rounded_edges}
 use Rattle.slice_sweep.specs.Front.{bundles_in}
 use Rattle.slice_bool.specs.Pieces.{spot_on, covers}
 use Rattle.sweep_laws.specs.Ways.{Way, way_between, pieces_of}
-use Rattle.sweep_laws.specs.Visits.{Pass, IsOneCourse}
+use Rattle.sweep_laws.specs.Visits.{Pass}
 use Rattle.sweep_laws.specs.Visits.Pass.{goes_on, all_end}
-use Rattle.sweep_laws.specs.Fronts.{Strand, bundles_of, value_before, way_up, way_from, ways_up, ways_from}
-use Rattle.sweep_laws.specs.Crossing.{Place, spots_of, all_below, all_above, all_closed, way_along, flat_way, ins_to, outs_from, opens_after, ArePassed, MeetsAt}
+use Rattle.sweep_laws.specs.Fronts.{Strand, bundles_of, value_before, way_up, way_from}
+use Rattle.sweep_laws.specs.Crossing.{Place, all_below, all_above, all_closed, way_along, flat_way, ins_to, outs_from, opens_after, ArePassed, MeetsAt}
 use Rattle.sweep_laws.specs.Staying.{spot_of, staying}
-use Rattle.slice_outlines.specs.declared.course.Course.{Course}
 use Rattle.slice_outlines.specs.declared.mark.Mark.{Mark}
 use Rattle.slice_outlines.specs.declared.run.Run.{Run}
 use Rattle.slice_outlines.specs.declared.cursor.Cursor.{Cursor}
@@ -26,7 +25,7 @@ use Rattle.slice_outlines.specs.declared.height.Height.{Height}
 use Rattle.slice_outlines.specs.Marks.{mark_at, no_mark, left_of_first, IsNamed, IsKept, AreKept}
 use Rattle.slice_outlines.specs.Passing.{IsCourseOf}
 use Rattle.slice_outlines.specs.Heights.{Onwards}
-use Rattle.slice_outlines.specs.Along.{value_over, ArePlacesFrom, AreAtPlace, HasComeOver}
+use Rattle.slice_outlines.specs.Along.{value_over, AreAtPlace, HasComeOver}
 use Rattle.slice_outlines.proofs.Placing.{all_append}
 
 -- ---- between places with one value on both sides nothing leads along the height

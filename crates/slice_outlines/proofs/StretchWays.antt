@@ -1,8 +1,8 @@
 -- A stretch of flat edges: its stops tell its ways, and lie from its left end to its right one.
-use Rattle.std.proofs.Common.{◌≡◌, ◌⊎◌, inl, inr, ℕ, zero, suc, ◌+◌, ◌-◌, ◌<◌, ◌≤◌, Bool, true, List, [], ◌∷◌, ◌++◌, length, get_or, take, drop, refl, sym, ap, ◌∙◌, subst, arith}
-use lib.IntN.{ℤ, pos, ◌*ℤ◌}
-use lib.Signed.{◌<ℤ◌, ◌≤ℤ◌}
-use Rattle.std.specs.List.{AllByRecursion, All}
+use Rattle.std.proofs.Common.{◌≡◌, ◌⊎◌, inl, inr, ℕ, zero, suc, ◌+◌, ◌-◌, ◌<◌, ◌≤◌, true, List, [], ◌∷◌, ◌++◌, length, get_or, take, drop, refl, sym, ap, ◌∙◌, subst, arith}
+use lib.IntN.{ℤ, pos}
+use lib.Signed.{◌<ℤ◌}
+use Rattle.std.specs.List.{AllByRecursion}
 use Rattle.std.proofs.lemmas.Int.{ints}
 use Rattle.std.proofs.lemmas.Bool.{and_parts}
 use Rattle.std.proofs.lemmas.List.{drop-take}
@@ -13,7 +13,7 @@ use Rattle.scad_geom.specs.declared.level.LeafEdge.{LeafEdge}
 use Rattle.scad_geom.proofs.Order.{front, back}
 use Rattle.slice_slab.specs.Bundles.{no_edge, edge_at}
 use Rattle.slice_snap.specs.declared.piece.Spot.{Spot}
-use Rattle.slice_bool.specs.Pieces.{across, spot_on, whole_spot, is_flat_at, edge_spots, passes_at, spots_at, covers, IsLeft, IsSameAcross, GoRight, HasSpot, IsOneOf}
+use Rattle.slice_bool.specs.Pieces.{whole_spot, is_flat_at, edge_spots, passes_at, spots_at, covers, IsLeft, GoRight, HasSpot, IsOneOf}
 use Rattle.slice_bool.proofs.Winding.{IsSpotAt, of_stops}
 use Rattle.sweep_laws.proofs.Stops.{spots_are_there}
 use Rattle.sweep_laws.proofs.Spots.{spot_at as edge_spot}
@@ -33,7 +33,7 @@ use Rattle.slice_outlines.proofs.EndPoints.{passes_then_rises, passes_there}
 use Rattle.slice_outlines.proofs.Placing.{all_append}
 use Rattle.slice_outlines.proofs.WayCovers.GoOn.{none, more}
 use Rattle.slice_outlines.proofs.WayCovers.{GoOn, MayLead, lies_flat, covers_by, way_told}
-use Rattle.slice_outlines.proofs.Across.{not_left, left_not, weakly, left_chain, by_then_left, left_then_by, by_chain, same_then_left, closed_by, closed_from, closed_left, closed_right}
+use Rattle.slice_outlines.proofs.Across.{not_left, left_not, weakly, left_chain, by_then_left, by_chain, same_then_left, closed_by, closed_from}
 use Rattle.slice_outlines.proofs.Cuts.{whole_at, number_split, found}
 
 -- ---- between two ends

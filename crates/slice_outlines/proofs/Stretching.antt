@@ -1,15 +1,15 @@
 -- A stretch of flat edges of a level: the groups before it, and what is passed with it.
-use Rattle.std.proofs.Common.{◌≡◌, ◌⊎◌, inl, inr, ℕ, zero, suc, ◌+◌, ◌-◌, ◌<◌, ◌≤◌, Bool, true, false, cond, List, [], ◌∷◌, ◌++◌, length, take, drop, Option, None, Some, refl, sym, ap, ◌∙◌, subst, arith, append_assoc, length-append}
+use Rattle.std.proofs.Common.{◌≡◌, ◌⊎◌, inl, inr, ℕ, zero, suc, ◌+◌, ◌-◌, ◌<◌, ◌≤◌, Bool, true, false, cond, List, [], ◌∷◌, ◌++◌, length, take, drop, Option, None, Some, refl, sym, ap, ◌∙◌, subst, arith, append_assoc}
 use lib.IntN.{ℤ, pos, ◌+ℤ◌, ◌*ℤ◌}
 use lib.Signed.{◌<ℤ◌, ◌≤ℤ◌}
 use Rattle.std.specs.Prelude.{int_lt}
 use Rattle.std.specs.Int.{int_max}
 use Rattle.std.specs.List.{AllByRecursion, AllZip}
 use Rattle.std.proofs.lemmas.Int.{ints}
-use Rattle.std.proofs.lemmas.List.{append-nil, drop-drop, drop-take, take-append-drop, take-take, drop_all}
+use Rattle.std.proofs.lemmas.List.{drop-drop, drop-take, take-append-drop, take-take}
 use Rattle.scad_geom.specs.declared.level.Level.{Level}
 use Rattle.scad_geom.specs.declared.level.LeafEdge.{LeafEdge}
-use Rattle.scad_geom.proofs.Order.{front, back}
+use Rattle.scad_geom.proofs.Order.{front}
 use Rattle.scad_geom.proofs.Ring.{ring, num, ◌⊗◌, ◌⊕◌, v0, v1}
 use Rattle.slice_snap.specs.declared.piece.Spot.{Spot}
 use Rattle.slice_bool.specs.Pieces.{whole_spot, passes_at, spots_at, IsLeft, IsOneOf}
@@ -41,19 +41,18 @@ use Rattle.slice_outlines.specs.Heights.{Onwards, IsOf, IsNotRightOf, IsRunOf, I
 use Rattle.slice_outlines.specs.Along.{HasComeOver, LieBetween}
 use Rattle.slice_outlines.specs.Stretch.{AreStopsAt, TellWays, stretch_spots, HasReachedStops}
 use Rattle.slice_outlines.specs.Ahead.{between, HasComeTo, AreSkipped, KeepsRight}
-use Rattle.slice_outlines.specs.Level.{GoByLeft, AreFlatsOn, IsAtLevel, IsValuedAt, AreSpotsOf}
+use Rattle.slice_outlines.specs.Level.{GoByLeft, AreFlatsOn, IsAtLevel, IsValuedAt}
 use Rattle.slice_outlines.proofs.Placing.{AreNamed, all_append}
 use Rattle.slice_outlines.proofs.Passage.{part_reached, group_past}
 use Rattle.slice_outlines.proofs.Onward.{take_then}
 use Rattle.slice_outlines.proofs.Sought.{scaled_order}
 use Rattle.slice_outlines.proofs.Stretched.{same_stretch}
 use Rattle.slice_outlines.proofs.WayCovers.{all_take, all_drop}
-use Rattle.slice_outlines.proofs.Fitting.{named_size}
-use Rattle.slice_outlines.proofs.Across.{left_chain, left_or_not, left_not, not_left, weakly, by_chain, by_then_left, left_then_by, closed_left, closed_right, closed_by, closed_from}
-use Rattle.slice_outlines.proofs.Apart.{IsPlaced, AreApart, at_group, below-append, above-append}
-use Rattle.slice_outlines.proofs.Cuts.{AreCut, AreSplit, split_behind, IsCutAt, whole_at}
+use Rattle.slice_outlines.proofs.Across.{left_chain, left_or_not, left_not, not_left, weakly, by_then_left, left_then_by, closed_left, closed_right, closed_by, closed_from}
+use Rattle.slice_outlines.proofs.Apart.{IsPlaced, at_group}
+use Rattle.slice_outlines.proofs.Cuts.{AreCut, split_behind, IsCutAt, whole_at}
 use Rattle.slice_outlines.proofs.StretchWays.{IsWithin, AreFlatsWithin, all_inside, all_sound, ends_among, tell_ways}
-use Rattle.slice_outlines.proofs.Levelling.{go_join, up_to_cut, all_by, all_left_of, HasEnds, ends_front, ends_back, IsReached, IsSoFar, IsToLimit, beside_as, all_placed, flats_parted, named_as, placed_left, placed_right, apart_right, named_now, between_at, rest_is, below_is, above_is, taken_on, whole_is, met_xs, met_ys, placed_both}
+use Rattle.slice_outlines.proofs.Levelling.{go_join, up_to_cut, all_by, all_left_of, HasEnds, ends_front, ends_back, IsReached, IsSoFar, IsToLimit, beside_as, flats_parted, named_as, placed_left, placed_right, apart_right, named_now, between_at, rest_is, below_is, above_is, taken_on, whole_is, met_xs, met_ys}
 
 -- ---- flat edges of a stretch
 go_drop : (n : ℕ) (fs : List Flat) → GoByLeft fs → GoByLeft (drop n fs)
@@ -393,9 +392,11 @@ module _ (h : Height) (cs : List Change) (fs : List Flat) (old : Open)
           groups = s.groups;
           below = ap (λ (k : ℕ). length (all_below f.left) + k) s.below ∙ r.3;
           above = ap (λ (k : ℕ). length (all_above f.left) + k) s.above ∙ r.4;
-        } in
-        (t, all_ahead s.xs (front (IsPlaced h) s.xs s.ys
-        (subst (AllByRecursion (IsPlaced h)) s.groups (placed_right h cs fs old w from p now f))) s.are)
+        } in (
+          t,
+          all_ahead s.xs (front (IsPlaced h) s.xs s.ys
+              (subst (AllByRecursion (IsPlaced h)) s.groups (placed_right h cs fs old w from p now f))) s.are,
+        )
 
   -- ---- with it
   module _ (p : Passed) (mid : Open) (f : IsSoFar h cs fs old w from p mid)

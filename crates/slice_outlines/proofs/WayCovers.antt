@@ -1,9 +1,9 @@
 -- The flat edges that begin by a stop and go on from it are those that cover the way to the next.
-use Rattle.std.proofs.Common.{◌≡◌, ℕ, zero, suc, ◌+◌, ◌<◌, ◌≤◌, Bool, true, false, true≢false, cond, ◌&&◌, ◌||◌, List, [], ◌∷◌, ◌++◌, length, get_or, take, drop, refl, sym, ap, ap₂, ◌∙◌, subst, inl, inr, arith}
+use Rattle.std.proofs.Common.{◌≡◌, ℕ, zero, suc, ◌<◌, Bool, true, false, true≢false, cond, ◌&&◌, ◌||◌, List, [], ◌∷◌, ◌++◌, length, get_or, take, drop, refl, sym, ap, ap₂, ◌∙◌, subst, inl, inr, arith}
 use lib.IntN.{ℤ, pos, ◌*ℤ◌, ◌-ℤ◌}
 use lib.Signed.{◌<ℤ◌, ◌≤ℤ◌}
 use Rattle.std.specs.Prelude.{◌⊎◌, filter, int_le, int_lt}
-use Rattle.std.specs.List.{AllByRecursion, All}
+use Rattle.std.specs.List.{AllByRecursion}
 use Rattle.std.specs.Ordering.{int_eq}
 use Rattle.std.specs.Cmp.{signed_Decides}
 use Rattle.std.proofs.lemmas.Int.{ints}
@@ -27,7 +27,7 @@ use Rattle.slice_outlines.specs.Flats.{IsFlatOf, LiesOn}
 use Rattle.slice_outlines.specs.Along.{BeginsBy, StartsAfter, goes_on}
 use Rattle.slice_outlines.specs.Stretch.{TellWay}
 use Rattle.slice_outlines.specs.Level.{HasNumber}
-use Rattle.slice_outlines.proofs.Covering.{ArePassing, least_passes}
+use Rattle.slice_outlines.proofs.Covering.{least_passes}
 use Rattle.slice_outlines.proofs.Sought.{left_true, scaled_order}
 use Rattle.slice_outlines.proofs.Waiting.{left_is}
 

@@ -1,7 +1,6 @@
 -- How far the code has come along a height.
 use Rattle.std.specs.Prelude.{true, false, ◌≡◌, ◌≤◌, ◌<◌, ◌-◌, List, [], ◌∷◌, ◌++◌, ℕ, length, take, drop}
 use Rattle.std.specs.List.{AllByRecursion}
-use Rattle.std.specs.List.Sorted.{IsPermutation}
 use Rattle.scad_geom.specs.declared.point.Pt.{Pt}
 use Rattle.scad_geom.specs.declared.point.Edge.{Edge}
 use Rattle.scad_geom.specs.declared.level.Level.{Level}
@@ -10,23 +9,18 @@ use Rattle.winding_laws.specs.Edges.{rounded}
 use Rattle.slice_slab.specs.Bundles.{edge_at}
 use Rattle.slice_snap.specs.declared.piece.Spot.{Spot}
 use Rattle.slice_snap.specs.Spots.{point_of}
-use Rattle.slice_snap.specs.Rounding.{rounded_edges}
 use Rattle.slice_sweep.specs.declared.change.Change.{Change}
 use Rattle.slice_sweep.specs.Front.{bundles_in}
 use Rattle.slice_bool.specs.Beside.{left_value}
-use Rattle.slice_bool.specs.Pieces.{across, spot_on, passes_at, GoRight, IsSameAcross}
+use Rattle.slice_bool.specs.Pieces.{across, spot_on, passes_at, IsSameAcross}
 use Rattle.scad_geom.specs.Level.{IsAtMost}
-use Rattle.sweep_laws.specs.Ways.{pieces_of}
-use Rattle.sweep_laws.specs.Fronts.{Strand, bundles_of, value_before}
-use Rattle.sweep_laws.specs.Crossing.{Place, spots_of, all_below, all_above, all_closed, ArePassed}
+use Rattle.sweep_laws.specs.Fronts.{Strand}
 use Rattle.slice_outlines.specs.declared.mark.Mark.{Mark}
 use Rattle.slice_outlines.specs.declared.run.Run.{Run}
 use Rattle.slice_outlines.specs.declared.height.Height.{Height}
-use Rattle.slice_outlines.specs.declared.height.Open.{Open}
 use Rattle.slice_outlines.specs.declared.groups.Passed.{Passed}
 use Rattle.slice_outlines.specs.Marks.{mark_at, left_of_first, spot_at, AreKept}
-use Rattle.slice_outlines.specs.Runs.{first, after, run_of}
-use Rattle.slice_outlines.specs.Cursor.{StandsOn}
+use Rattle.slice_outlines.specs.Runs.{first, run_of}
 
 -- the strands of a part are there
 pub record IsRunOf (lower upper : List Mark) (run : Run) : Type 0 where

@@ -1,14 +1,10 @@
 -- Group after group is passed, up to a part of the height.
-use Rattle.std.proofs.Common.{◌≡◌, ◌+◌, ◌≤◌, ◌<◌, ◌∷◌, ℕ, List, get_or, drop, length, true, refl, sym, ap, ◌∙◌, subst, arith}
-use Rattle.std.proofs.lemmas.List.{get_or_default, drop_more}
+use Rattle.std.proofs.Common.{◌≡◌, ◌+◌, ◌<◌, List, length, true, refl, ◌∙◌}
 use Rattle.slice_slab.specs.Bundles.{edge_at}
 use Rattle.slice_sweep.specs.declared.change.Change.{Change}
-use Rattle.slice_sweep.specs.Front.{bundles_in}
 use Rattle.slice_bool.specs.Pieces.{passes_at}
 use Rattle.slice_outlines.specs.declared.mark.Mark.{Mark}
 use Rattle.slice_outlines.specs.declared.run.Run.{Run}
-use Rattle.slice_outlines.specs.Runs.{after}
-use Rattle.slice_outlines.proofs.Taking.{no_change}
 use Rattle.slice_outlines.proofs.Counting.{next_fits, count_more}
 use Rattle.slice_outlines.proofs.Passage.{past_none, past_more, has_passed, all_past, group_there, all_named, size_named, left_by, not_left_by, next_at, end_at, end_past}
 use Rattle.slice_outlines.proofs.groups.pass_groups.Goals as goal

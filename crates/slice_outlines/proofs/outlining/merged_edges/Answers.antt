@@ -1,5 +1,5 @@
 -- The sweep is lifted from level to level, and ends with the last.
-use Rattle.std.proofs.Common.{◌+◌, length, drop, arith}
+use Rattle.std.proofs.Common.{◌+◌, length, drop}
 use Rattle.slice_outlines.proofs.LevelSteps.{some_by, no_levels, at_two, at_last, neighbours, climbed}
 use Rattle.slice_outlines.proofs.outlining.merged_edges.Goals as goal
 

@@ -1,5 +1,4 @@
 -- What holds of all outlines that meet the definition.
-use Rattle.std.proofs.Common.{List, sym, subst, All, IfOk}
 use Rattle.slice_bool.proofs.Membership.{outlines_hold_centres}
 use Rattle.slice_bool.proofs.NearBorder.{outlines_are_near_border}
 use Rattle.slice_outlines.proofs.outlining.outlines.Goals as goal

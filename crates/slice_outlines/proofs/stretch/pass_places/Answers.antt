@@ -1,5 +1,5 @@
 -- Its stops are found, then they are passed.
-use Rattle.std.proofs.Common.{◌≡◌, ◌++◌, [], List, sym, subst}
+use Rattle.std.proofs.Common.{◌++◌, [], List, sym, subst}
 use Rattle.std.specs.List.{AllByRecursion}
 use Rattle.slice_bool.specs.Pieces.{HasSpot}
 use Rattle.slice_outlines.specs.declared.mark.Mark.{Mark}

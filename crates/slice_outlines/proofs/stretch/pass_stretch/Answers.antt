@@ -1,19 +1,14 @@
 -- The values of its strands are found, then its places are passed.
-use Rattle.std.proofs.Common.{◌≡◌, ◌++◌, [], List, None, refl, sym, ◌∙◌, subst}
-use Rattle.std.specs.List.{AllByRecursion}
+use Rattle.std.proofs.Common.{◌≡◌, List, None, refl, sym, ◌∙◌, subst}
 use Rattle.scad_geom.specs.declared.point.Edge.{Edge}
 use Rattle.slice_snap.specs.declared.piece.Spot.{Spot}
 use Rattle.slice_sweep.specs.Front.{bundles_in}
-use Rattle.slice_bool.specs.Pieces.{HasSpot}
 use Rattle.slice_outlines.specs.declared.mark.Mark.{Mark}
 use Rattle.slice_outlines.specs.declared.flat.Flat.{Flat}
-use Rattle.slice_outlines.specs.declared.spot.Stop.{Stop}
 use Rattle.slice_outlines.specs.declared.height.Height.{Height}
-use Rattle.slice_outlines.specs.Marks.{spot_at}
 use Rattle.slice_outlines.specs.Stops.{spots_in, AreStopsOf}
 use Rattle.slice_outlines.specs.Cursor.{StandsOn}
-use Rattle.slice_outlines.specs.Heights.{AreValuedIn, marks_of}
-use Rattle.slice_outlines.specs.Along.{HasComeOver}
+use Rattle.slice_outlines.specs.Heights.{AreValuedIn}
 use Rattle.slice_outlines.specs.Stretch.{stretch_spots}
 use Rattle.slice_outlines.proofs.Grouping.{same_names}
 use Rattle.slice_outlines.proofs.Waiting.{order_by_names, pass_by_names}

@@ -1,5 +1,5 @@
 -- Stretch after stretch, with the groups between them.
-use Rattle.std.proofs.Common.{◌≡◌, List, length, refl, sym, ap, ◌∙◌, subst}
+use Rattle.std.proofs.Common.{List, length, refl, sym, ap, ◌∙◌, subst}
 use Rattle.slice_outlines.specs.declared.mark.Mark.{Mark}
 use Rattle.slice_outlines.specs.declared.run.Run.{Run}
 use Rattle.slice_outlines.specs.Stops.{AllPass}

@@ -1,5 +1,5 @@
 -- The front is lifted, and what is kept beside it passes the level.
-use Rattle.std.proofs.Common.{◌≡◌, ◌<◌, ◌≤◌, ◌-◌, ◌⊎◌, inl, inr, ℕ, List, [], length, take, drop, refl, sym, ap, ◌∙◌, subst, arith}
+use Rattle.std.proofs.Common.{◌≡◌, ◌≤◌, ◌-◌, ℕ, List, [], length, take, drop, refl, sym, ap, ◌∙◌, subst}
 use Rattle.std.specs.List.{AllByRecursion, AllZip}
 use Rattle.scad_geom.specs.Level.{level_of, IsLower, IsAtMost}
 use Rattle.slice_outlines.specs.Marks.{IsNamed}
@@ -10,9 +10,8 @@ use Rattle.slice_sweep.specs.Changes.{AreChanges}
 use Rattle.slice_sweep.specs.Front.{bundles_in, IsBegunTo}
 use Rattle.slice_outlines.specs.declared.mark.Mark.{Mark}
 use Rattle.slice_outlines.specs.declared.flat.Flat.{Flat}
-use Rattle.slice_outlines.specs.declared.sweep.Sweep.{Sweep}
 use Rattle.slice_outlines.specs.Above.{AreTaken}
-use Rattle.slice_outlines.specs.Cursor.{StandsOn, IsApartAt}
+use Rattle.slice_outlines.specs.Cursor.{IsApartAt}
 use Rattle.slice_outlines.specs.Flats.{LiesOn, IsOff}
 use Rattle.slice_outlines.specs.Level.{AreFlatsOn}
 use Rattle.slice_outlines.proofs.Few.{bundles_few}

@@ -1,7 +1,5 @@
 -- The places of the last level are passed.
-use Rattle.std.proofs.Common.{◌≡◌, List, [], length, drop, refl, sym, ap, ◌∙◌, subst}
-use Rattle.slice_outlines.specs.declared.mark.Mark.{Mark}
-use Rattle.slice_outlines.specs.declared.flat.Flat.{Flat}
+use Rattle.std.proofs.Common.{[], refl, sym, ap, ◌∙◌}
 use Rattle.slice_outlines.specs.declared.height.Height.{Height}
 use Rattle.slice_outlines.proofs.Climbing.{swept_members}
 use Rattle.slice_outlines.proofs.Ended.{all_from, marks_all_pass, below_order, all_merged}
