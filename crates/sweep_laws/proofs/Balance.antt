@@ -261,7 +261,7 @@ headings_beside es balanced m dm below above b a s e r h leaf =
     ∙ leaf_alike (point_of s) (divides m s dm e r) es balanced h leaf
     ∙ a s e r leaf
 
-all_aside : (p : Point) (es : List LeafEdge) → AllByRecursion (StaysAside p) es → AllByRecursion (IsAside true p) es
+pub all_aside : (p : Point) (es : List LeafEdge) → AllByRecursion (StaysAside p) es → AllByRecursion (IsAside true p) es
 all_aside p [] h = tt
 all_aside p (e ∷ es) h = (both_ahead p e h.0, all_aside p es h.1)
 

@@ -1,0 +1,176 @@
+-- Where an edge passes a height is within the limit, and at an end of the edge it rounds to that end.
+use Rattle.std.proofs.Common.{◌≡◌, ℕ, ◌+◌, ◌*◌, ◌<◌, ◌≤◌, Bool, true, List, [], ◌∷◌, length, inl, inr, refl, sym, ap, ap₂, ◌∙◌, arith, subst}
+use lib.IntN.{ℤ, pos, ◌+ℤ◌, ◌-ℤ◌, ◌*ℤ◌}
+use lib.Signed.{◌<ℤ◌, ◌≤ℤ◌}
+use Rattle.std.specs.Prelude.{unsigned_abs}
+use Rattle.std.specs.Ordering.{int_eq}
+use Rattle.std.specs.Cmp.{signed_Decides}
+use Rattle.std.proofs.lemmas.Int.{ints, unsigned_abs-mul}
+use Rattle.std.proofs.lemmas.Nat.{mul-le}
+use Rattle.std.proofs.lemmas.Bool.{and_from, cases_lt}
+use Rattle.std.proofs.lemmas.List.{get_or_past}
+use Rattle.scad_base.proofs.Integers.{gap_of_at_most}
+use Rattle.scad_geom.specs.declared.point.Pt.{Pt}
+use Rattle.scad_geom.specs.declared.point.Edge.{Edge}
+use Rattle.scad_geom.specs.declared.level.Level.{Level}
+use Rattle.scad_geom.specs.declared.level.LeafEdge.{LeafEdge}
+use Rattle.scad_geom.specs.Point.{Point, whole, is_same_point}
+use Rattle.scad_geom.specs.Within.{IsEdgeWithin}
+use Rattle.scad_geom.specs.Level.{IsLevelWithin}
+use Rattle.scad_geom.specs.Line.{low, high, rise, run, offset, x_at}
+use Rattle.scad_geom.specs.Rounding.{half_down, IsNearest}
+use Rattle.scad_geom.proofs.Balanced.{same_whole, same_place-is}
+use Rattle.scad_geom.proofs.Bounds.{low_within, high_within}
+use Rattle.scad_geom.proofs.Nearest.{IsNearest-half_down}
+use Rattle.scad_geom.proofs.Ring.{ring, num, ◌⊕◌, ◌⊖◌, ◌⊗◌, v0, v1, v2, v3, v4}
+use Rattle.scad_base.proofs.Products.{positive_product}
+use Rattle.winding_laws.specs.Edges.{rounded}
+use Rattle.winding_laws.proofs.Rounding.{rounded_same}
+use Rattle.slice_slab.specs.Bundles.{no_edge, edge_at, reaches}
+use Rattle.slice_slab.proofs.Live.{reaches_is}
+use Rattle.slice_snap.specs.Spots.{point_of, IsSpotWithin}
+use Rattle.slice_snap.proofs.SameSpots.{to_eq}
+use Rattle.slice_bool.specs.Pieces.{spot_on, passes_at}
+use Rattle.slice_bool.proofs.Middle.{size_of}
+use Rattle.slice_bool.proofs.Within.{by_weights, weights_add, size_above}
+
+-- ---- within the limit
+pub weighed : (limit : ℕ) (x w : ℤ) → unsigned_abs x ≤ limit → unsigned_abs (x *ℤ w) ≤ limit * unsigned_abs w
+weighed limit x w h = rw (unsigned_abs-mul x w) (mul-le (unsigned_abs x) (unsigned_abs w) limit (unsigned_abs w) h
+    (omega arith))
+
+abs_sum : (x y : ℤ) → unsigned_abs (x +ℤ y) ≤ unsigned_abs x + unsigned_abs y
+abs_sum x y = omega (arith, ints)
+
+sum_abs : (v w : ℤ) → pos 0 ≤ℤ v → pos 0 ≤ℤ w
+    → unsigned_abs (v +ℤ w) ≡ unsigned_abs v + unsigned_abs w
+sum_abs v w p q = omega (arith, ints)
+
+both_weighed : (limit : ℕ) (x g v w : ℤ) → unsigned_abs x ≤ limit → unsigned_abs g ≤ limit
+    → pos 0 ≤ℤ v → pos 0 ≤ℤ w → unsigned_abs (x *ℤ v +ℤ g *ℤ w) ≤ limit * unsigned_abs (v +ℤ w)
+both_weighed limit x g v w hx hg pv pw =
+    let s = abs_sum (x *ℤ v) (g *ℤ w) in
+    let p = weighed limit x v hx in
+    let q = weighed limit g w hg in
+    rw (sum_abs v w pv pw) (omega (arith, s, p, q))
+
+x_within : (limit : ℕ) (e : Edge) (l : Level) → IsEdgeWithin limit e → ((low e).y *ℤ l.d) ≤ℤ l.n
+    → l.n ≤ℤ ((high e).y *ℤ l.d)
+    → unsigned_abs (x_at e l.n l.d) ≤ limit * (unsigned_abs (rise e) * unsigned_abs l.d)
+unfolding x_at run offset rise
+x_within limit e l w h k =
+    let p = low e in
+    let q = high e in
+    rw (
+      ← (unsigned_abs-mul (q.y -ℤ p.y) l.d),
+      ← (weights_add p.y q.y l.n l.d),
+      by_weights p.x p.y q.x q.y l.n l.d,
+    )
+    (both_weighed limit p.x q.x (q.y *ℤ l.d -ℤ l.n) (l.n -ℤ p.y *ℤ l.d) (low_within limit e w).x
+    (high_within limit e w).x
+    (gap_of_at_most l.n (q.y *ℤ l.d) k) (gap_of_at_most (p.y *ℤ l.d) l.n h))
+
+rise_within : (limit : ℕ) (e : Edge) → IsEdgeWithin limit e → unsigned_abs (rise e) ≤ 2 * limit
+unfolding rise
+rise_within limit e w =
+    let h = (low_within limit e w).y in
+    let k = (high_within limit e w).y in
+    omega (arith, ints)
+
+pub passes_then_rises : (e : Edge) (l : Level) → passes_at e l ≡ true → pos 0 <ℤ rise e
+unfolding reaches
+passes_then_rises e l h = (reaches_is e l l h).rises
+
+no_rise : pos 0 <ℤ rise (record { a = record { x = pos 0; y = pos 0 }; b = record { x = pos 0; y = pos 0 } }) → ⊥
+unfolding rise low high
+no_rise h = omega (arith, ints)
+
+pub passes_there : (es : List LeafEdge) (k : ℕ) (l : Level) → passes_at (edge_at es k) l ≡ true → k < length es
+passes_there es k l h = elim (cases_lt k (length es)) [
+  | inl a ↦ a
+  | inr b ↦ absurd (no_rise (subst (λ (e : LeafEdge). pos 0 <ℤ rise e.edge) (get_or_past es k no_edge b)
+      (passes_then_rises (edge_at es k) l h)))
+]
+
+pub passing_within : (limit : ℕ) (e : Edge) (l : Level) → IsEdgeWithin limit e → IsLevelWithin limit l
+    → passes_at e l ≡ true → IsSpotWithin limit (spot_on e l)
+unfolding reaches
+passing_within limit e l w v h =
+    let r = reaches_is e l l h in
+    let f = r.from in
+    let t = r.to in
+    record {
+      level = v;
+      positive = size_above (rise e) r.rises;
+      run = rise_within limit e w;
+      size = x_within limit e l w (omega (arith, ints)) (omega (arith, ints));
+    }
+
+-- ---- at an end
+pub lies_at : (p q : Pt) (l : Level) (t : Bool) → p ≡ q → t ≡ int_eq (p.y *ℤ l.d) l.n → t ≡ true
+    → q.y *ℤ l.d ≡ l.n
+lies_at p q l t e f g = ap (λ (p : Pt). p.y *ℤ l.d) (sym e) ∙ (signed_Decides (p.y *ℤ l.d) l.n).0 (sym f ∙ g)
+
+whole_half : (n : ℤ) → half_down n (pos 1) ≡ n
+whole_half n =
+    let h : IsNearest n (pos 1) (half_down n (pos 1)) = IsNearest-half_down n 1 (omega arith) in
+    let b = h.below in
+    let a = h.above in
+    omega (arith, ints)
+
+whole_rounds : (p : Pt) → rounded (whole p) ≡ p
+whole_rounds p = ap₂ (λ (x y : ℤ). record { x = x; y = y }) (whole_half p.x) (whole_half p.y)
+
+low_across : (a b g h d : ℤ) → (g -ℤ a) *ℤ (b *ℤ d) +ℤ ((h -ℤ b) *ℤ a -ℤ (g -ℤ a) *ℤ b) *ℤ d
+    ≡ a *ℤ (d *ℤ (h -ℤ b))
+low_across a b g h d = ring (a ∷ b ∷ g ∷ h ∷ d ∷ [])
+    ((v2 ⊖ v0) ⊗ (v1 ⊗ v4) ⊕ ((v3 ⊖ v1) ⊗ v0 ⊖ (v2 ⊖ v0) ⊗ v1) ⊗ v4)
+    (v0 ⊗ (v4 ⊗ (v3 ⊖ v1))) refl
+
+high_across : (a b g h d : ℤ) → (g -ℤ a) *ℤ (h *ℤ d) +ℤ ((h -ℤ b) *ℤ a -ℤ (g -ℤ a) *ℤ b) *ℤ d
+    ≡ g *ℤ (d *ℤ (h -ℤ b))
+high_across a b g h d = ring (a ∷ b ∷ g ∷ h ∷ d ∷ [])
+    ((v2 ⊖ v0) ⊗ (v3 ⊗ v4) ⊕ ((v3 ⊖ v1) ⊗ v0 ⊖ (v2 ⊖ v0) ⊗ v1) ⊗ v4)
+    (v2 ⊗ (v4 ⊗ (v3 ⊖ v1))) refl
+
+times_one : (z : ℤ) → z *ℤ pos 1 ≡ z
+times_one z = ring (z ∷ []) (v0 ⊗ num (pos 1)) v0 refl
+
+up_height : (y d r : ℤ) → (y *ℤ d) *ℤ r ≡ y *ℤ (d *ℤ r)
+up_height y d r = ring (y ∷ d ∷ r ∷ []) (v0 ⊗ v1 ⊗ v2) (v0 ⊗ (v1 ⊗ v2)) refl
+
+-- a whole point whose multiples a spot's numbers are
+is_whole : (q : Point) (p : Pt) → q.x ≡ p.x *ℤ q.d → q.y ≡ p.y *ℤ q.d → is_same_point q (whole p) ≡ true
+is_whole q p x y = and_from (int_eq (q.y *ℤ pos 1) (p.y *ℤ q.d)) (int_eq (q.x *ℤ pos 1) (p.x *ℤ q.d))
+    (to_eq (q.y *ℤ pos 1) (p.y *ℤ q.d) (times_one q.y ∙ y)) (to_eq (q.x *ℤ pos 1) (p.x *ℤ q.d) (times_one q.x ∙ x))
+
+rounds_to : (q : Point) (p : Pt) → pos 0 <ℤ q.d → q.x ≡ p.x *ℤ q.d → q.y ≡ p.y *ℤ q.d → rounded q ≡ p
+rounds_to q p d x y = same_place-is (rounded q) (rounded (whole p))
+    (sym (same_whole (rounded q) (rounded (whole p))) ∙ rounded_same q (whole p) d (omega (arith, ints)) (is_whole q p x y))
+    ∙ whole_rounds p
+
+module _ (e : Edge) (l : Level) (dl : pos 0 <ℤ l.d) (r : pos 0 <ℤ rise e) where
+  above_none : pos 0 <ℤ (l.d *ℤ pos (unsigned_abs (rise e)))
+  above_none = subst (λ (z : ℤ). pos 0 <ℤ (l.d *ℤ z)) (sym (size_of (rise e) r)) (positive_product l.d (rise e) dl r)
+
+  pub low_rounds : (low e).y *ℤ l.d ≡ l.n → low e ≡ rounded (point_of (spot_on e l))
+  unfolding x_at run offset rise
+  low_rounds h =
+      let p = low e in
+      let q = high e in
+      sym (rounds_to (point_of (spot_on e l)) p above_none
+      (ap (λ (n : ℤ). x_at e n l.d) (sym h) ∙ low_across p.x p.y q.x q.y l.d
+      ∙ ap (λ (z : ℤ). p.x *ℤ (l.d *ℤ z)) (sym (size_of (rise e) r)))
+      (ap (λ (n : ℤ). n *ℤ pos (unsigned_abs (rise e))) (sym h)
+      ∙ up_height p.y l.d (pos (unsigned_abs (rise e)))))
+
+  pub high_rounds : (high e).y *ℤ l.d ≡ l.n → high e ≡ rounded (point_of (spot_on e l))
+  unfolding x_at run offset rise
+  high_rounds h =
+      let p = low e in
+      let q = high e in
+      sym (rounds_to (point_of (spot_on e l)) q above_none
+      (ap (λ (n : ℤ). x_at e n l.d) (sym h) ∙ high_across p.x p.y q.x q.y l.d
+      ∙ ap (λ (z : ℤ). q.x *ℤ (l.d *ℤ z)) (sym (size_of (rise e) r)))
+      (ap (λ (n : ℤ). n *ℤ pos (unsigned_abs (rise e))) (sym h)
+      ∙ up_height q.y l.d (pos (unsigned_abs (rise e)))))

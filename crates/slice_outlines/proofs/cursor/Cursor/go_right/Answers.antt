@@ -1,0 +1,45 @@
+-- The bundle that is passed is taken away.
+use Rattle.std.proofs.Common.{◌<◌, ℕ, List, [], length, refl, sym, subst, arith}
+use Rattle.std.specs.List.{All}
+use Rattle.scad_geom.specs.declared.shape.Shape.{Shape}
+use Rattle.slice_sweep.specs.Front.{bundles_in}
+use Rattle.slice_bool.proofs.Bundled.{there_at}
+use Rattle.slice_outlines.proofs.Standing.{small_at, stands_right}
+use Rattle.slice_outlines.proofs.cursor.Cursor.go_right.Goals as goal
+
+pub strands-init : goal.strands-init
+strands-init c = record {
+  from = omega arith;
+  stays = λ h. refl;
+  goes = λ h. h;
+  stands = λ shape s. s;
+}
+
+pub take-requires-clause-there : goal.take-requires-clause-there
+take-requires-clause-there c =
+    let es = c.args.edges.now in
+    let bs : List (List ℕ) = bundles_in c.args.front.now in
+    let l : c.strands.self.at < length bs = omega (arith, c.requires.there, c.strands-test.true) in
+    subst (All (λ k. k < length es)) (sym c.bundle.ensures) (there_at es bs c.strands.self.at [] l c.requires.members)
+
+pub take-requires-clause-small : goal.take-requires-clause-small
+take-requires-clause-small c =
+    let es = c.args.edges.now in
+    let bs : List (List ℕ) = bundles_in c.args.front.now in
+    let shape : Shape = c.requires.stands.shape in
+    let l : c.strands.self.at < length bs = omega (arith, c.requires.there, c.strands-test.true) in
+    small_at es shape bs c.bundle.result.now c.strands.self.at c.strands.self c.requires.few c.requires.members l
+    c.bundle.ensures (c.strands.invariant.stands shape c.requires.stands.on)
+
+pub strands-preserved : goal.strands-preserved
+strands-preserved c =
+    let es = c.args.edges.now in
+    let bs : List (List ℕ) = bundles_in c.args.front.now in
+    let l : c.strands.self.at < length bs = omega (arith, c.requires.there, c.strands-test.true) in
+    record {
+      from = omega (arith, c.strands.invariant.from);
+      stays = λ h. absurd (omega (arith, c.strands.invariant.from, c.strands-test.true));
+      goes = λ h. omega (arith, c.strands-test.true);
+      stands = λ shape s. stands_right es shape bs c.bundle.result.now c.strands.self _ refl l c.bundle.ensures
+          (λ js t. c.take.ensures shape js t) (c.strands.invariant.stands shape s);
+    }

@@ -1,0 +1,11 @@
+-- The comparison is that of the strict order.
+use Rattle.std.proofs.Common.{rules}
+use Rattle.std.proofs.lemmas.Result.{on_ok_weaker}
+use Rattle.std.proofs.lemmas.List.Sorted.{answers_always}
+use Rattle.slice_outlines.proofs.Joining.{comes_before, flat_order}
+use Rattle.slice_outlines.proofs.flats.sort.Goals as goal
+
+pub returns-clause-sorted : goal.returns-clause-sorted
+returns-clause-sorted c = on_ok_weaker c.sort_by.result
+    (λ s. s comes_before flat_order (answers_always _ _ _ (λ f a r g h. search rules)))
+    c.sort_by.ensures.sorted

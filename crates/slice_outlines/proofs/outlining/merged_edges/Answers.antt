@@ -1,0 +1,67 @@
+-- The sweep is lifted from level to level, and ends with the last.
+use Rattle.std.proofs.Common.{◌+◌, length, drop}
+use Rattle.slice_outlines.proofs.LevelSteps.{some_by, no_levels, at_two, at_last, neighbours, climbed}
+use Rattle.slice_outlines.proofs.outlining.merged_edges.Goals as goal
+
+pub returns-then-is_empty : goal.returns-then-is_empty
+returns-then-is_empty c =
+    no_levels c.args.edges.now c.args.shape.now c.args.levels.now c.is_empty.result c.new.result.items
+    c.requires.levels c.is_empty.ensures c.if-is_empty.true c.new.ensures.items
+
+pub levels-init : goal.levels-init
+levels-init c = c.in_ok-sweep.ensures c.args.levels.now c.requires.levels
+
+pub advance-requires-clause-neighbours : goal.advance-requires-clause-neighbours
+advance-requires-clause-neighbours c =
+    neighbours c.args.edges.now c.args.shape.now c.args.levels.now c.requires.levels c.levels.i c.levels.sweep
+    c.levels.auto.i c.levels-test.true
+
+pub advance-requires-clause-swept : goal.advance-requires-clause-swept
+advance-requires-clause-swept c =
+    let ls = c.args.levels.now in
+    record {
+      shape = c.args.shape.now;
+      levels = ls;
+      later = drop (c.levels.i + 1) ls;
+      are_levels = c.requires.levels;
+      swept = at_two c.args.edges.now c.args.shape.now ls c.requires.levels c.levels.i c.levels.sweep c.levels.auto.i
+          c.levels-test.true c.levels.invariant;
+    }
+
+pub levels-preserved : goal.levels-preserved
+levels-preserved c =
+    let ls = c.args.levels.now in
+    climbed c.args.edges.now c.args.shape.now ls c.requires.levels c.levels.i c.levels.sweep c.levels.auto.i
+    c.advance.new.self c.levels-test.true
+    (c.in_ok-advance.ensures (record {
+      shape = c.args.shape.now;
+      levels = ls;
+      later = drop (c.levels.i + 1) ls;
+      are_levels = c.requires.levels;
+      swept = at_two c.args.edges.now c.args.shape.now ls c.requires.levels c.levels.i c.levels.sweep c.levels.auto.i
+          c.levels-test.true c.levels.invariant;
+    }))
+
+pub end-requires-clause-swept : goal.end-requires-clause-swept
+end-requires-clause-swept c =
+    let ls = c.args.levels.now in
+    let some = some_by (length ls) c.is_empty.result c.is_empty.ensures c.if-is_empty.false in
+    record {
+      shape = c.args.shape.now;
+      levels = ls;
+      are_levels = c.requires.levels;
+      swept = at_last c.args.edges.now c.args.shape.now ls c.requires.levels c.levels.i c.levels.sweep c.levels.auto.i
+          c.levels-test.false (c.levels.auto.i-end some) c.levels.invariant;
+    }
+
+pub returns : goal.returns
+returns c =
+    let ls = c.args.levels.now in
+    let some = some_by (length ls) c.is_empty.result c.is_empty.ensures c.if-is_empty.false in
+    c.end.ensures (record {
+      shape = c.args.shape.now;
+      levels = ls;
+      are_levels = c.requires.levels;
+      swept = at_last c.args.edges.now c.args.shape.now ls c.requires.levels c.levels.i c.levels.sweep c.levels.auto.i
+          c.levels-test.false (c.levels.auto.i-end some) c.levels.invariant;
+    })

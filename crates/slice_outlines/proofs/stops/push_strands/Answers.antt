@@ -1,0 +1,22 @@
+-- A strand's spot comes behind those of the strands to its left.
+use Rattle.std.proofs.Common.{◌+◌, ◌++◌, ◌∷◌, ℕ, List, drop, sym, ap, ◌∙◌}
+use Rattle.std.proofs.lemmas.List.{at_drop_more}
+use Rattle.slice_snap.specs.declared.piece.Spot.{Spot}
+use Rattle.slice_outlines.specs.declared.spot.Stop.{Stop}
+use Rattle.slice_outlines.specs.Marks.{no_mark}
+use Rattle.slice_outlines.specs.Stops.{spots_in, mark_spots}
+use Rattle.slice_outlines.proofs.Stopping.{kept_step}
+use Rattle.slice_outlines.proofs.stops.push_strands.Goals as goal
+
+pub marks-preserved : goal.marks-preserved
+marks-preserved c =
+    let ms = c.args.marks.now in
+    let i : ℕ = c.marks.mark-index in
+    let out : List Stop = c.marks.out.items in
+    let spots = mark_spots c.args.edges.now c.args.at.now in
+    let rest : List Spot = spots (drop (i + 1) ms) in
+    ap (λ (ss : List Stop). spots_in ss ++ rest) c.in_ok-push.ensures.items
+    ∙ kept_step out c.stop_of.result rest _
+    (ap (λ (s : Spot). spots_in out ++ (s ∷ rest)) c.stop_of.ensures
+    ∙ ap (λ (ss : List Spot). spots_in out ++ ss) (sym (at_drop_more spots ms i no_mark c.marks-test.true))
+    ∙ c.marks.invariant)

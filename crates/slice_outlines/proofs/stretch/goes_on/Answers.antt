@@ -1,0 +1,18 @@
+-- The comparison is that of places.
+use Rattle.std.proofs.Common.{ap, ◌∙◌}
+use Rattle.std.specs.Ordering.{is_lt}
+use Rattle.std.specs.Prelude.{ℤ, pos, ◌*ℤ◌}
+use Rattle.scad_base.proofs.Tests.{is_lt-int_cmp}
+use Rattle.slice_snap.specs.declared.piece.Spot.{Spot}
+use Rattle.slice_bool.specs.Pieces.{whole_spot}
+use Rattle.slice_bool.specs.Stops.{is_left}
+use Rattle.slice_outlines.proofs.Joining.{whole_cast}
+use Rattle.slice_outlines.proofs.stretch.goes_on.Goals as goal
+
+pub returns : goal.returns
+returns c =
+    let a : Spot = c.whole_spot.result.spot in
+    let s : Spot = c.args.s.now.spot in
+    c.is_lt.ensures ∙ ap is_lt c.compare.ensures ∙ is_lt-int_cmp (s.x *ℤ pos a.run) (a.x *ℤ pos s.run)
+    ∙ ap (λ (t : Spot). is_left s t) (c.whole_spot.ensures
+    ∙ ap (λ (x : ℤ). whole_spot x s.at) (whole_cast c.args.e.now.right c.args.e.now.right_size))

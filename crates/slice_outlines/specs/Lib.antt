@@ -1,0 +1,17 @@
+pub mod Marks
+pub mod Passing
+pub mod Places
+pub mod Runs
+pub mod Above
+pub mod Tallies
+pub mod Cursor
+pub mod Flats
+pub mod Stops
+pub mod Heights
+pub mod Valued
+pub mod Along
+pub mod Stretch
+pub mod Reached
+pub mod Ahead
+pub mod Sweep
+pub mod Level

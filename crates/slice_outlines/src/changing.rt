@@ -1,0 +1,85 @@
+//! The values beside strands that are new above a height.
+ghost use Rattle.std.specs.Prelude.{◌≡◌, ◌<◌, ◌≤◌, ◌+◌, true, Bool, drop, length};
+ghost use Rattle.scad_geom.specs.declared.shape.Shape.{Shape};
+ghost use Rattle.slice_sweep.specs.Front.{bundles_in};
+ghost use Rattle.slice_bool.specs.Beside.{AreMembers, left_value};
+ghost use Rattle.slice_outlines.specs.Cursor.{StandsOn, Stands, StaysOn};
+ghost use Rattle.slice_outlines.specs.Valued.{valued};
+ghost use Rattle.slice_outlines.specs.Heights.{IsRunOf, IsBalancedBefore, AreValuedIn, KeepsMarks};
+
+use crate::height::{Height, Open};
+use crate::mark::{Mark, value_at};
+use crate::run::Run;
+
+/// Finds the values to the left of the strands above a run. To the left of the first it's that below the height.
+pub(crate) fn find_values(height: &Height<'_>, kept: &mut Open, run: &Run)
+    requires members { AreMembers height.now.edges.now (bundles_in height.now.front.now) }
+    requires stands { Stands height.now.edges.now (bundles_in height.now.front.now) kept.old.cursor }
+    requires size { length kept.old.marks.items ≡ length (bundles_in height.now.front.now) }
+    requires there { IsRunOf height.now.below.now kept.old.marks.items run.now }
+    ensures values { (shape : Shape) → IsBalancedBefore height.now shape run.now
+        → StandsOn height.now.edges.now shape (bundles_in height.now.front.now) kept.old.cursor
+        → AreValuedIn height.now shape run.now kept.new.marks.items }
+    ensures stands { StaysOn height.now.edges.now (bundles_in height.now.front.now) kept.old.cursor kept.new.cursor }
+    ensures rest { KeepsMarks run.now kept.old.marks.items kept.new.marks.items }
+    ensures given { kept.new.given ≡ kept.old.given }
+{
+    if is_one(run) {
+        set_value(
+            &mut kept.marks,
+            run.above,
+            value_at(height.below, run.below),
+        );
+    } else {
+        ask_cursor(height, kept, run);
+    }
+}
+
+// Whether one strand alone is above a run.
+fn is_one(run: &Run) -> bool
+    requires { run.now.above ≤ run.now.above_to }
+    ensures { result ≡ true → run.now.above + 1 ≡ run.now.above_to }
+{
+    run.above_to - run.above == 1
+}
+
+fn set_value(marks: &mut Vec<Mark>, i: usize, left: bool)
+    requires { i < length marks.old.items }
+    ensures { marks.new.items ≡ valued i left marks.old.items }
+{
+    marks[i].left = left;
+}
+
+fn ask_cursor(height: &Height<'_>, kept: &mut Open, run: &Run)
+    requires members { AreMembers height.now.edges.now (bundles_in height.now.front.now) }
+    requires stands { Stands height.now.edges.now (bundles_in height.now.front.now) kept.old.cursor }
+    requires size { length kept.old.marks.items ≡ length (bundles_in height.now.front.now) }
+    requires there { IsRunOf height.now.below.now kept.old.marks.items run.now }
+    ensures values { (shape : Shape)
+        → StandsOn height.now.edges.now shape (bundles_in height.now.front.now) kept.old.cursor
+        → AreValuedIn height.now shape run.now kept.new.marks.items }
+    ensures stands { StaysOn height.now.edges.now (bundles_in height.now.front.now) kept.old.cursor kept.new.cursor }
+    ensures rest { KeepsMarks run.now kept.old.marks.items kept.new.marks.items }
+    ensures given { kept.new.given ≡ kept.old.given }
+{
+    'strands: for i in run.above..run.above_to {
+        ask_at(height, kept, i);
+    }
+}
+
+// Finds the value to the left of the strand at a place.
+fn ask_at(height: &Height<'_>, kept: &mut Open, i: usize)
+    requires members { AreMembers height.now.edges.now (bundles_in height.now.front.now) }
+    requires stands { Stands height.now.edges.now (bundles_in height.now.front.now) kept.old.cursor }
+    requires size { length kept.old.marks.items ≡ length (bundles_in height.now.front.now) }
+    requires there { i < length kept.old.marks.items }
+    ensures value { (shape : Shape)
+        → StandsOn height.now.edges.now shape (bundles_in height.now.front.now) kept.old.cursor
+        → kept.new.marks.items ≡ valued i
+        (left_value height.now.edges.now shape (drop i (bundles_in height.now.front.now))) kept.old.marks.items }
+    ensures stands { StaysOn height.now.edges.now (bundles_in height.now.front.now) kept.old.cursor kept.new.cursor }
+    ensures given { kept.new.given ≡ kept.old.given }
+{
+    let left = kept.cursor.value_at(height.edges, height.front, i);
+    set_value(&mut kept.marks, i, left);
+}

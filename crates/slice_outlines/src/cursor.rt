@@ -1,0 +1,182 @@
+//! The shape's value between strands.
+ghost use Rattle.std.specs.Prelude.{◌≡◌, ◌<◌, ◌≤◌, ◌+◌, ◌-◌, ◌^◌, [], List, length, drop, true, false, IfOk, All};
+ghost use Rattle.std.specs.List.{AllZip};
+ghost use Rattle.scad_geom.specs.declared.shape.Shape.{Shape};
+ghost use Rattle.scad_geom.specs.Limits.{coordinate_limit};
+ghost use Rattle.scad_geom.specs.Within.{IsEdgeWithin};
+ghost use Rattle.scad_geom.specs.Level.{IsLevelWithin};
+ghost use Rattle.slice_slab.specs.Bundles.{edge_at};
+ghost use Rattle.slice_sweep.specs.Front.{bundles_in};
+ghost use Rattle.slice_sweep.specs.Changes.{Group, Tell};
+ghost use Rattle.slice_bool.specs.Beside.{AreMembers, left_value};
+ghost use Rattle.slice_outlines.specs.Marks.{AreThere, IsNamed};
+ghost use Rattle.slice_outlines.specs.Cursor.{is_same_place, StandsOn, Stands, StaysOn, IsApartAt, CanShift, IsShifted, Fit};
+
+use crate::mark::Mark;
+use crate::run::{Run, after, first};
+use crate::tally::{Tally, no_turns};
+use scad_geom::{LeafEdge, Level, Shape, cmp_x_at};
+use slice_sweep::{Change, Front};
+use std::alloc::{AllocError, Global};
+
+/// A place on the front, and the headings of the strands from there on.
+#[derive(Drop)]
+pub(crate) struct Cursor {
+    tally: Tally,
+    at: usize,
+}
+
+impl Cursor {
+    /// On a front without strands.
+    pub(crate) fn new(
+        alloc: Global,
+        edges: &[LeafEdge],
+        shape: &Shape,
+    ) -> Result<Cursor, AllocError>
+        ensures { IfOk result (StandsOn edges.now shape.now []) }
+    {
+        let tally = no_turns(alloc, edges, shape)?;
+        Ok(Cursor { tally, at: 0 })
+    }
+
+    /// The value to the left of the strand at a place, to which it goes.
+    pub(crate) fn value_at(&mut self, edges: &[LeafEdge], front: &Front, place: usize) -> bool
+        requires few { length edges.now < 2 ^ 32 }
+        requires members { AreMembers edges.now (bundles_in front.now) }
+        requires stands { Stands edges.now (bundles_in front.now) self.old }
+        requires there { place ≤ length (bundles_in front.now) }
+        ensures value { (shape : Shape) → StandsOn edges.now shape (bundles_in front.now) self.old
+            → result ≡ left_value edges.now shape (drop place (bundles_in front.now)) }
+        ensures stands { StaysOn edges.now (bundles_in front.now) self.old self.new }
+        ensures place { self.new.at ≡ place }
+    {
+        self.go_left(edges, front, place);
+        self.go_right(edges, front, place);
+        self.tally.value()
+    }
+
+    /// Goes to the right end.
+    pub(crate) fn rest(&mut self, edges: &[LeafEdge], front: &Front)
+        requires few { length edges.now < 2 ^ 32 }
+        requires members { AreMembers edges.now (bundles_in front.now) }
+        requires stands { Stands edges.now (bundles_in front.now) self.old }
+        ensures stands { StaysOn edges.now (bundles_in front.now) self.old self.new }
+        ensures place { self.new.at ≡ length (bundles_in front.now) }
+    {
+        self.go_right(edges, front, front.count());
+    }
+
+    /// Leaves all strands, for a front without any.
+    pub(crate) fn clear(&mut self, edges: &[LeafEdge], front: &Front)
+        requires few { length edges.now < 2 ^ 32 }
+        requires members { AreMembers edges.now (bundles_in front.now) }
+        requires stands { Stands edges.now (bundles_in front.now) self.old }
+        ensures { (shape : Shape) → StandsOn edges.now shape (bundles_in front.now) self.old
+            → StandsOn edges.now shape [] self.new }
+    {
+        self.rest(edges, front);
+        self.at = 0;
+    }
+
+    fn go_left(&mut self, edges: &[LeafEdge], front: &Front, place: usize)
+        requires few { length edges.now < 2 ^ 32 }
+        requires members { AreMembers edges.now (bundles_in front.now) }
+        requires stands { Stands edges.now (bundles_in front.now) self.old }
+        ensures stands { StaysOn edges.now (bundles_in front.now) self.old self.new }
+        ensures stays { self.old.at ≤ place → self.new.at ≡ self.old.at }
+        ensures goes { place ≤ self.old.at → self.new.at ≡ place }
+    {
+        'strands: while self.at > place {
+            self.at -= 1;
+            self.tally.add(edges, front.bundle(self.at));
+        }
+    }
+
+    fn go_right(&mut self, edges: &[LeafEdge], front: &Front, place: usize)
+        requires few { length edges.now < 2 ^ 32 }
+        requires members { AreMembers edges.now (bundles_in front.now) }
+        requires stands { Stands edges.now (bundles_in front.now) self.old }
+        requires there { place ≤ length (bundles_in front.now) }
+        ensures stands { StaysOn edges.now (bundles_in front.now) self.old self.new }
+        ensures stays { place ≤ self.old.at → self.new.at ≡ self.old.at }
+        ensures goes { self.old.at ≤ place → self.new.at ≡ place }
+    {
+        'strands: while self.at < place {
+            self.tally.take(edges, front.bundle(self.at));
+            self.at += 1;
+        }
+    }
+
+    /// Goes to the right until it doesn't stand between strands that meet at a height.
+    pub(crate) fn leave(&mut self, edges: &[LeafEdge], front: &Front, marks: &[Mark], at: &Level)
+        requires within { All (λ e. IsEdgeWithin coordinate_limit e.edge) edges.now }
+        requires at { IsLevelWithin coordinate_limit at.now }
+        requires few { length edges.now < 2 ^ 32 }
+        requires members { AreMembers edges.now (bundles_in front.now) }
+        requires stands { Stands edges.now (bundles_in front.now) self.old }
+        requires named { AllZip (λ m b. IsNamed m.name b) marks.now (bundles_in front.now) }
+        ensures stands { StaysOn edges.now (bundles_in front.now) self.old self.new }
+        ensures apart { IsApartAt edges.now at.now marks.now self.new.at }
+    {
+        'strands: while self.is_within(edges, marks, at) {
+            self.go_right(edges, front, self.at + 1);
+        }
+    }
+
+    fn is_within(&self, edges: &[LeafEdge], marks: &[Mark], at: &Level) -> bool
+        requires within { All (λ e. IsEdgeWithin coordinate_limit e.edge) edges.now }
+        requires at { IsLevelWithin coordinate_limit at.now }
+        requires there { AreThere edges.now marks.now }
+        ensures within { result ≡ true → self.now.at < length marks.now }
+        ensures apart { result ≡ false → IsApartAt edges.now at.now marks.now self.now.at }
+    {
+        0 < self.at
+            && self.at < marks.len()
+            && are_together(edges, &marks[self.at - 1], &marks[self.at], at)
+    }
+
+    /// Its place among the strands above a height, where it stands between places of that height.
+    pub(crate) fn shift(&mut self, changes: &[Change])
+        requires told { CanShift changes.now self.old.at }
+        ensures tally { self.new.tally ≡ self.old.tally }
+        ensures place { (gs : List Group) → Tell 0 changes.now gs → Fit gs self.old.at
+            → IsShifted gs self.old.at self.new.at }
+    {
+        let done = run_before(changes, self.at);
+        self.at = done.above_to + (self.at - done.below_to);
+    }
+}
+
+// The strands of the last change to the left of a place below the height.
+fn run_before(changes: &[Change], at: usize) -> Run
+    requires told { CanShift changes.now at }
+    ensures below { result.below_to ≤ at }
+    ensures fits { result.above_to + at < 2 ^ 64 }
+    ensures place { (gs : List Group) → Tell 0 changes.now gs → Fit gs at
+        → IsShifted gs at (result.above_to + (at - result.below_to)) }
+{
+    let mut done = first();
+    'changes: for change in changes {
+        let run = after(&done, change);
+        if run.below_to > at {
+            return done;
+        }
+        done = run;
+    }
+    done
+}
+
+fn are_together(edges: &[LeafEdge], s: &Mark, t: &Mark, at: &Level) -> bool
+    requires within { All (λ e. IsEdgeWithin coordinate_limit e.edge) edges.now }
+    requires at { IsLevelWithin coordinate_limit at.now }
+    requires first { s.now.name < length edges.now }
+    requires second { t.now.name < length edges.now }
+    ensures { result ≡ is_same_place at.now (edge_at edges.now s.now.name) (edge_at edges.now t.now.name) }
+{
+    cmp_x_at(
+        &edges[s.name as usize].edge,
+        &edges[t.name as usize].edge,
+        at,
+    )
+    .is_eq()
+}
