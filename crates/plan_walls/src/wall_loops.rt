@@ -14,7 +14,8 @@ use crate::edges::{edge_count, edges};
 use crate::shape::first_without;
 use plan_sides::sides;
 use scad_geom::{Edge, LeafEdge, Loop, Shape};
-use slice_bool::{BoolFault, outlines};
+use slice_bool::BoolFault;
+use slice_outlines::outlines;
 use std::alloc::{AllocError, Global};
 
 /// The greatest number of edges, those of the outlines and of the rings round them.

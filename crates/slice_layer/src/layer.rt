@@ -13,7 +13,8 @@ ghost use Rattle.slice_layer.specs.Refusal.{IsRefusal};
 
 use scad_geom::Loop;
 use scad_tree::Tree;
-use slice_bool::{BoolFault, outlines};
+use slice_bool::BoolFault;
+use slice_outlines::outlines;
 use std::alloc::Global;
 
 /// The closed outlines of a tree at a layer of height `h` micrometres, with the inside on their left.
