@@ -105,7 +105,8 @@ some_bundles es l ([] ∷ bs) r = absurd r.0
 some_bundles es l ((k ∷ ks) ∷ bs) r = (λ e. absurd (omega (arith, ap length e)), some_bundles es l bs r.2)
 
 -- ---- edges that reach a height pass it
-passes_by : (e : Edge) (m : Level) → pos 0 <ℤ rise e → IsAtMost (level_of (low e).y) m → IsAtMost m (level_of (high e).y)
+passes_by : (e : Edge) (m : Level) → pos 0 <ℤ rise e → IsAtMost (level_of (low e).y) m
+    → IsAtMost m (level_of (high e).y)
     → passes_at e m ≡ true
 passes_by e m r a b =
     and_from (int_lt (pos 0) (rise e)) _ (sym (omega (arith, ints)))
@@ -174,7 +175,8 @@ module _ (es : List LeafEdge) (shape : Shape) (levels : List Level) (m : Level) 
   pub front_counts : pos 0 <ℤ m.d → (ss : List Strand) → IsFrontBelow es shape levels (m ∷ later) ss
       → CountsBeside false es m (bundles_of ss)
   front_counts d ss (inl e) =
-      subst (λ (ts : List Strand). CountsBeside false es m (bundles_of ts)) (sym e.0) (counts_first es m d (first_most e.1))
+      subst (λ (ts : List Strand). CountsBeside false es m (bundles_of ts)) (sym e.0) (counts_first es m d
+      (first_most e.1))
   front_counts d ss (inr f) = counts_below es f.0 m f.1 (bundles_of ss) f.2.bundles
 
 -- what sums up alike holds alike
@@ -253,11 +255,13 @@ module _ (h : Height) (upper : Level) (shape : Shape) (levels later : List Level
       above_counts t e r (all_aside (point_of t) es a) leaf
 
   -- ---- the cursor
-  all_fit : (left right : List Group) → ch.groups ≡ left ++ right → length (all_below ch.groups) ≡ length (all_below left)
+  all_fit : (left right : List Group) → ch.groups ≡ left ++ right
+      → length (all_below ch.groups) ≡ length (all_below left)
       → IsMetFromBelow right → right ≡ []
   all_fit left [] e q m = refl
   all_fit left (g ∷ gs) e q m =
-      let size = ap length (ap all_below e ∙ below-append left (g ∷ gs)) ∙ length-append (all_below left) (all_below (g ∷ gs))
+      let size = ap length (ap all_below e ∙ below-append left (g ∷ gs))
+      ∙ length-append (all_below left) (all_below (g ∷ gs))
       in
       let none : length g.below ≡ 0 = omega (arith, size, q, length-append g.below (all_below gs)) in
       absurd (m (nil_by g.below none))
@@ -288,7 +292,8 @@ module _ (h : Height) (upper : Level) (shape : Shape) (levels later : List Level
       none_ahead [] = tt
       none_ahead (g ∷ gs) = (tt, none_ahead gs)
 
-  tells_as : (bs ds : List (List ℕ)) (c : Cursor) → ((leaf : ℕ) → headings es leaf (concat bs) ≡ headings es leaf (concat ds))
+  tells_as : (bs ds : List (List ℕ)) (c : Cursor) → ((leaf : ℕ)
+      → headings es leaf (concat bs) ≡ headings es leaf (concat ds))
       → Tells es shape (concat bs) c.tally → Tells es shape (concat ds) c.tally
   tells_as bs ds c e t = record {
     ready = t.ready;
@@ -329,7 +334,8 @@ module _ (h : Height) (upper : Level) (shape : Shape) (levels later : List Level
       by_case left right e q m (inr n) leaf = alike_between left right e n leaf
       by_case left right e q m (inl n) leaf =
           let none : right ≡ [] = all_fit left right e (ap length ch.below_is ∙ sym (clear n) ∙ sym q) m in
-          subst (λ (gs : List Group). headings es leaf (concat (all_below gs)) ≡ headings es leaf (concat (all_above gs)))
+          subst (λ (gs : List Group). headings es leaf (concat (all_below gs)) ≡ headings es leaf (concat
+          (all_above gs)))
           (sym none) refl
 
   -- ---- what the level asks
@@ -405,7 +411,8 @@ valued_before : (edges : List LeafEdge) (shape : Shape) (xs ys : List Strand) �
     → AreValuedBefore edges shape xs (bundles_of ys)
 valued_before edges shape [] ys v = tt
 valued_before edges shape (t ∷ xs) ys v = (
-  v.0 ∙ ap (λ (bs : List (List ℕ)). left_value edges shape (t.bundle ∷ bs)) (map-append (λ (r : Strand). r.bundle) xs ys),
+  v.0 ∙ ap (λ (bs : List (List ℕ)). left_value edges shape (t.bundle ∷ bs)) (map-append (λ
+      (r : Strand). r.bundle) xs ys),
   valued_before edges shape xs ys v.1,
 )
 
@@ -441,7 +448,8 @@ ends_there edges l fs spots flats ends =
     by_places (λ e. is_flat_at e.edge l ≡ true → HasSpot spots (whole_spot e.edge.a.x l)
     × HasSpot spots (whole_spot e.edge.b.x l)) edges (λ k d o t.
     let same : get_or edges k d ≡ get_or edges k no_edge = get_or_default edges k d no_edge o in
-    subst (λ (e : LeafEdge). HasSpot spots (whole_spot e.edge.a.x l) × HasSpot spots (whole_spot e.edge.b.x l)) (sym same)
+    subst (λ (e : LeafEdge). HasSpot spots (whole_spot e.edge.a.x l)
+    × HasSpot spots (whole_spot e.edge.b.x l)) (sym same)
     (one k o (subst (λ (e : LeafEdge). is_flat_at e.edge l ≡ true) same t)))
   where
     at_x : (k : ℕ) (a b x y : ℤ) → (a ≡ x × b ≡ y) ⊎ (a ≡ y × b ≡ x)
@@ -461,7 +469,8 @@ ends_there edges l fs spots flats ends =
     one k o t =
         let x = found edges (λ f. HasSpot spots (whole_spot f.left l) × HasSpot spots (whole_spot f.right l)) fs k
         (flats.all k o t) flats.each ends in
-        subst (λ (n : ℕ). HasSpot spots (whole_spot (edge_at edges n).a.x l) × HasSpot spots (whole_spot (edge_at edges n).b.x l))
+        subst (λ (n : ℕ). HasSpot spots (whole_spot (edge_at edges n).a.x l)
+        × HasSpot spots (whole_spot (edge_at edges n).b.x l))
         x.1 (at_x k (edge_at edges x.0.number).a.x (edge_at edges x.0.number).b.x x.0.left x.0.right x.2.ends x.3)
 
 kept_size : (v : Bool) (ms : List Mark) (ss : List Strand) → AreKept v ms ss → length ms ≡ length ss
@@ -492,11 +501,13 @@ over_by on fs new n m k en em flats spots are come =
     let ms : List Mark = new.marks.items in
     let size : length ms ≡ m = named_size ms (bundles_in h.front.now) come.named ∙ sym em in
     let nothing : drop n h.below.now ≡ [] = drop_all n h.below.now (omega (arith, en)) in
-    let right : left_of_first (drop n h.below.now) false ≡ false = ap (λ (us : List Mark). left_of_first us false) nothing in
+    let right : left_of_first (drop n h.below.now) false ≡ false = ap (λ
+    (us : List Mark). left_of_first us false) nothing in
     let whole : take m ms ≡ ms = take_all m ms (omega (arith, size)) in
     let kept : AreKept false ms (placed_above come.places) =
     subst (λ (v : Bool). AreKept v ms (placed_above come.places)) (value_end h (between n m) ms ∙ right)
-    (subst (λ (us : List Mark). AreKept (value_over h (between n m) ms m) us (placed_above come.places)) whole come.kept) in
+    (subst (λ (us : List Mark). AreKept (value_over h (between n m) ms m) us
+    (placed_above come.places)) whole come.kept) in
     let above : bundles_of (placed_above come.places) ≡ bundles_in h.front.now =
     come.upper ∙ take_all m (bundles_in h.front.now) (omega (arith, em)) in
     let strands : length on.height.below.now ≡ length on.below = kept_size false on.height.below.now on.below k in
@@ -513,7 +524,8 @@ over_by on fs new n m k en em flats spots are come =
         rightwards = subst GoRight (sym come.at) are.rightwards;
         sound = subst (AllByRecursion (IsOneOf (spots_at es h.at.now))) (sym come.at) are.sound;
         flats = subst (λ (ss : List Spot). AllByRecursion (λ e. is_flat_at e.edge h.at.now ≡ true
-            → HasSpot ss (whole_spot e.edge.a.x h.at.now) × HasSpot ss (whole_spot e.edge.b.x h.at.now)) es) (sym come.at)
+            → HasSpot ss (whole_spot e.edge.a.x h.at.now)
+            × HasSpot ss (whole_spot e.edge.b.x h.at.now)) es) (sym come.at)
             (ends_there es h.at.now fs spots flats are.flats);
         below = mets_below es h.at.now come.places come.met;
         above = mets_above es h.at.now come.places come.met;
@@ -584,7 +596,8 @@ module _ (h : Height) (upper : Level) (shape : Shape) (levels later : List Level
   }
 
 -- ---- as the code climbs
-abbrev pub changes_as : (edges : List LeafEdge) (l : Level) (below above : List (List ℕ)) (cs ds : List Change) → ds ≡ cs
+abbrev pub changes_as : (edges : List LeafEdge) (l : Level) (below above : List (List ℕ)) (cs ds : List Change)
+    → ds ≡ cs
     → AreChanges edges l below above cs → AreChanges edges l below above ds
 changes_as edges l below above cs ds e ch = record {
   groups = ch.groups;
@@ -594,7 +607,8 @@ changes_as edges l below above cs ds e ch = record {
   told = subst (λ (xs : List Change). Tell 0 xs ch.groups) (sym e) ch.told;
 }
 
-abbrev pub told_as : (edges : List LeafEdge) (l : Level) (ms : List Mark) (below above : List (List ℕ)) (cs : List Change)
+abbrev pub told_as : (edges : List LeafEdge) (l : Level) (ms : List Mark) (below above : List (List ℕ))
+    (cs : List Change)
     → AreChanges edges l below above cs → length ms ≡ length below → IsTold ms above cs
 told_as edges l ms below above cs ch e = record {
   groups = ch.groups;
@@ -630,7 +644,8 @@ module _ (h : Height) (upper : Level) (shape : Shape) (levels later : List Level
     (tally_is : kept.cursor.tally ≡ cursor.tally) (place : IsShifted ch.groups cursor.at kept.cursor.at)
     (clear : (fs ≡ [] → ⊥) → cursor.at ≡ length (bundles_in s.front)) where
   on_front : StandsOn h.edges.now shape (bundles_in h.front.now) kept.cursor
-  on_front = shifted h upper shape levels later s cs swept are leaves next bundles ch below_is kept.marks.items taken fs flats
+  on_front = shifted h upper shape levels later s cs swept are leaves next bundles ch below_is kept.marks.items taken
+      fs flats
       cursor kept.cursor on_low tally_is place (empty_or_not fs) clear
 
   pub climbs : IsAtLevel h kept.marks.items cs fs kept.cursor
@@ -648,9 +663,11 @@ module _ (h : Height) (upper : Level) (shape : Shape) (levels later : List Level
       let on : Onwards = on_level h upper shape levels later s swept in
       let start : HasComeTo on [] 0 0 kept = starts h upper shape levels later s cs swept are leaves next bundles ch
       below_is kept.marks.items taken fs flats kept refl given_is on_front in
-      let valued : IsValuedAt on ch.groups = valued_level h upper shape levels later s cs swept are leaves next bundles ch
+      let valued : IsValuedAt on ch.groups = valued_level h upper shape levels later s cs swept are leaves next
+      bundles ch
       below_is kept.marks.items taken fs flats in
-      let below : AreKept false h.below.now swept.front = kept_below h upper shape levels later s cs swept are leaves next
+      let below : AreKept false h.below.now swept.front = kept_below h upper shape levels later s cs swept are leaves
+      next
       bundles ch below_is kept.marks.items taken fs flats in
       let r = pass climbs on (refl, below) valued start in
       let size : length kept.marks.items ≡ length (bundles_in h.front.now) = named_size kept.marks.items

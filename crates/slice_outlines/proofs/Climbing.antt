@@ -44,7 +44,8 @@ module _ (es : List LeafEdge) (shape : Shape) (levels : List Level) (m : Level) 
       by_front : (front : List Strand) → IsFrontBelow es shape levels (m ∷ later) front
           → AreMembers es (bundles_of front)
       by_front front (inl e) =
-          subst (λ (ss : List Strand). AreMembers es (bundles_of ss)) (sym e.0) (record { there = tt; few = omega arith })
+          subst (λ (ss : List Strand). AreMembers es (bundles_of ss)) (sym e.0)
+          (record { there = tt; few = omega arith })
       by_front front (inr f) = are_members es f.0 m (bundles_of front) f.2.bundles
 
   pub swept_named : AreNamed s.kept.marks.items (bundles_in s.front)

@@ -36,7 +36,12 @@ lesser_some (Some i) k = by_test (nat_lt k i) refl
 
 least_some : (start : Option ℕ) (fs : List Flat) (m : ℕ) → least_from start fs ≡ Some m → IsLeast start fs m
 least_some start [] m e =
-    record { is_one = inl e; by_start = λ k q. let s : m ≡ k = some_of m k (sym e ∙ q) in omega (arith, s); by_all = λ k h. absurd h }
+    record {
+      is_one = inl e;
+      by_start = λ k q. let s : m ≡ k = some_of m k (sym e
+          ∙ q) in omega (arith, s);
+      by_all = λ k h. absurd h;
+    }
 least_some start (f ∷ fs) m e =
     let n = lesser_some start f.number in
     let r : IsLeast (lesser start f.number) fs m = least_some (lesser start f.number) fs m e in
@@ -71,7 +76,8 @@ least_none (f ∷ fs) e k h =
     never_none (lesser None f.number) n.0 fs n.1 e
 
 -- ---- the first that passes a test
-passes_not : (test : LeafEdge → Bool) (es : List LeafEdge) (k : ℕ) (d : LeafEdge) → AllByRecursion (λ e. test e ≡ false) es
+passes_not : (test : LeafEdge → Bool) (es : List LeafEdge) (k : ℕ) (d : LeafEdge)
+    → AllByRecursion (λ e. test e ≡ false) es
     → k < length es → test (get_or es k d) ≡ false
 passes_not test [] k d a l = absurd (omega arith)
 passes_not test (e ∷ es) zero d a l = a.0

@@ -127,7 +127,8 @@ module _ (h : Height) (Q N : Spot → Type 0) (closed_q : IsClosed h.at.now Q) (
         let P : List ℕ → Type 0 = λ b. Q (spot_of es l b) in
         let u = past_own g.below (all_below gs) lower i z (front P g.below g.above all) c in
         let v = past_own g.above (all_above gs) upper j y (back P g.below g.above all) d in
-        let r = split gs p.1 a.1 (drop (length g.below) lower) (drop (length g.above) upper) u.named v.named u.left v.left
+        let r = split gs p.1 a.1 (drop (length g.below) lower) (drop
+        (length g.above) upper) u.named v.named u.left v.left
         u.cut v.cut in
         let below = r.below in
         let above = r.above in
@@ -148,8 +149,10 @@ module _ (h : Height) (Q N : Spot → Type 0) (closed_q : IsClosed h.at.now Q) (
           xs = [];
           ys = g ∷ gs;
           groups = refl;
-          below = none_own lower i (of_bundles h N lower (all_below (g ∷ gs)) z (all_under h N closed_n (g ∷ gs) p all)) c;
-          above = none_own upper j (of_bundles h N upper (all_above (g ∷ gs)) y (all_over h N closed_n (g ∷ gs) p all)) d;
+          below = none_own lower i (of_bundles h N lower (all_below (g ∷ gs)) z (all_under h N closed_n
+              (g ∷ gs) p all)) c;
+          above = none_own upper j (of_bundles h N upper (all_above (g ∷ gs)) y (all_over h N closed_n
+              (g ∷ gs) p all)) d;
           are = tt;
           others = all;
         }
@@ -260,7 +263,8 @@ module _ (h : Height) (fb fa : List Flat) (left right : List Group) (s : Spot) (
       let on : e.edge.a.y *ℤ s.at.d ≡ s.at.n = cancel_mul (e.edge.a.y *ℤ s.at.d) s.at.n r c.at.runs
       (grouped e.edge.a.y s.at.d r ∙ y) in
       and_from (is_zero (rise e.edge)) (int_eq (e.edge.a.y *ℤ h.at.now.d) h.at.now.n) (ap is_zero (flat_rise e.edge f))
-      ((signed_Decides (e.edge.a.y *ℤ h.at.now.d) h.at.now.n).1 (subst (λ (m : Level). e.edge.a.y *ℤ m.d ≡ m.n) c.at.at on))
+      ((signed_Decides (e.edge.a.y *ℤ h.at.now.d) h.at.now.n).1 (subst (λ (m : Level). e.edge.a.y *ℤ m.d
+      ≡ m.n) c.at.at on))
 
   -- flat edges that end before it
   ends_before : (f : Flat) → f.left ≤ℤ f.right → IsNotRightOf (whole_spot f.right h.at.now) s
@@ -281,26 +285,30 @@ module _ (h : Height) (fb fa : List Flat) (left right : List Group) (s : Spot) (
 
   alike : (a b x y : ℤ) → (a ≡ x × b ≡ y) ⊎ (a ≡ y × b ≡ x) → int_lt s.x (x *ℤ p.d) ≡ int_lt s.x (y *ℤ p.d)
       → int_lt s.x (a *ℤ p.d) ≡ int_lt s.x (b *ℤ p.d)
-  alike a b x y (inl e) h' = ap (λ (z : ℤ). int_lt s.x (z *ℤ p.d)) e.0 ∙ h' ∙ sym (ap (λ (z : ℤ). int_lt s.x (z *ℤ p.d)) e.1)
+  alike a b x y (inl e) h' = ap (λ (z : ℤ). int_lt s.x (z *ℤ p.d)) e.0 ∙ h'
+      ∙ sym (ap (λ (z : ℤ). int_lt s.x (z *ℤ p.d)) e.1)
   alike a b x y (inr e) h' =
       ap (λ (z : ℤ). int_lt s.x (z *ℤ p.d)) e.0 ∙ sym h' ∙ sym (ap (λ (z : ℤ). int_lt s.x (z *ℤ p.d)) e.1)
 
   by_flat : (k : ℕ) (f : Flat) → f.number ≡ k → IsFlatOf h.edges.now f
       → int_lt s.x (f.left *ℤ p.d) ≡ int_lt s.x (f.right *ℤ p.d)
       → int_lt s.x ((edge_at h.edges.now k).a.x *ℤ p.d) ≡ int_lt s.x ((edge_at h.edges.now k).b.x *ℤ p.d)
-  by_flat k f e i q = subst (λ (n : ℕ). int_lt s.x ((edge_at h.edges.now n).a.x *ℤ p.d) ≡ int_lt s.x ((edge_at h.edges.now n).b.x *ℤ p.d)) e
+  by_flat k f e i q = subst (λ (n : ℕ). int_lt s.x ((edge_at h.edges.now n).a.x *ℤ p.d) ≡ int_lt s.x
+      ((edge_at h.edges.now n).b.x *ℤ p.d)) e
       (alike (edge_at h.edges.now f.number).a.x (edge_at h.edges.now f.number).b.x f.left f.right i.ends q)
 
   one_aside : (k : ℕ) → k < length h.edges.now → is_flat_at (edge_at h.edges.now k) h.at.now ≡ true
       → int_lt s.x ((edge_at h.edges.now k).a.x *ℤ p.d) ≡ int_lt s.x ((edge_at h.edges.now k).b.x *ℤ p.d)
   one_aside k o t = elim (number_split fb fa k (flats.all k o t)) [
     | inl a ↦
-        let x = found h.edges.now (λ f. IsNotRightOf (whole_spot f.right h.at.now) s) fb k a (front (IsFlatOf h.edges.now) fb fa flats.each)
+        let x = found h.edges.now (λ f. IsNotRightOf (whole_spot f.right h.at.now) s) fb k a (front
+        (IsFlatOf h.edges.now) fb fa flats.each)
         c.flats_before in
         let q = ends_before x.0 x.2.order x.3 in
         by_flat k x.0 x.1 x.2 (less_false s.x (x.0.left *ℤ p.d) q.0 ∙ sym (less_false s.x (x.0.right *ℤ p.d) q.1))
     | inr b ↦
-        let x = found h.edges.now (λ f. IsLeft s (whole_spot f.left h.at.now)) fa k b (back (IsFlatOf h.edges.now) fb fa flats.each)
+        let x = found h.edges.now (λ f. IsLeft s (whole_spot f.left h.at.now)) fa k b (back
+        (IsFlatOf h.edges.now) fb fa flats.each)
         c.flats_behind in
         let q = begins_behind x.0 x.2.order x.3 in
         by_flat k x.0 x.1 x.2 (less_true s.x (x.0.left *ℤ p.d) q.0 ∙ sym (less_true s.x (x.0.right *ℤ p.d) q.1))
@@ -310,14 +318,16 @@ module _ (h : Height) (fb fa : List Flat) (left right : List Group) (s : Spot) (
   stays_aside = by_places (StaysAside p) h.edges.now (λ k d o f y.
       let same : get_or h.edges.now k d ≡ get_or h.edges.now k no_edge = get_or_default h.edges.now k d no_edge o in
       subst (λ (e : LeafEdge). int_lt p.x (e.edge.a.x *ℤ p.d) ≡ int_lt p.x (e.edge.b.x *ℤ p.d)) (sym same)
-      (one_aside k o (subst (λ (e : LeafEdge). is_flat_at e.edge h.at.now ≡ true) same (is_flat (get_or h.edges.now k d) f y))))
+      (one_aside k o (subst (λ (e : LeafEdge). is_flat_at e.edge h.at.now ≡ true) same (is_flat
+      (get_or h.edges.now k d) f y))))
 
 -- ---- the bundles to the right of a spot
 module _ (es : List LeafEdge) (l : Level) (s : Spot) (hs : IsSpotAt l s) where
   abbrev strand : List ℕ → Strand
   strand b = record { bundle = b; left = false; start = s }
 
-  not_beside : (b : List ℕ) → HeadPasses es l b → IsNotRightOf (spot_of es l b) s → is_right_of es (point_of s) b ≡ false
+  not_beside : (b : List ℕ) → HeadPasses es l b → IsNotRightOf (spot_of es l b) s
+      → is_right_of es (point_of s) b ≡ false
   not_beside [] q o = absurd q
   not_beside (k ∷ ks) q o =
       by_test (lies_left es true (point_of s) k)

@@ -146,7 +146,8 @@ is_whole q p x y = and_from (int_eq (q.y *ℤ pos 1) (p.y *ℤ q.d)) (int_eq (q.
 
 rounds_to : (q : Point) (p : Pt) → pos 0 <ℤ q.d → q.x ≡ p.x *ℤ q.d → q.y ≡ p.y *ℤ q.d → rounded q ≡ p
 rounds_to q p d x y = same_place-is (rounded q) (rounded (whole p))
-    (sym (same_whole (rounded q) (rounded (whole p))) ∙ rounded_same q (whole p) d (omega (arith, ints)) (is_whole q p x y))
+    (sym (same_whole (rounded q) (rounded (whole p)))
+    ∙ rounded_same q (whole p) d (omega (arith, ints)) (is_whole q p x y))
     ∙ whole_rounds p
 
 module _ (e : Edge) (l : Level) (dl : pos 0 <ℤ l.d) (r : pos 0 <ℤ rise e) where

@@ -76,7 +76,8 @@ pub all_from : (xs ys : List Flat) (n : ℕ) → xs ≡ ys → take (length xs -
 all_from xs ys n e = take_all (length xs - n) (drop n xs) (omega (arith, length-drop n xs)) ∙ ap (drop n) e
 
 -- ---- the last level is the highest
-most_of : (x : Level) (done : List Level) (top : Level) → AllByRecursion (λ (u : Level). pos 0 <ℤ u.d) (x ∷ (done ++ (top ∷ [])))
+most_of : (x : Level) (done : List Level) (top : Level)
+    → AllByRecursion (λ (u : Level). pos 0 <ℤ u.d) (x ∷ (done ++ (top ∷ [])))
     → IsRising (x ∷ (done ++ (top ∷ []))) → IsAtMost x top
 most_of x [] top d r = lower_weak x top r.0
 most_of x (y ∷ done) top d r =
@@ -235,7 +236,8 @@ module _ (h : Height) (shape : Shape) (levels : List Level) (s : Sweep)
       by_front ss e (inr f) =
           let same : bundles_of ss ≡ bundles_in s.front = ap bundles_of (sym e) ∙ swept.bundles in
           let kept = bundles_keep_order h.edges.now f.0 h.at.now (bundles_of ss) f.1 f.2.bundles in
-          let order = kept.throughout h.at.now f.1.upper_divisor (lower_weak f.0 h.at.now f.1.in_order) (itself h.at.now) in
+          let order = kept.throughout h.at.now f.1.upper_divisor (lower_weak f.0 h.at.now f.1.in_order)
+          (itself h.at.now) in
           in_order h h.below.now (bundles_in s.front) named (are_ordered h (bundles_in s.front) heads
           (subst (AllStandInOrder (IsNotRightAt h.at.now) h.edges.now) same order))
         where
@@ -287,7 +289,8 @@ module _ (h : Height) (shape : Shape) (levels : List Level) (s : Sweep)
       (All-take (λ m. passes_at (edge_at h.edges.now m.name) h.at.now ≡ true) (length h.below.now - 0) h.below.now
       below_pass))) (flats_within h lasts)
 
-  pub last_tells : (stops : List Stop) → AreStopsAt h stops → AreStopsOf (stretch_spots h [] whole lasts) (spots_in stops)
+  pub last_tells : (stops : List Stop) → AreStopsAt h stops
+      → AreStopsOf (stretch_spots h [] whole lasts) (spots_in stops)
       → TellWays h.edges.now lasts stops
   last_tells stops a b =
       tell_ways h (negsuc coordinate_limit) far_right [] lasts []
@@ -362,7 +365,8 @@ module _ (h : Height) (shape : Shape) (levels : List Level) (s : Sweep)
           subst (λ (ss : List Strand). IsCrossing h.edges.now h.at.now h.at.now ss [] over.places) over.below
           (steps_lift.last h.edges.now f.0 h.at.now f.1
           (All-from_recursion (λ g. IsAtMost g h.at.now) (heights h.edges.now) most) over.places
-          (subst (λ (ss : List Strand). AreBundles h.edges.now f.0 h.at.now (bundles_of ss)) (sym over.below) f.2.bundles)
+          (subst (λ (ss : List Strand). AreBundles h.edges.now f.0 h.at.now (bundles_of ss))
+          (sym over.below) f.2.bundles)
           nothing over.met over.passed)
 
   -- as the code passes it
@@ -372,7 +376,8 @@ module _ (h : Height) (shape : Shape) (levels : List Level) (s : Sweep)
       → AreStopsOf (stretch_spots h kept.marks.items (record { below = 0; below_to = n; above = 0; above_to = 0 }) fs)
       (spots_in stops) → TellWays h.edges.now fs stops)
       → (spots : List Spot)
-      × AreStopsOf (stretch_spots h kept.marks.items (record { below = 0; below_to = n; above = 0; above_to = 0 }) fs) spots
+      × AreStopsOf (stretch_spots h kept.marks.items
+      (record { below = 0; below_to = n; above = 0; above_to = 0 }) fs) spots
       × (HasComeOver on passed spots (record { below = 0; below_to = n; above = 0; above_to = 0 }) 0 0 None
       kept.marks.items kept.given.items kept.cursor → (course : Option Course)
       × HasComeOver on (passed ++ spots) [] (record { below = 0; below_to = n; above = 0; above_to = 0 }) n 0 course
@@ -385,17 +390,21 @@ module _ (h : Height) (shape : Shape) (levels : List Level) (s : Sweep)
       let pass : PassesAll kept new (length h.below.now) lasts =
       subst (PassesAll kept new (length h.below.now)) ef (subst (λ (k : ℕ). PassesAll kept new k fs) en passes) in
       let r = pass on_last [] (refl, last_kept) (λ stops a b.
-      last_tells stops a (subst (λ (ms : List Mark). AreStopsOf (stretch_spots h ms whole lasts) (spots_in stops)) e b)) in
+      last_tells stops a (subst (λ (ms : List Mark). AreStopsOf (stretch_spots h ms whole lasts)
+      (spots_in stops)) e b)) in
       let stops : AreStopsOf (stretch_spots h [] whole lasts) r.0 =
       subst (λ (ms : List Mark). AreStopsOf (stretch_spots h ms whole lasts) r.0) e r.1 in
       let end = r.2 (last_starts r.0 kept e g stands) in
       let come : HasComeTo on_last r.0 (length h.below.now) 0 new = group_past on_last r.0 whole new
-      (without_course on_last r.0 whole (length h.below.now) 0 end.0 new.marks.items new.given.items new.cursor end.1) in
+      (without_course on_last r.0 whole
+      (length h.below.now) 0 end.0 new.marks.items new.given.items new.cursor end.1) in
       let spots : AreSpotsOf h lasts r.0 = record {
         rightwards = stops.rightwards;
         sound = of_stops (IsOneOf (spots_at h.edges.now h.at.now)) (stretch_spots h [] whole lasts) r.0
-            (all_sound h [] whole lasts below_pass (λ i d o. absurd (omega (arith, o))) lasts_on.each lasts_on.on) stops.sound;
+            (all_sound h [] whole lasts below_pass (λ i d o. absurd (omega
+            (arith, o))) lasts_on.each lasts_on.on) stops.sound;
         flats = ends_among h [] whole lasts r.0 stops;
       } in
-      merged new (over_by on_last lasts new (length h.below.now) 0 last_kept refl (ap length (sym none)) lasts_on r.0 spots
+      merged new (over_by on_last lasts new (length h.below.now) 0 last_kept refl (ap length
+      (sym none)) lasts_on r.0 spots
       come)

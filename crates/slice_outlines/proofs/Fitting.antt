@@ -74,7 +74,8 @@ fits_apart es l (g ∷ gs) ms (suc n) z t o a = elim (cases_lt (suc n) (length g
       (same_place es l g gs ms n (suc n) z t.0 (omega (arith, i)) i))
   | inr i ↦
       let k : ℕ = length g.below in
-      let rest : Fit gs (suc n - k) = fits_apart es l gs (drop k ms) (suc n - k) (named_past ms g.below (all_below gs) z)
+      let rest : Fit gs (suc n - k) = fits_apart es l gs (drop k ms) (suc n - k) (named_past ms g.below
+      (all_below gs) z)
       t.1 (omega (arith, o, i, length-append g.below (all_below gs)))
       (apart_past es l ms k (suc n) (suc n - k) (omega (arith, i)) a) in
       let left : length (all_below rest.0) ≡ suc n - k = rest.3 in (

@@ -63,12 +63,14 @@ abbrev pub Ascend : List Flat → Type 0
 Ascend [] = Unit {0}
 Ascend (f ∷ fs) = AllByRecursion (IsNotAfter f) fs × Ascend fs
 
-ascend_from : (all fs : List Flat) (n : ℕ) → drop n all ≡ fs → IsSorted flat_cmp all → n + length fs ≡ length all → Ascend fs
+ascend_from : (all fs : List Flat) (n : ℕ) → drop n all ≡ fs → IsSorted flat_cmp all → n + length fs ≡ length all
+    → Ascend fs
 ascend_from all [] n e s o = tt
 ascend_from all (f ∷ fs) n e s o = (
   by_places (IsNotAfter f) fs (λ k d l.
       let one : get_or all n d ≡ f =
-      ap (λ (i : ℕ). get_or all i d) (omega arith) ∙ sym (get_or-drop n all 0 d) ∙ ap (λ (xs : List Flat). get_or xs 0 d) e in
+      ap (λ (i : ℕ). get_or all i d) (omega arith) ∙ sym (get_or-drop n all 0 d)
+      ∙ ap (λ (xs : List Flat). get_or xs 0 d) e in
       let other : get_or all (n + suc k) d ≡ get_or fs k d =
       sym (get_or-drop n all (suc k) d) ∙ ap (λ (xs : List Flat). get_or xs (suc k) d) e in
       order_by f (get_or fs k d)
@@ -196,10 +198,12 @@ module _ (es : List LeafEdge) (l : Level) (d : pos 0 <ℤ l.d) (fs : List Flat) 
       record {
         each = all_take (IsFlatOf es) (to - from) (drop from fs) (all_drop (IsFlatOf es) from fs a.each);
         on = ons;
-        rightwards = go_by_left l fl d (ascend_take (to - from) (drop from fs) (ascend_drop from fs (ascend fs a.sorted)))
+        rightwards = go_by_left l fl d (ascend_take (to - from) (drop from fs) (ascend_drop from fs
+            (ascend fs a.sorted)))
             ons;
         all = λ k there t.
-            let flat = flat_ends (edge_at es k) (zero_by (rise (edge_at es k)) (and_parts (is_zero (rise (edge_at es k)))
+            let flat = flat_ends (edge_at es k) (zero_by (rise (edge_at es k)) (and_parts (is_zero (rise
+            (edge_at es k)))
             (int_eq ((edge_at es k).a.y *ℤ l.d) l.n) t).0) in
             elim (number_split (take from fs) (fl ++ drop to fs) k
             (subst (λ (gs : List Flat). HasNumber gs k) (sym parts) (each_flat es fs k a there flat))) [
@@ -291,7 +295,8 @@ module _ (es : List LeafEdge) (l : Level) (d : pos 0 <ℤ l.d) (fs : List Flat) 
         where
           either : IsAtMost (level_of f.y) l ⊎ IsAtMost upper (level_of f.y)
           either = subst (λ (y : ℤ). IsAtMost (level_of y) l ⊎ IsAtMost upper (level_of y)) i.0.height
-              (all_ends (λ h. IsAtMost h l ⊎ IsAtMost upper h) es f.number no_edge (recursion_from_All (λ h. IsAtMost h l
+              (all_ends (λ h. IsAtMost h l ⊎ IsAtMost upper h) es f.number no_edge (recursion_from_All
+              (λ h. IsAtMost h l
               ⊎ IsAtMost upper h) (heights es) n.between) i.0.there).0
 
           by_case : IsAtMost (level_of f.y) l ⊎ IsAtMost upper (level_of f.y) → IsAtMost upper (level_of f.y)

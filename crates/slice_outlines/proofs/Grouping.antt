@@ -107,11 +107,13 @@ same_names (m ∷ ms) (n ∷ ns) s h =
     ap₂ (λ (k : ℕ) (ks : List ℕ). k ∷ ks) (sym (h 0)) (same_names ms ns (omega (arith, s)) (λ i. h (suc i)))
 
 module _ (Q : ℕ → Type 0) where
-  pub to_names : (ms : List Mark) → AllByRecursion (λ (m : Mark). Q m.name) ms → AllByRecursion Q (map (λ (m : Mark). m.name) ms)
+  pub to_names : (ms : List Mark) → AllByRecursion (λ (m : Mark). Q m.name) ms
+      → AllByRecursion Q (map (λ (m : Mark). m.name) ms)
   to_names [] h = tt
   to_names (m ∷ ms) h = (h.0, to_names ms h.1)
 
-  pub of_names : (ms : List Mark) → AllByRecursion Q (map (λ (m : Mark). m.name) ms) → AllByRecursion (λ (m : Mark). Q m.name) ms
+  pub of_names : (ms : List Mark) → AllByRecursion Q (map (λ (m : Mark). m.name) ms)
+      → AllByRecursion (λ (m : Mark). Q m.name) ms
   of_names [] h = tt
   of_names (m ∷ ms) h = (h.0, of_names ms h.1)
 
@@ -188,7 +190,8 @@ module _ (on : Onwards) (passed : List Spot) (s : Spot) (run : Run) (old mid : L
       → HasComeOver on (passed ++ (s ∷ [])) [] run run.below_to run.above_to None new more cursor
   group_passed new more from f e g =
       let w = value_end on.height run mid in
-      subst (λ (xs : List Edge). HasComeOver on (passed ++ (s ∷ [])) [] run run.below_to run.above_to None new xs cursor)
+      subst (λ (xs : List Edge). HasComeOver on (passed ++
+      (s ∷ [])) [] run run.below_to run.above_to None new xs cursor)
       (sym (g ∙ ap (λ (b : Bool). given ++ ended_at p ins (outs b)) (sym w)))
       (subst (λ (xs : List Mark). HasComeOver on (passed ++ (s ∷ [])) [] run run.below_to run.above_to None xs
       (given ++ ended_at p ins (outs (value_over on.height run mid run.above_to))) cursor)

@@ -62,7 +62,8 @@ to_first es l c cs [] d q p a = tt
 to_first es l c cs (b ∷ bs) d q p a =
     (bundles_round es l b c d p.0 q a.0.0, to_first es l c cs bs d q p.1 a.1)
 
-all_to_first : (es : List LeafEdge) (l : Level) (bs : List (List ℕ)) → pos 0 <ℤ l.d → AllByRecursion (HeadPasses es l) bs
+all_to_first : (es : List LeafEdge) (l : Level) (bs : List (List ℕ)) → pos 0 <ℤ l.d
+    → AllByRecursion (HeadPasses es l) bs
     → AllByRecursion (λ b. AllByRecursion (IsTogetherAt es l b) bs) bs
     → AllByRecursion (λ b. IsSameSpot (spot_of es l b) (first_spot es l bs)) bs
 all_to_first es l [] d p a = tt

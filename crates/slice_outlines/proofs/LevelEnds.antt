@@ -77,7 +77,8 @@ left_of l s d at w =
     grouped (negsuc coordinate_limit) l.d (pos s.run) ∙ ap (λ (z : ℤ). negsuc coordinate_limit *ℤ z) product in
     omega (arith, ints, less, same)
 
-pub flat_left : (l : Level) (x : ℤ) → pos 0 <ℤ l.d → unsigned_abs x ≤ coordinate_limit → IsLeft (far_left l) (whole_spot x l)
+pub flat_left : (l : Level) (x : ℤ) → pos 0 <ℤ l.d → unsigned_abs x ≤ coordinate_limit
+    → IsLeft (far_left l) (whole_spot x l)
 flat_left l x d h =
     let less : (negsuc coordinate_limit *ℤ pos 1) <ℤ x = farther x 1 (omega arith) (omega (arith, h)) in
     whole_left l (negsuc coordinate_limit) x d (omega (arith, ints, less))
@@ -102,7 +103,8 @@ module _ (h : Height) where
   flats_left (f ∷ fs) = (flat_left h.at.now f.left h.at_within.positive f.left_size, flats_left fs)
 
 -- all groups lie to its right
-pub far_cut : (h : Height) (gs : List Group) → AllByRecursion (IsPlaced h) gs → IsCutAt h [] [] [] gs (far_left h.at.now)
+pub far_cut : (h : Height) (gs : List Group) → AllByRecursion (IsPlaced h) gs
+    → IsCutAt h [] [] [] gs (far_left h.at.now)
 far_cut h gs p = record {
   at = whole_at h.at.now (negsuc coordinate_limit);
   before = tt;
@@ -144,10 +146,12 @@ module _ (h : Height) (cs : List Change) (fs : List Flat) (old : Open)
   }
 
   -- ---- the right end
-  module _ (from : ℕ) (p : Passed) (now : Open) (f : IsSoFar h cs fs old w from p now) (o : length fs ≤ from) (end : Run)
+  module _ (from : ℕ) (p : Passed) (now : Open) (f : IsSoFar h cs fs old w from p now) (o : length fs ≤ from)
+      (end : Run)
       (eb : end.below ≡ length h.below.now) (ea : end.above ≡ length now.marks.items) where
     none_ahead : (gs : List Group)
-        → AllByRecursion (λ g. AllByRecursion (λ k. IsLeft (at_group h g) (whole_spot k.left h.at.now)) (drop from fs)) gs
+        → AllByRecursion (λ g. AllByRecursion (λ k. IsLeft (at_group h g) (whole_spot k.left h.at.now))
+        (drop from fs)) gs
     none_ahead [] = tt
     none_ahead (g ∷ gs) = (
       subst (AllByRecursion (λ k. IsLeft (at_group h g) (whole_spot k.left h.at.now))) (sym (drop_all from fs o)) tt,
@@ -155,7 +159,8 @@ module _ (h : Height) (cs : List Change) (fs : List Flat) (old : Open)
     )
 
     pub to_right : (t : IsToLimit f.left f.right end)
-        × AllByRecursion (λ g. AllByRecursion (λ k. IsLeft (at_group h g) (whole_spot k.left h.at.now)) (drop from fs)) t.xs
+        × AllByRecursion (λ g. AllByRecursion (λ k. IsLeft (at_group h g) (whole_spot k.left h.at.now))
+        (drop from fs)) t.xs
     to_right =
         let low = named_size h.below.now (all_below w.groups) w.named_below
         ∙ ap length (ap all_below f.groups ∙ below-append f.left f.right)
@@ -249,14 +254,16 @@ module _ (h : Height) (cs : List Change) (fs : List Flat) (old : Open)
         (all_placed h cs fs old w) (all_apart h cs fs old w)
 
     pub now_pass : AllPass h.edges.now h.at.now now.marks.items
-    now_pass = all_named (λ k. passes_at (edge_at h.edges.now k) h.at.now ≡ true) old.marks.items now.marks.items f.names
+    now_pass = all_named (λ k. passes_at (edge_at h.edges.now k) h.at.now
+        ≡ true) old.marks.items now.marks.items f.names
         w.pass_above
 
     pub now_there : AreThere h.edges.now now.marks.items
     now_there = there_by h.edges.now h.at.now now.marks.items now_pass
 
     pub now_size : length now.marks.items ≡ length (bundles_in h.front.now)
-    now_size = named_size now.marks.items (all_above w.groups) (named_now h cs fs old w from p now f) ∙ ap length w.above
+    now_size = named_size now.marks.items (all_above w.groups) (named_now h cs fs old w from p now f)
+        ∙ ap length w.above
 
     pub now_stands : Stands h.edges.now (bundles_in h.front.now) now.cursor
     now_stands = record { shape = w.stands.shape; on = f.stands w.stands.shape w.stands.on }

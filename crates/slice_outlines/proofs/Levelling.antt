@@ -82,7 +82,8 @@ module _ (l : Level) (c : Spot) (hc : IsSpotAt l c) where
   across_cut [] ts a b o k = tt
   across_cut (s ∷ ss) ts a b o k = (each ts b k, across_cut ss ts a.1 b o.1 k)
     where
-      each : (us : List Spot) → AllByRecursion (IsSpotAt l) us → AllByRecursion (IsLeft c) us → AllByRecursion (IsLeft s) us
+      each : (us : List Spot) → AllByRecursion (IsSpotAt l) us → AllByRecursion (IsLeft c) us
+          → AllByRecursion (IsLeft s) us
       each [] b k = tt
       each (u ∷ us) b k = (by_then_left l s c u a.0 hc b.0 o.0 k.0, each us b.1 k.1)
 
@@ -136,7 +137,8 @@ cut_on h fb fa left [] ys s p q a c o =
     (s, subst (λ (ks : List Group). IsCutAt h fb fa ks ys s) (sym (append-nil left)) c, itself s)
 cut_on h fb fa left (g ∷ xs) ys s p q a c o =
     let next = cut_next h fb fa left g (xs ++ ys) s c p q.0 a.0 o.0 in
-    let r = cut_on h fb fa (left ++ (g ∷ [])) xs ys (at_group h g) (all_append (IsPlaced h) left (g ∷ []) p (q.0, tt)) q.1
+    let r = cut_on h fb fa (left ++ (g ∷ [])) xs ys (at_group h g) (all_append (IsPlaced h) left (g ∷ []) p
+    (q.0, tt)) q.1
     a.1 next o.1 in (
       r.0,
       subst (λ (ks : List Group). IsCutAt h fb fa ks ys r.0) (append_assoc left (g ∷ []) xs) r.1,
@@ -221,7 +223,8 @@ ahead_as on h e gs left xs ys fb fa s v =
     })
 
 -- beside a cut of a height that is the same
-pub beside_as : (on : Onwards) (h : Height) → on.height ≡ h → (gs left right : List Group) (fb fa : List Flat) (s : Spot)
+pub beside_as : (on : Onwards) (h : Height) → on.height ≡ h
+    → (gs left right : List Group) (fb fa : List Flat) (s : Spot)
     → IsValuedAt on gs → AreKept false h.below.now on.below → all_above gs ≡ bundles_in h.front.now
     → AreFlatsOn h.edges.now h.at.now (fb ++ fa) → gs ≡ left ++ right → AllByRecursion (IsPlaced h) left
     → AllByRecursion (IsPlaced h) right → IsCutAt h fb fa left right s
@@ -318,10 +321,12 @@ module _ (h : Height) (cs : List Change) (fs : List Flat) (old : Open)
 
       pub between_at : AreBetween h now.marks.items cs p limit
       between_at = between_by h now.marks.items cs p limit n m t.xs t.ys taken_both low_both up_both
-          (are_met h t.xs met_xs) (are_met h t.ys met_ys) f.from_below f.from_above f.alike low_there up_there t.below t.above
+          (are_met h t.xs met_xs) (are_met h t.ys met_ys) f.from_below f.from_above f.alike low_there up_there
+          t.below t.above
 
       abbrev pub groups_ahead : IsAhead h m (drop p.count cs) t.xs t.ys (drop n h.below.now) (drop m now.marks.items)
-      groups_ahead = ahead_by h m (drop p.count cs) t.xs t.ys (drop n h.below.now) (drop m now.marks.items) taken_both low_both up_both
+      groups_ahead = ahead_by h m (drop p.count cs) t.xs t.ys (drop n h.below.now)
+          (drop m now.marks.items) taken_both low_both up_both
           (are_met h t.xs met_xs)
 
       pub below_is : length (all_below (f.left ++ t.xs)) ≡ limit.below
@@ -338,7 +343,8 @@ module _ (h : Height) (cs : List Change) (fs : List Flat) (old : Open)
       taken_on q ms later right =
           let lower : drop (length (all_below t.xs)) (drop n h.below.now)
           ≡ drop (length (all_below (f.left ++ t.xs))) h.below.now =
-          drop-drop (length (all_below t.xs)) n h.below.now ∙ ap (λ (i : ℕ). drop i h.below.now) (t.below ∙ sym below_is) in
+          drop-drop (length (all_below t.xs)) n h.below.now ∙ ap (λ (i : ℕ). drop i h.below.now) (t.below
+          ∙ sym below_is) in
           let upper : drop (length (all_above t.xs)) (drop m now.marks.items)
           ≡ drop (length (all_above (f.left ++ t.xs))) ms =
           drop-drop (length (all_above t.xs)) m now.marks.items
@@ -360,12 +366,14 @@ module _ (h : Height) (cs : List Change) (fs : List Flat) (old : Open)
       unfolding between_at between_by
       rest_is = refl
 
-      module _ (ahead : AllByRecursion (λ g. AllByRecursion (λ fl. IsLeft (at_group h g) (whole_spot fl.left l)) (drop from fs))
+      module _ (ahead : AllByRecursion (λ g. AllByRecursion (λ fl. IsLeft (at_group h g) (whole_spot fl.left l))
+          (drop from fs))
           t.xs) where
         on_cut : (c : Spot) × IsCutAt h (take from fs) (drop from fs) (f.left ++ t.xs) t.ys c × IsNotRightOf f.cut c
         on_cut = cut_on h (take from fs) (drop from fs) f.left t.xs t.ys f.cut placed_left placed_both
             (subst (AreApart h) t.groups apart_right)
-            (subst (λ (gs : List Group). IsCutAt h (take from fs) (drop from fs) f.left gs f.cut) t.groups f.is_cut) ahead
+            (subst (λ (gs : List Group). IsCutAt h (take from fs)
+            (drop from fs) f.left gs f.cut) t.groups f.is_cut) ahead
 
         -- spots of these groups behind those that are passed
         more_spots : (on : Onwards) (mid : Open) (r : IsReached on h n m f.cut (take from fs) now)
@@ -374,9 +382,11 @@ module _ (h : Height) (cs : List Change) (fs : List Flat) (old : Open)
             (take from fs) mid
         more_spots on mid r come =
             let ts : List Spot = group_spots es l t.xs in
-            let at : AllByRecursion (IsSpotAt l) r.spots = of_stops (IsSpotAt l) (spots_at es l) r.spots (spots_are_at es l)
+            let at : AllByRecursion (IsSpotAt l) r.spots = of_stops (IsSpotAt l) (spots_at es l) r.spots
+            (spots_are_at es l)
             r.are.sound in
-            let behind : AllByRecursion (λ g. IsLeft f.cut (at_group h g)) t.xs = front (λ g. IsLeft f.cut (at_group h g))
+            let behind : AllByRecursion (λ g. IsLeft f.cut (at_group h g)) t.xs = front (λ g. IsLeft f.cut
+            (at_group h g))
             t.xs t.ys (subst (AllByRecursion (λ g. IsLeft f.cut (at_group h g))) t.groups f.is_cut.behind) in
             let by_new : AllByRecursion (λ g. IsNotRightOf (at_group h g) on_cut.0) t.xs =
             back (λ g. IsNotRightOf (at_group h g) on_cut.0) f.left t.xs on_cut.1.before in
@@ -393,7 +403,8 @@ module _ (h : Height) (cs : List Change) (fs : List Flat) (old : Open)
               by = all_append (λ s. IsNotRightOf s on_cut.0) r.spots ts
                   (all_by l f.cut f.is_cut.at r.spots on_cut.0 on_cut.1.at on_cut.2 at r.by)
                   (spots_from h (λ s. IsNotRightOf s on_cut.0) t.xs by_new);
-              come = subst (λ (i : ℕ). HasComeTo on (r.spots ++ ts) i (length (all_above (f.left ++ t.xs))) mid) (sym below_is)
+              come = subst (λ (i : ℕ). HasComeTo on (r.spots ++ ts) i (length (all_above (f.left ++ t.xs))) mid)
+                  (sym below_is)
                   (subst (λ (j : ℕ). HasComeTo on (r.spots ++ ts) limit.below j mid) (sym above_is) come);
             }
 
@@ -429,7 +440,8 @@ module _ (h : Height) (cs : List Change) (fs : List Flat) (old : Open)
                   more_spots on mid r (passes on r.spots of
                   (ahead_as on h of.0 w.groups f.left t.xs t.ys (take from fs) (drop from fs) f.cut v of.1 w.above
                   (flats_parted from) whole_is placed_left placed_both (subst (AreApart h) t.groups apart_right)
-                  (subst (λ (gs : List Group). IsCutAt h (take from fs) (drop from fs) f.left gs f.cut) t.groups f.is_cut)
+                  (subst (λ (gs : List Group). IsCutAt h (take from fs)
+                  (drop from fs) f.left gs f.cut) t.groups f.is_cut)
                   ahead) r.come);
             } in
             (r, below_is, above_is)

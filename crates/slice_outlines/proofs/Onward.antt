@@ -69,7 +69,8 @@ zip_take R (suc n) (x ∷ xs) [] z = absurd z
 zip_take R (suc n) (x ∷ xs) (y ∷ ys) z = (z.0, zip_take R n xs ys z.1)
 
 -- ---- marks of a part
-pub kept_drop : (r : Bool) (n : ℕ) (ms : List Mark) (ss : List Strand) → AreKept r ms ss → AreKept r (drop n ms) (drop n ss)
+pub kept_drop : (r : Bool) (n : ℕ) (ms : List Mark) (ss : List Strand) → AreKept r ms ss
+    → AreKept r (drop n ms) (drop n ss)
 kept_drop r zero ms ss k = k
 kept_drop r (suc n) [] [] k = tt
 kept_drop r (suc n) [] (s ∷ ss) k = absurd k
@@ -288,7 +289,8 @@ leaves_like es s (t ∷ ts) live above below p n =
     (or_none (course_along o above below p))) (sym n)
     (course_like above below s t (position (covers s t) es) p)
 
-near_along : (above below : Bool) (s t : Spot) (o : Option ℕ) → AllByRecursion (λ w. w.near ≡ s) (way_along above below s t o)
+near_along : (above below : Bool) (s t : Spot) (o : Option ℕ)
+    → AllByRecursion (λ w. w.near ≡ s) (way_along above below s t o)
 near_along above below s t None = tt
 near_along true true s t (Some k) = tt
 near_along true false s t (Some k) = (refl, tt)
@@ -376,15 +378,16 @@ pub left_stays : (i j k : ℕ) (at : Pt) (ms : List Mark) → i ≤ j
     → (mark_at (begun_in i j at ms) k).left ≡ (mark_at ms k).left
 left_stays i j k at ms h =
     let f : Mark → Bool = λ m. m.left in
-    sym (get_or-map f (begun_in i j at ms) k no_mark) ∙ ap (λ (vs : List Bool). get_or vs k false) (lefts_begun i j at ms h)
+    sym (get_or-map f (begun_in i j at ms) k no_mark)
+    ∙ ap (λ (vs : List Bool). get_or vs k false) (lefts_begun i j at ms h)
     ∙ get_or-map f ms k no_mark
 
 left_begun : (at : Pt) (ms : List Mark) (r : Bool) → left_of_first (begun at ms) r ≡ left_of_first ms r
 left_begun at [] r = refl
 left_begun at (m ∷ ms) r = refl
 
--- what is known where a stop is passed: the strands from one place to another, below the height and above it, are at the
--- stop, and the flat edges that go on are told by the way to the next
+-- what is known where a stop is passed: the strands from one place to another, below the height and above it, are at
+-- the stop, and the flat edges that go on are told by the way to the next
 pub record IsStop (on : Onwards) (s : Spot) (ts : List Spot) (run : Run) (i j n m : ℕ) (live : List Flat)
     (marks : List Mark) (p : Pt) : Type 0 where
   pub below : AreKept false on.height.below.now on.below
@@ -446,13 +449,15 @@ module _ (on : Onwards) (passed : List Spot) (s : Spot) (ts : List Spot) (run : 
       let from : Pt = start_of p ins outs in
       let R : Mark → List ℕ → Type 0 = λ x b. IsNamed x.name b in
       let kept : AreKept v lows below = kept_part false i j lower on.below stop.below_order stop.below in
-      let named : AreNamed ups bundles = zip_take R (m - n) (drop n marks) (drop n bs) (zip_drop R n marks bs come.named) in
+      let named : AreNamed ups bundles = zip_take R (m - n) (drop n marks) (drop n bs)
+      (zip_drop R n marks bs come.named) in
       let like : AllZip IsLike flat_out (or_none out_course) = leaves_like es s ts live w v p stop.name in
       let pp : PlacePasses es l u v w below ups bundles p come.flat flat_out ins outs =
       place_passes es l u v w below lows ups bundles s p come.flat flat_out course out_course (record {
         kept = kept;
         named = named;
-        ends = of_bundles (RoundsTo es l p) below (rounds_named es l p lows (bundles_of below) (named_kept v lows below kept) stop.ends);
+        ends = of_bundles (RoundsTo es l p) below (rounds_named es l p lows (bundles_of below)
+            (named_kept v lows below kept) stop.ends);
         begins = rounds_named es l p ups bundles named stop.begins;
         at = stop.at;
         comes = come.along;
@@ -466,7 +471,8 @@ module _ (on : Onwards) (passed : List Spot) (s : Spot) (ts : List Spot) (run : 
       record {
         places = come.places ++ (place ∷ []);
         flat = begun_ways pp.start flat_out;
-        at = map-append (λ (q : Place). q.at) come.places (place ∷ []) ∙ ap (λ (us : List Spot). us ++ (s ∷ [])) come.at;
+        at = map-append (λ (q : Place). q.at) come.places (place ∷ [])
+            ∙ ap (λ (us : List Spot). us ++ (s ∷ [])) come.at;
         along = courses_begun pp.start from flat_out out_course pp.from like;
         leads = lead_to es pp.start s ts w v;
         lower = below-append come.places (place ∷ [])
@@ -477,7 +483,8 @@ module _ (on : Onwards) (passed : List Spot) (s : Spot) (ts : List Spot) (run : 
             ∙ ap₂ (λ (xs ys : List (List ℕ)). xs ++ ys) come.upper (ap bundles_of (append-nil pp.above) ∙ pp.is_above)
             ∙ take_then bs n m stop.above_order;
         goes_on = λ later next rest.
-            let vb : value_before (all_below later) false ≡ v = ap (λ (ss : List Strand). value_before ss false) next.below
+            let vb : value_before (all_below later) false ≡ v = ap (λ
+            (ss : List Strand). value_before ss false) next.below
             ∙ sym (first_kept false (drop j lower) (drop j on.below) (kept_drop false j lower on.below stop.below)) in
             let va : value_before (all_above later) false ≡ w = next.value
             ∙ over_same h run n m from marks stop.above_order stop.there in
@@ -502,7 +509,8 @@ module _ (on : Onwards) (passed : List Spot) (s : Spot) (ts : List Spot) (run : 
                   (ap₂ (λ (b : Bool) (ws : List Way). ways_up es u b pp.above ++ ws) (sym va) (sym on_way)) pp.pass,
               subst (λ (ws : List Way). ArePassed es l u ws later) (sym on_way) rest,
             ));
-        kept = subst (λ (b : Bool). AreKept b (take m (begun_in n m from marks)) (all_above (come.places ++ (place ∷ []))))
+        kept = subst (λ (b : Bool). AreKept b (take m (begun_in n m from marks)) (all_above (come.places ++
+            (place ∷ []))))
             (sym (over_same h run n m from marks stop.above_order stop.there))
             (subst (λ (ss : List Strand). AreKept w (take m (begun_in n m from marks)) ss)
             (ap (λ (ss : List Strand). all_above come.places ++ ss) (sym (append-nil pp.above))
@@ -544,7 +552,8 @@ beside_is b v w ins outs p e0 e1 e2 e3 e4 =
     λ i. record { below = e0 i; above = e1 i; flat_in = e2 i; flat_out = e3 i; at = e4 i }
 
 -- what is known of a run, of what lies beside it, and of what passing it gave
-pub record IsRunPassed (h : Height) (below : List Strand) (s : Spot) (later : List Spot) (a : Along) (run : Run) (b : Beside)
+pub record IsRunPassed (h : Height) (below : List Strand) (s : Spot) (later : List Spot) (a : Along) (run : Run)
+    (b : Beside)
     (marks : List Mark) (given : List Edge) (from : Pt) (edges : List Edge) : Type 0 where
   pub kept : AreKept false h.below.now below
   pub run_of : IsRunOf h.below.now marks run
@@ -585,8 +594,10 @@ module _ (on : Onwards) (passed : List Spot) (s : Spot) (later : List Spot) (a :
       let lows : List Mark = take (run.below_to - run.below) (drop run.below h.below.now) in
       let ups : List Mark = take (run.above_to - run.above) (drop run.above marks) in
       let old : HasComeOver on passed (s ∷ later) a.run run.below run.above a.flat marks given cursor =
-      subst (λ (i : ℕ). HasComeOver on passed (s ∷ later) a.run i run.above a.flat marks given cursor) (sym r.from_below)
-      (subst (λ (n : ℕ). HasComeOver on passed (s ∷ later) a.run a.below n a.flat marks given cursor) (sym r.from_above) come) in
+      subst (λ (i : ℕ). HasComeOver on passed (s ∷ later) a.run i run.above a.flat marks given cursor)
+      (sym r.from_below)
+      (subst (λ (n : ℕ). HasComeOver on passed (s ∷ later) a.run a.below n a.flat marks given cursor)
+      (sym r.from_above) come) in
       let new = stop_passed on passed s later a.run run.below run.below_to run.above run.above_to a.flat a.live.items
       marks given cursor p (record {
         below = r.kept;
@@ -620,7 +631,8 @@ module _ (on : Onwards) (passed : List Spot) (s : Spot) (later : List Spot) (a :
 -- with other names for what is equal
 pub come_as : (on : Onwards) (passed later : List Spot) (run run' : Run) (n n' m m' : ℕ) (c c' : Option Course)
     (ms ms' : List Mark) (es es' : List Edge) (cursor : Cursor) → run ≡ run' → n ≡ n' → m ≡ m' → c ≡ c' → ms ≡ ms'
-    → es ≡ es' → HasComeOver on passed later run n m c ms es cursor → HasComeOver on passed later run' n' m' c' ms' es' cursor
+    → es ≡ es' → HasComeOver on passed later run n m c ms es cursor
+    → HasComeOver on passed later run' n' m' c' ms' es' cursor
 come_as on passed later run run' n n' m m' c c' ms ms' es es' cursor a b d e f g h =
     subst (λ (r : Run). HasComeOver on passed later r n' m' c' ms' es' cursor) a
     (subst (λ (k : ℕ). HasComeOver on passed later run k m' c' ms' es' cursor) b
@@ -629,7 +641,8 @@ come_as on passed later run run' n n' m m' c c' ms ms' es es' cursor a b d e f g
     (subst (λ (xs : List Mark). HasComeOver on passed later run n m c xs es' cursor) f
     (subst (λ (xs : List Edge). HasComeOver on passed later run n m c ms xs cursor) g h)))))
 
-pub name_as : (es : List LeafEdge) (s : Spot) (later : List Spot) (f f' : List Flat) (a a' b b' : Bool) → f ≡ f' → a ≡ a'
+pub name_as : (es : List LeafEdge) (s : Spot) (later : List Spot) (f f' : List Flat) (a a' b b' : Bool) → f ≡ f'
+    → a ≡ a'
     → b ≡ b' → IsNameTo es s later f a b → IsNameTo es s later f' a' b'
 name_as es s later f f' a a' b b' e p q h =
     subst (λ (fs : List Flat). IsNameTo es s later fs a' b') e

@@ -259,7 +259,8 @@ turned on passed spots run next n m ms ns given c e t s k valued come =
       lower = come.lower;
       upper = come.upper;
       goes_on = λ later f pass. come.goes_on later (record { below = f.below; value = f.value ∙ e; first = tt })
-          (subst (λ (ws : List Way). ArePassed on.height.edges.now on.height.at.now on.upper ws later) (sym nothing) pass);
+          (subst (λ (ws : List Way). ArePassed on.height.edges.now on.height.at.now on.upper ws later)
+          (sym nothing) pass);
       kept = subst (λ (xs : List Mark). AreKept (value_over on.height next ns m) xs (placed_above come.places)) (sym t)
           (subst (λ (v : Bool). AreKept v (take m ms) (placed_above come.places)) (sym e) come.kept);
       met = come.met;
@@ -306,7 +307,8 @@ module _ (on : Onwards) (o : Open) (kept : AreKept false on.height.below.now on.
     s = spot_of on.height.edges.now on.height.at.now b
 
     stay_one : (passed : List Spot) (x : Mark) (lower upper : List Mark) (bs cs : List (List ℕ))
-        → IsBalancedBefore on.height on.shape (between n m) → drop n on.height.below.now ≡ x ∷ lower → drop m ms ≡ x ∷ upper → bundles_of (drop n on.below) ≡ b ∷ bs
+        → IsBalancedBefore on.height on.shape (between n m) → drop n on.height.below.now ≡ x ∷ lower
+        → drop m ms ≡ x ∷ upper → bundles_of (drop n on.below) ≡ b ∷ bs
         → drop m bundles ≡ b ∷ cs → HasComeTo on passed n m o
         → HasComeTo on (passed ++ (s ∷ [])) (n + 1) (m + 1) o
     stay_one passed x lower upper bs cs beside e f g k come =
@@ -371,7 +373,8 @@ module _ (on : Onwards) (o : Open) (kept : AreKept false on.height.below.now on.
       let c : m + 1 + length bs ≡ m + suc (length bs) = omega arith in
       let next : HasComeTo on (passed ++ (t ∷ [])) (n + 1) (m + 1) o =
       stay_one n m b passed x (same ++ lower) (same ++ upper) (bs ++ cs) (bs ++ ds) balanced.0 e f g k come in
-      let rest = stay_all bs same lower upper cs ds (passed ++ (t ∷ [])) (n + 1) (m + 1) gs balanced.1 (omega (arith, s))
+      let rest = stay_all bs same lower upper cs ds (passed ++ (t ∷ [])) (n + 1) (m + 1) gs balanced.1 (omega
+      (arith, s))
       (tail_of on.height.below.now n x (same ++ lower) e) (tail_of ms m x (same ++ upper) f)
       (strands_tail (drop n on.below) (drop (n + 1) on.below) (sym (drop-drop 1 n on.below)) g)
       (tail_of bundles m b (bs ++ ds) k) next in
@@ -401,7 +404,8 @@ group_left h shape r ns o before behind valued = by_test (nat_lt r.above r.above
         ≡ left_of_first (drop r.below h.below.now) false
     by_test true e = valued r.above (omega arith) (less e) ∙ sym before
     by_test false e =
-        behind ∙ ap (λ (i : ℕ). left_value h.edges.now shape (drop i (bundles_in h.front.now))) (not_less e) ∙ sym before
+        behind ∙ ap (λ (i : ℕ). left_value h.edges.now shape (drop i (bundles_in h.front.now))) (not_less e)
+        ∙ sym before
 
 pub part_reached : (on : Onwards) (passed spots : List Spot) (r : Run) (o : Open) → r.above ≤ r.above_to
     → IsBalancedBefore on.height on.shape (between r.below r.above)
@@ -409,7 +413,8 @@ pub part_reached : (on : Onwards) (passed spots : List Spot) (r : Run) (o : Open
     → HasReachedStops on passed spots r o
 part_reached on passed spots r o a before behind come = λ ns keeps valued.
     turned on passed spots (between r.below r.above) r r.below r.above o.marks.items ns o.given.items o.cursor
-    (group_left on.height on.shape r ns a before behind valued ∙ sym (left_here on.height r.below r.above o.marks.items))
+    (group_left on.height on.shape r ns a before behind valued
+    ∙ sym (left_here on.height r.below r.above o.marks.items))
     keeps.left keeps.size keeps.names (λ i to. elim (cases_lt i r.above) [
       | inl l ↦ ap (λ (x : Mark). x.left) (front_same ns o.marks.items r.above i l keeps.left) ∙ come.valued i l
       | inr l ↦ valued i (omega (arith, l)) to
@@ -429,7 +434,8 @@ pub group_past : (on : Onwards) (passed : List Spot) (r : Run) (o : Open)
     → HasComeOver on passed [] r r.below_to r.above_to None o.marks.items o.given.items o.cursor
     → HasComeTo on passed r.below_to r.above_to o
 group_past on passed r o come =
-    turned on passed [] r (between r.below_to r.above_to) r.below_to r.above_to o.marks.items o.marks.items o.given.items
+    turned on passed [] r (between r.below_to r.above_to) r.below_to r.above_to o.marks.items o.marks.items
+    o.given.items
     o.cursor (left_here on.height r.below_to r.above_to o.marks.items ∙ sym (value_end on.height r o.marks.items)) refl
     refl (λ i. refl) come.valued come
 
@@ -464,7 +470,8 @@ pub record IsBehindStays (n m k gone come : ℕ) (r : Run) : Type 0 where
   pub above : r.above ≡ m + k
   pub above_to : r.above_to ≡ m + k + come
 
-module _ (h : Height) (ms : List Mark) (cs : List Change) (p : Passed) (limit : Run) (b : AreBetween h ms cs p limit) where
+module _ (h : Height) (ms : List Mark) (cs : List Change) (p : Passed) (limit : Run)
+    (b : AreBetween h ms cs p limit) where
   abbrev lower : List Mark
   lower = drop b.below h.below.now
 
@@ -709,7 +716,8 @@ module _ (on : Onwards) (o : Open) (kept : AreKept false on.height.below.now on.
 
   pub come_to_end : gs ≡ map staying bs → HasComeTo on spots (n + length bs) (m + length bs) o
   come_to_end e =
-      stay_all on o kept bs same low up ahead.lower ahead.upper done n m [] (subst (AreBalancedFrom on.height on.shape n m)
+      stay_all on o kept bs same low up ahead.lower ahead.upper done n m [] (subst
+      (AreBalancedFrom on.height on.shape n m)
       (e ∙ sym (append-nil (map staying bs))) ahead.balanced) size lower_is upper_is
       (ahead.below ∙ ap (λ (cs : List (List ℕ)). cs ++ ahead.lower) (ap all_below e ∙ only_below bs))
       (ahead.above ∙ ap (λ (cs : List (List ℕ)). cs ++ ahead.upper) (ap all_above e ∙ only_above bs)) come
@@ -845,7 +853,8 @@ module _ (h : Height) (cs : List Change) (limit : Run) (old : Open) (start : Pas
             let here = so_far.come on before of strands come in
             let done : List Spot = here.0 in
             let next : IsAtNext on done x.bundles x.group x.more r now =
-            come_to_next on now (subst (λ (y : Height). AreKept false y.below.now on.below) (sym of.0) of.1) done b.below
+            come_to_next on now (subst (λ (y : Height). AreKept false y.below.now on.below)
+            (sym of.0) of.1) done b.below
             b.above b.groups x.bundles x.same (x.gone ++ x.low) (x.come ++ x.up) x.size
             (subst (λ (y : Height). drop b.below y.below.now ≡ x.same ++ (x.gone ++ x.low)) (sym of.0) x.lower_is)
             x.upper_is here.2 here.3 x.group x.more x.change.gone x.change.come r x.groups x.group_below
@@ -870,7 +879,8 @@ module _ (h : Height) (cs : List Change) (limit : Run) (old : Open) (start : Pas
       }
 
   -- none is left
-  module _ (x : AllStay b.rest (drop p.count cs) b.groups (drop b.below h.below.now) (drop b.above now.marks.items)) where
+  module _ (x : AllStay b.rest (drop p.count cs) b.groups (drop b.below h.below.now)
+      (drop b.above now.marks.items)) where
     to_below : b.below + length x.bundles ≡ limit.below
     to_below = ap (λ (j : ℕ). b.below + j)
         (sym (ap (λ (gs : List Group). length (all_below gs)) x.groups ∙ ap length (only_below x.bundles))) ∙ b.to_below
@@ -984,14 +994,16 @@ module _ (h : Height) (ms : List Mark) (cs : List Change) (p : Passed) (limit : 
 
   pub skip_next : (limit.below ≤ r.below → limit.above ≤ r.above → ⊥) → IsNext h ms cs p limit b r
   skip_next away =
-      by_case (next_or_none h b.rest b.above (drop p.count cs) b.groups (drop b.below h.below.now) (drop b.above ms) b.ahead)
+      by_case (next_or_none h b.rest b.above (drop p.count cs) b.groups (drop b.below h.below.now)
+      (drop b.above ms) b.ahead)
     where
       by_case : AllStay b.rest (drop p.count cs) b.groups (drop b.below h.below.now) (drop b.above ms)
           ⊎ NextChanges h b.rest b.above (drop p.count cs) b.groups (drop b.below h.below.now) (drop b.above ms)
           → IsNext h ms cs p limit b r
       by_case (inr x) = (x, (next_is x).0, (next_is x).1)
       by_case (inl x) =
-          let behind : IsBehind limit (d ∷ drop (p.count + 1) cs) = subst (IsBehind limit) (sym x.last ∙ here) b.behind in
+          let behind : IsBehind limit (d ∷ drop (p.count + 1) cs) = subst (IsBehind limit) (sym x.last
+          ∙ here) b.behind in
           let from = behind.0 in
           let low : b.below + length x.bundles ≡ limit.below =
           ap (λ (j : ℕ). b.below + j) (sym (ap (λ (gs : List Group). length (all_below gs)) x.groups
@@ -1008,7 +1020,8 @@ module _ (h : Height) (ms : List Mark) (cs : List Change) (p : Passed) (limit : 
   pub skip_end : limit.below ≤ r.below → limit.above ≤ r.above
       → AllStay b.rest (drop p.count cs) b.groups (drop b.below h.below.now) (drop b.above ms)
   skip_end low up =
-      by_case (next_or_none h b.rest b.above (drop p.count cs) b.groups (drop b.below h.below.now) (drop b.above ms) b.ahead)
+      by_case (next_or_none h b.rest b.above (drop p.count cs) b.groups (drop b.below h.below.now)
+      (drop b.above ms) b.ahead)
     where
       by_case : AllStay b.rest (drop p.count cs) b.groups (drop b.below h.below.now) (drop b.above ms)
           ⊎ NextChanges h b.rest b.above (drop p.count cs) b.groups (drop b.below h.below.now) (drop b.above ms)

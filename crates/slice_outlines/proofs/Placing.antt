@@ -66,7 +66,8 @@ one_up : (es : List LeafEdge) (l : Level) (b : List ℕ) (a r : Bool) (start : S
 one_up es l [] a r start m n f = absurd n
 one_up es l (k ∷ ks) a r start m n f = one_way a r start (spot_on (edge_at es k) l) k m n f
 
-pub first_kept : (v : Bool) (ms : List Mark) (ss : List Strand) → AreKept v ms ss → left_of_first ms v ≡ value_before ss v
+pub first_kept : (v : Bool) (ms : List Mark) (ss : List Strand) → AreKept v ms ss
+    → left_of_first ms v ≡ value_before ss v
 first_kept v [] [] k = refl
 first_kept v [] (s ∷ ss) k = absurd k
 first_kept v (m ∷ ms) [] k = absurd k
@@ -330,7 +331,8 @@ same_pass ins ins' outs outs' opens opens' closed a b c p =
 -- strands that come to a place with marks, and bundles that leave it with marks; a way along the height may come to it
 -- and go out from it
 pub record IsPlace (es : List LeafEdge) (l : Level) (v : Bool) (below : List Strand) (lower upper : List Mark)
-    (bundles : List (List ℕ)) (spot : Spot) (p : Pt) (flat_in flat_out : List Way) (in_course out_course : Option Course)
+    (bundles : List (List ℕ)) (spot : Spot) (p : Pt) (flat_in flat_out : List Way)
+    (in_course out_course : Option Course)
     : Type 0 where
   pub kept : AreKept v lower below
   pub named : AreNamed upper bundles
@@ -356,7 +358,8 @@ pub record PlacePasses (es : List LeafEdge) (l u : Level) (v w : Bool) (below : 
   pub edges : rounded_edges (pieces_of closed) ≡ ended_at p ins outs
 
 module _ (es : List LeafEdge) (l u : Level) (v w : Bool) (below : List Strand) (lower upper : List Mark)
-    (bundles : List (List ℕ)) (spot : Spot) (p : Pt) (flat_in flat_out : List Way) (in_course out_course : Option Course)
+    (bundles : List (List ℕ)) (spot : Spot) (p : Pt) (flat_in flat_out : List Way)
+    (in_course out_course : Option Course)
     (h : IsPlace es l v below lower upper bundles spot p flat_in flat_out in_course out_course) where
   ins_zip : AllZip IsCourseOf (ways_up es l v below ++ flat_in) (courses v lower ++ or_none in_course)
   ins_zip = zip_append IsCourseOf (ways_up es l v below) (courses v lower) flat_in (or_none in_course)
@@ -367,7 +370,8 @@ module _ (es : List LeafEdge) (l u : Level) (v w : Bool) (below : List Strand) (
   outs_zip f = zip_append IsLike (ways_from es l u w (strands_from f upper bundles)) (courses w upper) flat_out
       (or_none out_course) (outs_like es l u w f upper bundles h.named) h.leaves
 
-  by_case : (o : Option Pt) → going_on (courses v lower ++ or_none in_course) (courses w upper ++ or_none out_course) ≡ o
+  by_case : (o : Option Pt) → going_on (courses v lower ++ or_none in_course) (courses w upper
+      ++ or_none out_course) ≡ o
       → PlacePasses es l u v w below upper bundles p flat_in flat_out (courses v lower ++ or_none in_course)
       (courses w upper ++ or_none out_course)
   by_case None e =
@@ -421,7 +425,8 @@ module _ (es : List LeafEdge) (l u : Level) (v w : Bool) (below : List Strand) (
             (same ∙ ap (begun_ways s) (sym are) ∙ sym opens) (goes_on g.one g.other g.course);
         from = start ∙ g.from_is;
         kept = subst (λ (q : Pt). AreKept w (begun q upper) above) (sym start)
-            (kept_begun w (λ b. s) upper bundles q h.named (all_same bundles (rounded (point_of s) ≡ q) (sym g.from_is)));
+            (kept_begun w (λ b. s) upper bundles q h.named (all_same bundles (rounded (point_of s) ≡ q)
+            (sym g.from_is)));
         edges = ways_give_edges.none ∙ sym (ap (λ (o : Option Pt). unless_on o (edges_to p vs)) e);
       }
 

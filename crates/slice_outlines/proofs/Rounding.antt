@@ -83,7 +83,8 @@ module _ (h : Height) (ms : List Mark) (a : Along) (run : Run) (s : Stop) (at : 
       subst (λ (i : ℕ). All L (take (a.run.above_to - i) (drop i ms))) (sym ea)
       (All-from_recursion L (take (a.run.above_to - a.above) (drop a.above ms)) next.above) in
       All-append L lows ups
-      (all_front L (drop run.below h.below.now) (run.below_to - run.below) (a.run.below_to - run.below) (omega (arith, bt)) low)
+      (all_front L (drop run.below h.below.now) (run.below_to - run.below) (a.run.below_to - run.below) (omega
+      (arith, bt)) low)
       (all_front L (drop run.above ms) (run.above_to - run.above) (a.run.above_to - run.above) (omega (arith, ab)) up)
 
   pub meet_across : MeetAcross h ms run s.spot

@@ -201,7 +201,8 @@ shifted_by gs cs done at p next =
     let s : IsShifted p.right a a = stay_on done.above_to cs p.right p.told a
     (omega (arith, size, p.fits.3, below-append p.fits.0 p.fits.1))
     (λ c later e.
-    let t : Tell done.above_to (c ∷ later) p.right = subst (λ (ds : List Change). Tell done.above_to ds p.right) e p.told
+    let t : Tell done.above_to (c ∷ later) p.right = subst (λ
+    (ds : List Change). Tell done.above_to ds p.right) e p.told
     in
     let from : done.above_to ≤ c.from = tell_from done.above_to c later p.right t in
     let h : at < (after done c).below_to = next c later e in (

@@ -56,7 +56,8 @@ module _ (h : Height) where
   tail_in_order m (n ∷ ms) o = o.1
 
   run_there : (ms : List Mark) (i : ℕ) (d : Mark) → i < length ms
-      → AllByRecursion (λ m. Runs (spot_at h.edges.now h.at.now m)) ms → Runs (spot_at h.edges.now h.at.now (get_or ms i d))
+      → AllByRecursion (λ m. Runs (spot_at h.edges.now h.at.now m)) ms
+      → Runs (spot_at h.edges.now h.at.now (get_or ms i d))
   run_there [] i d l a = absurd (omega arith)
   run_there (m ∷ ms) zero d l a = a.0
   run_there (m ∷ ms) (suc i) d l a = run_there ms i d (omega arith) a.1
@@ -83,7 +84,8 @@ module _ (h : Height) where
       (passes_then_rises (edge_at h.edges.now m.name) h.at.now a.0) in
       (omega (arith, ints, r), passing_runs ms a.1)
 
-  runs_of : (ms : List Mark) → AllPass h.edges.now h.at.now ms → AllByRecursion (λ m. Runs (spot_at h.edges.now h.at.now m)) ms
+  runs_of : (ms : List Mark) → AllPass h.edges.now h.at.now ms
+      → AllByRecursion (λ m. Runs (spot_at h.edges.now h.at.now m)) ms
   runs_of ms a = passing_runs ms
       (recursion_from_All (λ m. passes_at (edge_at h.edges.now m.name) h.at.now ≡ true) ms a)
 
@@ -184,7 +186,8 @@ module _ (h : Height) (left right : ℤ) (s t : Stop) (ms : List Mark) (n m : �
           (rights.1 m d (omega arith) here) in
           let unit : pos 0 <ℤ pos 1 = omega (arith, ints) in
           let both : IsLower (across (whole_spot right h.at.now)) (across (whole_spot left h.at.now)) =
-          lower_chain (across (whole_spot right h.at.now)) (across at) (across (whole_spot left h.at.now)) unit runs unit
+          lower_chain (across (whole_spot right h.at.now)) (across at) (across
+          (whole_spot left h.at.now)) unit runs unit
           two one in
           let less : (left *ℤ h.at.now.d) ≤ℤ (right *ℤ h.at.now.d) = scaled_order left right h.at.now.d o p in
           omega (arith, ints, both, less)

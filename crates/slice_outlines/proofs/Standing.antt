@@ -75,8 +75,11 @@ names_in es [] [] z h = tt
 names_in es [] (b ∷ bs) z h = absurd z
 names_in es (m ∷ ms) [] z h = absurd z
 names_in es (m ∷ ms) ([] ∷ bs) z h = absurd z.0
-names_in es (m ∷ ms) ((k ∷ ks) ∷ bs) z h =
-    (subst (λ (n : ℕ). n < length es) (sym z.0) h.0, names_in es ms bs z.1 (back (λ k. k < length es) ks (concat bs) h.1))
+names_in es (m ∷ ms) ((k ∷ ks) ∷ bs) z h = (
+  subst (λ (n : ℕ). n < length es) (sym z.0) h.0,
+  names_in es ms bs z.1 (back (λ k. k < length es) ks
+      (concat bs) h.1),
+)
 
 pub names_there : (es : List LeafEdge) (ms : List Mark) (bs : List (List ℕ)) → AllZip (λ m b. IsNamed m.name b) ms bs
     → AreMembers es bs → AreThere es ms

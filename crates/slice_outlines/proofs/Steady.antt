@@ -38,7 +38,8 @@ pub no_flat : (es : List LeafEdge) (start : Spot) (p : Place) (later : List Plac
     → value_before (all_above later) false ≡ value_before (all_below later) false → flat_way es start p later ≡ []
 no_flat es start p [] e = refl
 no_flat es start p (q ∷ ps) e =
-    ap (λ (a : Bool). way_along a (value_before (all_below (q ∷ ps)) false) start q.at (position (covers p.at q.at) es)) e
+    ap (λ (a : Bool). way_along a (value_before (all_below (q ∷ ps)) false) start q.at (position
+    (covers p.at q.at) es)) e
     ∙ none_along (value_before (all_below (q ∷ ps)) false) start q.at (position (covers p.at q.at) es)
 
 -- ---- one strand

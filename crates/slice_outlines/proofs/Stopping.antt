@@ -49,7 +49,8 @@ sorted_by (s ∷ (t ∷ ss)) h =
     (omega (arith, ints), sorted_by (t ∷ ss) (λ k d b. h (suc k) d (omega arith)))
 
 pub sorted_from : (ss : List Stop) → IsSortedBy comes_left ss → AreSorted (spots_in ss)
-sorted_from ss h = sorted_by ss (λ k d b. let t : comes_left (get_or ss (k + 1) d) (get_or ss k d) ≡ false = h k d (omega arith) (omega arith) in rw add-one at t)
+sorted_from ss h = sorted_by ss (λ k d b. let t : comes_left (get_or ss (k + 1) d) (get_or ss k d) ≡ false = h k d
+    (omega arith) (omega arith) in rw add-one at t)
 
 -- ---- a sorted list without repeats
 left_then : (s t u : Spot) → Runs s → Runs t → Runs u → IsLeft s t → IsAtMost (across t) (across u)
@@ -108,7 +109,11 @@ all_there (s ∷ (t ∷ ss)) d c = by_test (is_left s t) refl (all_there (t ∷ 
         ∷ distinct_by is_left (t ∷ ss) else distinct_by is_left (t ∷ ss)))
         (s ∷ (t ∷ ss))
     by_test true e r = (inl refl, later (t ∷ ss) (distinct_by is_left (t ∷ ss)) r)
-    by_test false e r = let c0 = c.0 in (same_then (distinct_by is_left (t ∷ ss)) t s d.1.0 d.0 (distinct_all is_left (λ (s : Spot). pos 0 <ℤ pos s.run) (t ∷ ss) d.1) (omega (arith, ints)) r.0, r)
+    by_test false e r = let c0 = c.0 in (
+      same_then (distinct_by is_left (t ∷ ss)) t s d.1.0 d.0
+          (distinct_all is_left (λ (s : Spot). pos 0 <ℤ pos s.run) (t ∷ ss) d.1) (omega (arith, ints)) r.0,
+      r,
+    )
 
 -- ---- which spots a list has doesn't depend on its order
 one_at : (ts : List Spot) (k : ℕ) (d : Spot) → k < length ts → IsOneOf ts (get_or ts k d)

@@ -47,7 +47,8 @@ abbrev pub AreFlatsWithin : Level → ℤ → ℤ → List Flat → Type 0
 AreFlatsWithin l left right fs = AllByRecursion (λ f. IsWithin l left right (whole_spot f.left l)
     × IsWithin l left right (whole_spot f.right l)) fs
 
-part_inside : (h : Height) (left right : ℤ) (ms : List Mark) (from to : ℕ) → from ≤ to → LieBetween h left right ms from to
+part_inside : (h : Height) (left right : ℤ) (ms : List Mark) (from to : ℕ) → from ≤ to
+    → LieBetween h left right ms from to
     → AllPass h.edges.now h.at.now ms
     → AllByRecursion (IsWithin h.at.now left right) (mark_spots h.edges.now h.at.now (take (to - from) (drop from ms)))
 part_inside h left right ms from to o b p =
@@ -61,7 +62,8 @@ part_inside h left right ms from to o b p =
     × (IsLeft (whole_spot right l) (spot_at es l m) → ⊥))) part b.inside)
     (part_passes ms from (to - from) p)
   where
-    each : (xs : List Mark) → AllByRecursion (λ m. (IsLeft (spot_at h.edges.now h.at.now m) (whole_spot left h.at.now) → ⊥)
+    each : (xs : List Mark) → AllByRecursion (λ m. (IsLeft (spot_at h.edges.now h.at.now m)
+        (whole_spot left h.at.now) → ⊥)
         × (IsLeft (whole_spot right h.at.now) (spot_at h.edges.now h.at.now m) → ⊥)) xs
         → AllByRecursion (λ m. passes_at (edge_at h.edges.now m.name) h.at.now ≡ true) xs
         → AllByRecursion (IsWithin h.at.now left right) (mark_spots h.edges.now h.at.now xs)
@@ -69,7 +71,8 @@ part_inside h left right ms from to o b p =
     each (m ∷ xs) a q =
         let s : Spot = spot_at h.edges.now h.at.now m in (
           record {
-            at = edge_spot (edge_at h.edges.now m.name) h.at.now (passes_then_rises (edge_at h.edges.now m.name) h.at.now q.0);
+            at = edge_spot (edge_at h.edges.now m.name) h.at.now (passes_then_rises
+                (edge_at h.edges.now m.name) h.at.now q.0);
             from = not_left s (whole_spot left h.at.now) a.0.0;
             to = not_left (whole_spot right h.at.now) s a.0.1;
           },
@@ -87,7 +90,8 @@ flats_inside : (l : Level) (left right : ℤ) (fs : List Flat) → AreFlatsWithi
 flats_inside l left right [] a = tt
 flats_inside l left right (f ∷ fs) a = (a.0.0, (a.0.1, flats_inside l left right fs a.1))
 
-pub all_inside : (h : Height) (left right : ℤ) (ms : List Mark) (run : Run) (fs : List Flat) → IsRunOf h.below.now ms run
+pub all_inside : (h : Height) (left right : ℤ) (ms : List Mark) (run : Run) (fs : List Flat)
+    → IsRunOf h.below.now ms run
     → LieBetween h left right h.below.now run.below run.below_to → LieBetween h left right ms run.above run.above_to
     → AllPass h.edges.now h.at.now h.below.now → AllPass h.edges.now h.at.now ms → AreFlatsWithin h.at.now left right fs
     → AllByRecursion (IsWithin h.at.now left right) (stretch_spots h ms run fs)
@@ -117,7 +121,8 @@ flat_ends : (e : Edge) (l : Level) → is_flat_at e l ≡ true
 flat_ends e l h = rw h refl
 
 pub ends_there : (es : List LeafEdge) (l : Level) (k : ℕ) → k < length es → is_flat_at (edge_at es k) l ≡ true
-    → IsOneOf (spots_at es l) (whole_spot (edge_at es k).a.x l) × IsOneOf (spots_at es l) (whole_spot (edge_at es k).b.x l)
+    → IsOneOf (spots_at es l) (whole_spot (edge_at es k).a.x l)
+    × IsOneOf (spots_at es l) (whole_spot (edge_at es k).b.x l)
 ends_there [] l k o h = absurd (omega arith)
 ends_there (e ∷ es) l zero o h =
     let two = flat_ends e.edge l h in (
@@ -195,10 +200,12 @@ abbrev IsNoNext : List Spot → Spot → Type 0
 IsNoNext [] r = Unit {0}
 IsNoNext (s ∷ ss) r = HasSpot (s ∷ ss) r ⊎ IsNotRightOf r s
 
-module _ (h : Height) (left right : ℤ) (fb fs fa : List Flat) (flats : AreFlatsOn h.edges.now h.at.now (fb ++ (fs ++ fa)))
+module _ (h : Height) (left right : ℤ) (fb fs fa : List Flat) (flats : AreFlatsOn h.edges.now h.at.now (fb ++ (fs
+    ++ fa)))
     (before : AllByRecursion (λ f. IsLeft (whole_spot f.right h.at.now) (whole_spot left h.at.now)) fb)
     (behind : AllByRecursion (λ f. IsLeft (whole_spot right h.at.now) (whole_spot f.left h.at.now)) fa)
-    (each : AllByRecursion (IsFlatOf h.edges.now) fs) (on : AllByRecursion (LiesOn h.at.now) fs) (go : GoByLeft fs) where
+    (each : AllByRecursion (IsFlatOf h.edges.now) fs) (on : AllByRecursion (LiesOn h.at.now) fs)
+    (go : GoByLeft fs) where
   abbrev es : List LeafEdge
   es = h.edges.now
 
@@ -226,7 +233,8 @@ module _ (h : Height) (left right : ℤ) (fb fs fa : List Flat) (flats : AreFlat
       itself x = omega (arith, ints)
   not_among t r (u ∷ ss) ht hr a o (inr b) k = not_among t r ss ht hr a.1 o.1 b k
 
-  weak_all : (t : Spot) (ss : List Spot) → AllByRecursion (λ u. IsLeft t u) ss → AllByRecursion (λ u. IsNotRightOf t u) ss
+  weak_all : (t : Spot) (ss : List Spot) → AllByRecursion (λ u. IsLeft t u) ss
+      → AllByRecursion (λ u. IsNotRightOf t u) ss
   weak_all t [] a = tt
   weak_all t (u ∷ ss) a = (weakly t u a.0, weak_all t ss a.1)
 
@@ -277,7 +285,8 @@ module _ (h : Height) (left right : ℤ) (fb fs fa : List Flat) (flats : AreFlat
       → covers s.spot t.spot (get_or es k no_edge) ≡ true → HasNumber fs k
   one_of_them s t k e f hs ht o there c =
       let flat : is_flat_at (edge_at es k) l ≡ true =
-      subst (λ (m : Level). is_flat_at (edge_at es k) m ≡ true) e (and_parts (is_flat_at (edge_at es k) s.spot.at) _ c).0 in
+      subst (λ (m : Level). is_flat_at (edge_at es k) m ≡ true) e (and_parts (is_flat_at
+      (edge_at es k) s.spot.at) _ c).0 in
       elim (number_split fb (fs ++ fa) k (flats.all k there flat)) [
         | inl a ↦
             let x = found es (λ f. IsLeft (whole_spot f.right l) (whole_spot left l)) fb k a
@@ -308,8 +317,10 @@ module _ (h : Height) (left right : ℤ) (fb fs fa : List Flat) (flats : AreFlat
             subst (λ (m : Level). IsLeft s.spot (whole_spot x.right m)) e r.1,
           )
 
-  tell : (ss : List Stop) → AllByRecursion (λ s. s.spot.at ≡ l) ss → AllByRecursion (IsWithin l left right) (spots_in ss)
-      → GoRight (spots_in ss) → AllByRecursion (λ f. IsNoNext (spots_in ss) (whole_spot f.right l)) fs → TellWays es fs ss
+  tell : (ss : List Stop) → AllByRecursion (λ s. s.spot.at ≡ l) ss
+      → AllByRecursion (IsWithin l left right) (spots_in ss)
+      → GoRight (spots_in ss) → AllByRecursion (λ f. IsNoNext (spots_in ss) (whole_spot f.right l)) fs
+      → TellWays es fs ss
   tell [] e a g n = tt
   tell (s ∷ []) e a g n = tt
   tell (s ∷ (t ∷ ss)) e a g n = (

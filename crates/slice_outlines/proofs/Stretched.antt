@@ -41,7 +41,8 @@ record IsAt (l : Level) (s : Spot) : Type 0 where
   at : s.at ≡ l
   within : IsSpotWithin coordinate_limit s
 
-whole_at : (x : ℤ) (l : Level) → unsigned_abs x ≤ coordinate_limit → IsLevelWithin coordinate_limit l → IsAt l (whole_spot x l)
+whole_at : (x : ℤ) (l : Level) → unsigned_abs x ≤ coordinate_limit → IsLevelWithin coordinate_limit l
+    → IsAt l (whole_spot x l)
 whole_at x l h v =
     let b = weighed coordinate_limit x l.d h in
     record {
@@ -97,7 +98,8 @@ stops_at h ms run fs ss pb pa a =
       rightwards = a.rightwards;
     }
   where
-    ats : (ss : List Stop) → AllByRecursion (λ s. IsAt h.at.now s.spot) ss → AllByRecursion (λ s. s.spot.at ≡ h.at.now) ss
+    ats : (ss : List Stop) → AllByRecursion (λ s. IsAt h.at.now s.spot) ss
+        → AllByRecursion (λ s. s.spot.at ≡ h.at.now) ss
     ats [] a = tt
     ats (s ∷ ss) a = (a.0.at, ats ss a.1)
 
@@ -129,7 +131,8 @@ strands_at h ms run fs ss a =
     let lows : List Mark = take (run.below_to - run.below) (drop run.below h.below.now) in
     let ups : List Mark = take (run.above_to - run.above) (drop run.above ms) in
     all_append (λ m. HasSpot ss (spot_at es l m)) lows ups
-    (of_marks es l (HasSpot ss) lows (all_front (HasSpot ss) (mark_spots es l lows) (mark_spots es l ups ++ flat_spots l fs)
+    (of_marks es l (HasSpot ss) lows (all_front (HasSpot ss) (mark_spots es l lows) (mark_spots es l ups
+    ++ flat_spots l fs)
     a.complete))
     (of_marks es l (HasSpot ss) ups (all_front (HasSpot ss) (mark_spots es l ups) (flat_spots l fs)
     (all_back (HasSpot ss) (mark_spots es l lows) (mark_spots es l ups ++ flat_spots l fs) a.complete)))
@@ -152,11 +155,13 @@ same_stretch h ms ns run fs e =
     let l : Level = h.at.now in
     let lows : List Mark = take (run.below_to - run.below) (drop run.below h.below.now) in
     ap (λ (ss : List Spot). mark_spots es l lows ++ (ss ++ flat_spots l fs))
-    (spots_by es l (take (run.above_to - run.above) (drop run.above ms)) (take (run.above_to - run.above) (drop run.above ns))
+    (spots_by es l (take (run.above_to - run.above) (drop run.above ms)) (take (run.above_to - run.above)
+    (drop run.above ns))
     (part_names ms ns run.above (run.above_to - run.above) e))
 
 -- with another cursor that stands there, and the same edges
-pub with_cursor : (on : Onwards) (passed spots : List Spot) (run : Run) (n m : ℕ) (course : Option Course) (ms : List Mark)
+pub with_cursor : (on : Onwards) (passed spots : List Spot) (run : Run) (n m : ℕ) (course : Option Course)
+    (ms : List Mark)
     (given given' : List Edge) (c d : Cursor) → given' ≡ given
     → StandsOn on.height.edges.now on.shape (bundles_in on.height.front.now) d
     → HasComeOver on passed spots run n m course ms given c → HasComeOver on passed spots run n m course ms given' d
@@ -173,7 +178,8 @@ with_cursor on passed spots run n m course ms given given' c d e s h = record {
   met = h.met;
   named = h.named;
   valued = h.valued;
-  edges = subst (λ (es : List Edge). IsPermutation (on.given ++ rounded_edges (pieces_of (all_closed h.places))) es) (sym e)
+  edges = subst (λ (es : List Edge). IsPermutation (on.given ++ rounded_edges (pieces_of (all_closed h.places))) es)
+      (sym e)
       h.edges;
   stands = s;
 }

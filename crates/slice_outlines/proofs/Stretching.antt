@@ -208,7 +208,8 @@ module _ (h : Height) (left right : ℤ) (o : IsNotRightOf (whole_spot left h.at
     past_right xs t.1 a.1,
   )
 
-  past_left : (xs : List Mark) → AllByRecursion (Meet (IsSpotAt h.at.now)) xs → AllByRecursion (Meet (λ s. IsLeft s L)) xs
+  past_left : (xs : List Mark) → AllByRecursion (Meet (IsSpotAt h.at.now)) xs
+      → AllByRecursion (Meet (λ s. IsLeft s L)) xs
       → AllByRecursion (Meet (λ s. IsNotRightOf s R)) xs
   past_left [] t a = tt
   past_left (m ∷ xs) t a = (
@@ -291,7 +292,8 @@ module _ (h : Height) (cs : List Change) (fs : List Flat) (old : Open)
   -- the first is the leftmost of all that are left
   lefts : AllByRecursion (λ f. first.left ≤ℤ f.left) (drop from fs)
   lefts =
-      let go : GoByLeft (first ∷ drop (from + 1) fs) = subst GoByLeft st.first_is (go_drop from fs w.flats.rightwards) in
+      let go : GoByLeft (first ∷ drop (from + 1) fs) = subst GoByLeft st.first_is
+      (go_drop from fs w.flats.rightwards) in
       subst (AllByRecursion (λ f. first.left ≤ℤ f.left)) (sym st.first_is) (omega (arith, ints), go.0)
 
   flats_within : AreFlatsWithin l first.left right fl
@@ -344,7 +346,8 @@ module _ (h : Height) (cs : List Change) (fs : List Flat) (old : Open)
     )
 
     groups_by : (gs : List Group) → AllByRecursion (IsPlaced h) gs
-        → AllByRecursion (λ g. IsNotRightOf (at_group h g) cut) gs → AllByRecursion (λ g. IsNotRightOf (at_group h g) B) gs
+        → AllByRecursion (λ g. IsNotRightOf (at_group h g) cut) gs
+        → AllByRecursion (λ g. IsNotRightOf (at_group h g) B) gs
     groups_by [] p a = tt
     groups_by (g ∷ gs) p a = (
       weakly (at_group h g) B (by_then_left l (at_group h g) cut B p.0.at c.at (whole_at l right) a.0
@@ -458,7 +461,8 @@ module _ (h : Height) (cs : List Change) (fs : List Flat) (old : Open)
         → AreStopsOf (stretch_spots h mid.marks.items run fl) (spots_in stops) → TellWays es fl stops
     tells stops a b =
         let all : AreFlatsOn es l (take from fs ++ (fl ++ drop to fs)) =
-        subst (λ (gs : List Flat). AreFlatsOn es l (take from fs ++ gs)) (sym parted) (flats_parted h cs fs old w from) in
+        subst (λ (gs : List Flat). AreFlatsOn es l (take from fs ++ gs)) (sym parted)
+        (flats_parted h cs fs old w from) in
         tell_ways h first.left right (take from fs) fl (drop to fs) all
         (flats_before f.left f.right f.cut f.is_cut (take from fs) f.is_cut.flats_before) flats_behind flats_of flats_on
         (go_take (to - from) (drop from fs) (go_drop from fs w.flats.rightwards)) mid.marks.items run stops inside a b
@@ -497,7 +501,8 @@ module _ (h : Height) (cs : List Change) (fs : List Flat) (old : Open)
     ats [] a = tt
     ats (s ∷ ss) a = (a.0.at, ats ss a.1)
 
-    froms : (ss : List Spot) → AllByRecursion (IsWithin l first.left right) ss → AllByRecursion (λ s. IsNotRightOf A s) ss
+    froms : (ss : List Spot) → AllByRecursion (IsWithin l first.left right) ss
+        → AllByRecursion (λ s. IsNotRightOf A s) ss
     froms [] a = tt
     froms (s ∷ ss) a = (a.0.from, froms ss a.1)
 
@@ -506,7 +511,8 @@ module _ (h : Height) (cs : List Change) (fs : List Flat) (old : Open)
     tos (s ∷ ss) a = (a.0.to, tos ss a.1)
 
     -- the stops of the stretch behind the spots that are passed
-    more_spots : (on : Onwards) (new : Open) (n m : ℕ) (r : IsReached on h n m f.cut (take from fs) mid) (ss : List Spot)
+    more_spots : (on : Onwards) (new : Open) (n m : ℕ) (r : IsReached on h n m f.cut (take from fs) mid)
+        (ss : List Spot)
         → AreStopsOf (stretch_spots h mid.marks.items run fl) ss
         → HasComeTo on (r.spots ++ ss) run.below_to run.above_to new
         → IsReached on h run.below_to run.above_to B (take to fs) new
@@ -570,7 +576,8 @@ module _ (h : Height) (cs : List Change) (fs : List Flat) (old : Open)
         (subst (λ (i : ℕ). IsBalancedBefore on.height on.shape (between i (length (all_above (f.left ++ t.xs)))))
         (below_is h cs fs old w from p mid f end t)
         (beside_as on h of.0 w.groups (f.left ++ t.xs) t.ys (take to fs) (drop to fs) B v of.1 w.above
-        (flats_parted h cs fs old w to) (whole_is h cs fs old w from p mid f end t ∙ sym (append_assoc f.left t.xs t.ys))
+        (flats_parted h cs fs old w to) (whole_is h cs fs old w from p mid f end t
+        ∙ sym (append_assoc f.left t.xs t.ys))
         (all_append (IsPlaced h) f.left t.xs (placed_left h cs fs old w from p mid f)
         (met_xs h cs fs old w from p mid f end t)) (met_ys h cs fs old w from p mid f end t) new_cut)) in
         let stand : StandsOn es on.shape (bundles_in h.front.now) mid.cursor = f.stands on.shape
@@ -578,7 +585,8 @@ module _ (h : Height) (cs : List Change) (fs : List Flat) (old : Open)
         let e = passes on r.spots of (subst (λ (y : Height). IsBalancedBefore y on.shape run) of.0 one) stand tells in
         let over = e.2 (part_reached on r.spots e.0 run mid st.run_of.above one two here) in
         more_spots on new n m r e.0 e.1 (group_past on (r.spots ++ e.0) run new
-        (without_course on (r.spots ++ e.0) run run.below_to run.above_to over.0 new.marks.items new.given.items new.cursor
+        (without_course on (r.spots ++ e.0) run run.below_to run.above_to over.0 new.marks.items new.given.items
+        new.cursor
         over.1))
 
     pub stretch_passed : (q : Passed) (new : Open) → PassesStretch new → KeepsRight run mid.marks.items new.marks.items
@@ -606,7 +614,8 @@ module _ (h : Height) (cs : List Change) (fs : List Flat) (old : Open)
           stands = λ shape s. stays shape (f.stands shape s);
           cut = B;
           is_cut = new_cut;
-          come = λ on of v start. subst (λ (j : ℕ). IsReached on h (length (all_below (f.left ++ t.xs))) j B (take to fs) new)
+          come = λ on of v start. subst (λ (j : ℕ). IsReached on h (length (all_below (f.left ++ t.xs))) j B
+              (take to fs) new)
               (sym above) (subst (λ (i : ℕ). IsReached on h i run.above_to B (take to fs) new) (sym below)
               (come_past new passes on of v start));
         }

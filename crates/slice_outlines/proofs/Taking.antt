@@ -85,7 +85,8 @@ change_step c cs g gs gone come t ms zero j e f s =
       there = omega (arith, come, length-append g.above (all_above gs));
       taken = λ ns a. subst (λ (xs : List Mark). AreTaken c.from (c ∷ cs) (g ∷ gs) xs
           (map new_mark (take c.come (g.above ++ all_above gs)) ++ ns)) (take-append-drop j ms)
-          (subst (λ (bs : List (List ℕ)). AreTaken c.from (c ∷ cs) (g ∷ gs) (take j ms ++ drop j ms) (map new_mark bs ++ ns)) (sym front)
+          (subst (λ (bs : List (List ℕ)). AreTaken c.from (c ∷ cs) (g ∷ gs) (take j ms ++ drop j ms)
+          (map new_mark bs ++ ns)) (sym front)
           (taken_changes c cs g gs (take j ms) (drop j ms) ns (omega (arith, first, f)) gone come a));
     }
 
@@ -101,11 +102,13 @@ all_stay : (n : ℕ) (gs : List Group) → Tell n [] gs → (ms : List Mark) →
 all_stay n gs (none m) [] s = taken_none n
 all_stay n gs (none m) (x ∷ ms) s = absurd (omega (arith, s))
 all_stay n gs (stays m ds b hs t) [] s = absurd (omega (arith, s))
-all_stay n gs (stays m ds b hs t) (x ∷ ms) s = taken_stays n [] b hs x ms ms (all_stay (n + 1) hs t ms (omega (arith, s)))
+all_stay n gs (stays m ds b hs t) (x ∷ ms) s = taken_stays n [] b hs x ms ms (all_stay (n + 1) hs t ms (omega
+    (arith, s)))
 
 -- ---- change after change
 -- these marks stand above what is passed; what else is taken comes behind them
-pub record AreTakenTo (all : List Change) (gs : List Group) (below : List Mark) (bs : List (List ℕ)) (cs : List Change) (passed : ℕ)
+pub record AreTakenTo (all : List Change) (gs : List Group) (below : List Mark) (bs : List (List ℕ))
+    (cs : List Change) (passed : ℕ)
     (above : List Mark) : Type 0 where
   pub right : List Group
   pub told : Tell (length above) cs right
@@ -128,13 +131,15 @@ none_taken below bs cs above e t = subst (AreTakenTo cs t.groups below bs cs 0) 
   taken = λ ns a. a;
 })
 
-pub here : (all : List Change) (gs : List Group) (below : List Mark) (bs : List (List ℕ)) (cs : List Change) (i passed : ℕ)
+pub here : (all : List Change) (gs : List Group) (below : List Mark) (bs : List (List ℕ)) (cs : List Change)
+    (i passed : ℕ)
     (above : List Mark) → i < length cs → AreTakenTo all gs below bs (drop i cs) passed above
     → AreTakenTo all gs below bs (get_or cs i no_change ∷ drop (i + 1) cs) passed above
 here all gs below bs cs i passed above o t =
     subst (λ (ds : List Change). AreTakenTo all gs below bs ds passed above) (drop_more cs i no_change o) t
 
-module _ (all : List Change) (gs : List Group) (below : List Mark) (bs : List (List ℕ)) (c : Change) (cs : List Change) (passed : ℕ)
+module _ (all : List Change) (gs : List Group) (below : List Mark) (bs : List (List ℕ)) (c : Change)
+    (cs : List Change) (passed : ℕ)
     (above : List Mark) (t : AreTakenTo all gs below bs (c ∷ cs) passed above) where
   from : length above ≤ c.from
   from = tell_from (length above) c cs t.right t.told
@@ -211,7 +216,8 @@ module _ (all : List Change) (gs : List Group) (below : List Mark) (bs : List (L
             subst (AreTaken 0 all gs below) same whole;
       }
 
-pub all_taken : (all : List Change) (gs : List Group) (below : List Mark) (bs : List (List ℕ)) (cs : List Change) (i passed : ℕ)
+pub all_taken : (all : List Change) (gs : List Group) (below : List Mark) (bs : List (List ℕ)) (cs : List Change)
+    (i passed : ℕ)
     (above new : List Mark) → length cs ≤ i → AreTakenTo all gs below bs (drop i cs) passed above
     → new ≡ above ++ drop passed below → AreTaken 0 all gs below new
 all_taken all gs below bs cs i passed above new o here e =

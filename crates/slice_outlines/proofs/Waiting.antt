@@ -139,14 +139,16 @@ none_left es l (m ∷ ms) h = absurd h.0
 pub all_behind : (h : Height) (s : Stop) (ms : List Mark) (i n : ℕ) → n ≤ length ms → AreInOrder h ms
     → AllPass h.edges.now h.at.now ms → (i < n → LiesRightOf h s (mark_at ms i))
     → AllByRecursion (λ m. IsLeft s.spot (spot_at h.edges.now h.at.now m)) (take (n - i) (drop i ms))
-all_behind h s ms i n b o a first = by_places (λ m. IsLeft s.spot (spot_at h.edges.now h.at.now m)) (take (n - i) (drop i ms))
+all_behind h s ms i n b o a first = by_places (λ m. IsLeft s.spot (spot_at h.edges.now h.at.now m)) (take (n - i)
+    (drop i ms))
     (λ k d q.
     let low : k < n - i = omega (arith, q, length-take (n - i) (drop i ms)) in
     let there : i + k < length ms = omega (arith, low, b) in
     subst (λ m. IsLeft s.spot (spot_at h.edges.now h.at.now m))
     (sym (get_or-take (n - i) (drop i ms) k d low ∙ get_or-drop i ms k d))
     (right_behind h s.spot ms s.runs o a i (i + k) (mark_at ms i) d (omega arith) there
-    (subst (λ m. IsLeft s.spot (spot_at h.edges.now h.at.now m)) (same_at_place ms i (mark_at ms i) (omega (arith, low, b)))
+    (subst (λ m. IsLeft s.spot (spot_at h.edges.now h.at.now m)) (same_at_place ms i (mark_at ms i) (omega
+    (arith, low, b)))
     (first (omega (arith, low))))))
   where
     same_at_place : (ms : List Mark) (i : ℕ) (d : Mark) → i < length ms → mark_at ms i ≡ get_or ms i d
@@ -159,7 +161,16 @@ shorter P ms i j n h a = by_places P (take (n - j) (drop j ms)) (λ k d q.
     let low : k < n - j = omega (arith, q, length-take (n - j) (drop j ms)) in
     let near : (j - i) + k < n - i = omega (arith, low, h) in
     let size : (j - i) + k < length (take (n - i) (drop i ms)) =
-    omega (arith, near, q, length-take (n - i) (drop i ms), length-take (n - j) (drop j ms), length-drop i ms, length-drop j ms) in
+    omega (
+      arith,
+      near,
+      q,
+      length-take (n - i) (drop i ms),
+      length-take (n - j)
+          (drop j ms),
+      length-drop i ms,
+      length-drop j ms,
+    ) in
     let back : i + ((j - i) + k) ≡ j + k = omega (arith, h) in
     subst P (get_or-take (n - i) (drop i ms) ((j - i) + k) d near ∙ get_or-drop i ms ((j - i) + k) d
     ∙ ap (λ (x : ℕ). get_or ms x d) back ∙ sym (get_or-take (n - j) (drop j ms) k d low ∙ get_or-drop j ms k d))
@@ -193,8 +204,10 @@ order_by_names h (m ∷ (k ∷ ms)) (n ∷ (j ∷ ns)) e o =
     let first : m.name ≡ n.name = cc in
     let rest : names_in (k ∷ ms) ≡ names_in (j ∷ ns) = cc in
     let second : k.name ≡ j.name = cc in (
-      subst (λ (x : ℕ). IsNotRightOf (spot_on (edge_at h.edges.now x) h.at.now) (spot_on (edge_at h.edges.now j.name) h.at.now)) first
-          (subst (λ (x : ℕ). IsNotRightOf (spot_on (edge_at h.edges.now m.name) h.at.now) (spot_on (edge_at h.edges.now x) h.at.now)) second o.0),
+      subst (λ (x : ℕ). IsNotRightOf (spot_on (edge_at h.edges.now x) h.at.now) (spot_on
+          (edge_at h.edges.now j.name) h.at.now)) first
+          (subst (λ (x : ℕ). IsNotRightOf (spot_on (edge_at h.edges.now m.name) h.at.now) (spot_on
+          (edge_at h.edges.now x) h.at.now)) second o.0),
       order_by_names h (k ∷ ms) (j ∷ ns) rest o.1,
     )
 
@@ -309,10 +322,14 @@ pub all_passed : (h : Height) (ms : List Mark) (run : Run) (fs : List Flat) (a :
 all_passed h ms run fs a w =
     let es : List LeafEdge = h.edges.now in
     let l : Level = h.at.now in
-    let low : length (take (a.run.below_to - a.below) (drop a.below h.below.now)) ≡ 0 = none_left es l (take (a.run.below_to - a.below) (drop a.below h.below.now)) w.below in
-    let up : length (take (a.run.above_to - a.above) (drop a.above ms)) ≡ 0 = none_left es l (take (a.run.above_to - a.above) (drop a.above ms)) w.above in (
-      none_more a.run.below_to a.below h.below.now w.within.below w.within.run.below_to low ∙ ap (λ (r : Run). r.below_to) w.run_is,
-      none_more a.run.above_to a.above ms w.within.above w.within.run.above_to up ∙ ap (λ (r : Run). r.above_to) w.run_is,
+    let low : length (take (a.run.below_to - a.below) (drop a.below h.below.now)) ≡ 0 = none_left es l (take
+    (a.run.below_to - a.below) (drop a.below h.below.now)) w.below in
+    let up : length (take (a.run.above_to - a.above) (drop a.above ms)) ≡ 0 = none_left es l (take
+    (a.run.above_to - a.above) (drop a.above ms)) w.above in (
+      none_more a.run.below_to a.below h.below.now w.within.below w.within.run.below_to low
+          ∙ ap (λ (r : Run). r.below_to) w.run_is,
+      none_more a.run.above_to a.above ms w.within.above w.within.run.above_to up
+          ∙ ap (λ (r : Run). r.above_to) w.run_is,
     )
 
 not_less : (n : ℕ) → nat_lt n n ≡ false
@@ -320,21 +337,25 @@ not_less n = grind arith
 
 -- the name of what leads on
 pub name_on : (h : Height) (ms ns : List Mark) (run : Run) (fs : List Flat) (s : Stop) (rest : List Stop) (a b : Along)
-    → TellWays h.edges.now fs (s ∷ rest) → IsStep h ms ns fs s a b → Waits h ms run fs (s ∷ rest) a → Waits h ns run fs rest b
+    → TellWays h.edges.now fs (s ∷ rest) → IsStep h ms ns fs s a b → Waits h ms run fs (s ∷ rest) a
+    → Waits h ns run fs rest b
     → IsNameTo h.edges.now s.spot (spots_in rest) b.live.items (value_over h a.run ms b.above)
     (left_of_first (drop b.below h.below.now) false)
 name_on h ms ns run fs s [] a b tell step w v =
     let all = all_passed h ns run fs b v in
     let same : nat_lt b.above a.run.above_to ≡ false = ap₂ nat_lt all.1 (ap (λ (r : Run). r.above_to) w.run_is)
     ∙ not_less run.above_to in
-    ap (λ (t : Bool). if t then (mark_at ms b.above).left else left_of_first (drop a.run.below_to h.below.now) false) same
+    ap (λ (t : Bool). if t then (mark_at ms b.above).left else left_of_first
+    (drop a.run.below_to h.below.now) false) same
     ∙ ap (λ (k : ℕ). left_of_first (drop k h.below.now) false) (ap (λ (r : Run). r.below_to) w.run_is ∙ sym all.0)
 name_on h ms ns run fs s (t ∷ rest) a b tell step w v =
     let first = w.live s (t ∷ rest) refl in
-    ap least (live_now s fs a b step.live first.0) ∙ tell.0 b.begun (begun_now s fs a b step.live first.1) step.live.later
+    ap least (live_now s fs a b step.live first.0)
+    ∙ tell.0 b.begun (begun_now s fs a b step.live first.1) step.live.later
 
 -- ---- the stops from one on
-tell_drop : (es : List LeafEdge) (fs : List Flat) (n : ℕ) (ss : List Stop) → TellWays es fs ss → TellWays es fs (drop n ss)
+tell_drop : (es : List LeafEdge) (fs : List Flat) (n : ℕ) (ss : List Stop) → TellWays es fs ss
+    → TellWays es fs (drop n ss)
 tell_drop es fs zero ss h = h
 tell_drop es fs (suc n) [] h = tt
 tell_drop es fs (suc zero) (s ∷ []) h = tt
@@ -399,7 +420,8 @@ first_waits h ms run fs ss a r o p all er eb ea en el =
       order = o;
       passing = p;
       below = subst (λ (q : Run). AllByRecursion H (take (q.below_to - a.below) (drop a.below h.below.now))) (sym er)
-          (subst (λ (k : ℕ). AllByRecursion H (take (run.below_to - k) (drop k h.below.now))) (sym eb) (front H lows ups all));
+          (subst (λ (k : ℕ). AllByRecursion H (take (run.below_to - k) (drop k h.below.now))) (sym eb)
+          (front H lows ups all));
       above = subst (λ (q : Run). AllByRecursion H (take (q.above_to - a.above) (drop a.above ms))) (sym er)
           (subst (λ (k : ℕ). AllByRecursion H (take (run.above_to - k) (drop k ms))) (sym ea) (back H lows ups all));
       live = λ s rest e. (

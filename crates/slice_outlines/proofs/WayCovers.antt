@@ -147,7 +147,8 @@ farther : (s : Spot) (l : Level) (x y : ℤ) → pos 0 <ℤ pos s.run → pos 0 
     → IsLeft s (whole_spot y l)
 farther s l x y rs d o h =
     let less : (x *ℤ l.d) ≤ℤ (y *ℤ l.d) = scaled_order x y l.d o d in
-    lower_then_at_most (across s) (across (whole_spot x l)) (across (whole_spot y l)) rs (whole_runs x l) (whole_runs y l) h
+    lower_then_at_most (across s) (across (whole_spot x l)) (across (whole_spot y l)) rs (whole_runs x l)
+    (whole_runs y l) h
     (omega (arith, ints, less))
 
 pub covers_by : (es : List LeafEdge) (f : Flat) (s t : Spot) → t.at ≡ s.at → pos 0 <ℤ s.at.d → pos 0 <ℤ pos s.run
@@ -177,7 +178,8 @@ covers_by es f s t same d rs rt h o c =
       subst (λ (x : ℤ). IsLeft s (whole_spot x s.at)) q.1 (right_of b k.1),
     )
     by_ends a b k (inr q) = absurd (k.0 (subst (λ (x : ℤ). IsLeft s (whole_spot x s.at)) (sym q.0)
-        (farther s s.at f.left f.right rs d h.order (subst (λ (x : ℤ). IsLeft s (whole_spot x s.at)) q.1 (right_of b k.1)))))
+        (farther s s.at f.left f.right rs d h.order (subst (λ (x : ℤ). IsLeft s (whole_spot x s.at)) q.1
+        (right_of b k.1)))))
 
 -- ---- those that are kept
 -- a flat edge of a height that begins by a stop, and ends neither between it and the next
@@ -195,11 +197,12 @@ each_covers es s t (f ∷ fs) m b k h = by_test (goes_on s f) refl h (each_cover
     by_test : (c : Bool) → goes_on s f ≡ c → HasNumber (cond c (f ∷ filter (goes_on s) fs) (filter (goes_on s) fs)) k
         → (HasNumber (filter (goes_on s) fs) k → (k < length es) × (covers s.spot t.spot (get_or es k no_edge) ≡ true))
         → (k < length es) × (covers s.spot t.spot (get_or es k no_edge) ≡ true)
-    by_test true e (inl q) r = subst (λ (n : ℕ). (n < length es) × (covers s.spot t.spot (get_or es n no_edge) ≡ true)) q (
-      m.0.is.there,
-      covers_from es f s.spot t.spot m.0.is m.0.on b.0
-          (m.0.aside (left_true s.spot (whole_spot f.right s.spot.at) e)),
-    )
+    by_test true e (inl q) r = subst (λ (n : ℕ). (n < length es)
+        × (covers s.spot t.spot (get_or es n no_edge) ≡ true)) q (
+          m.0.is.there,
+          covers_from es f s.spot t.spot m.0.is m.0.on b.0
+              (m.0.aside (left_true s.spot (whole_spot f.right s.spot.at) e)),
+        )
     by_test true e (inr q) r = r q
     by_test false e q r = r q
 
@@ -207,9 +210,11 @@ keeps_number : (es : List LeafEdge) (s t : Stop) (fs : List Flat) → t.spot.at 
     → pos 0 <ℤ pos s.spot.run → pos 0 <ℤ pos t.spot.run → IsLeft s.spot t.spot → AllByRecursion (MayLead es s t) fs
     → (k : ℕ) → covers s.spot t.spot (get_or es k no_edge) ≡ true → HasNumber fs k → HasNumber (filter (goes_on s) fs) k
 keeps_number es s t [] e d rs rt o m k c h = h
-keeps_number es s t (f ∷ fs) e d rs rt o m k c h = by_test (goes_on s f) refl h (keeps_number es s t fs e d rs rt o m.1 k c)
+keeps_number es s t (f ∷ fs) e d rs rt o m k c h = by_test (goes_on s f) refl h
+    (keeps_number es s t fs e d rs rt o m.1 k c)
   where
-    by_test : (b : Bool) → goes_on s f ≡ b → HasNumber (f ∷ fs) k → (HasNumber fs k → HasNumber (filter (goes_on s) fs) k)
+    by_test : (b : Bool) → goes_on s f ≡ b → HasNumber (f ∷ fs) k → (HasNumber fs k
+        → HasNumber (filter (goes_on s) fs) k)
         → HasNumber (cond b (f ∷ filter (goes_on s) fs) (filter (goes_on s) fs)) k
     by_test true g (inl q) r = inl q
     by_test true g (inr q) r = inr (r q)

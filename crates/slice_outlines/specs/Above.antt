@@ -19,8 +19,8 @@ pub record IsTold (below : List Mark) (above : List (List ℕ)) (cs : List Chang
   pub lower : length (all_below groups) ≡ length below
   pub upper : all_above groups ≡ above
 
--- marks of the strands above, as changes tell of them from a place among these strands on: those of strands that go on as
--- they are, and new ones for all others
+-- marks of the strands above, as changes tell of them from a place among these strands on: those of strands that go on
+-- as they are, and new ones for all others
 pub data AreTaken : ℕ → List Change → List Group → List Mark → List Mark → Type 0 where
   none : (n : ℕ) → AreTaken n [] [] [] []
   stays : (n : ℕ) (cs : List Change) (b : List ℕ) (gs : List Group) (m : Mark) (ms ns : List Mark)

@@ -42,9 +42,10 @@ AreMarksAt h g ms = AllByRecursion (λ m. IsSameSpot (spot_at h.edges.now h.at.n
     (first_spot h.edges.now h.at.now (all_at g))) ms
 
 -- ---- ahead of a place among the strands above a height
--- changes tell of these groups, and then of more that is to the right of them; the marks that lie ahead below the height
--- and above it are the same where a strand stays, and those of a group are at its spot
-pub data LieAhead (h : Height) (rest : List Change) : ℕ → List Change → List Group → List Mark → List Mark → Type 0 where
+-- changes tell of these groups, and then of more that is to the right of them; the marks that lie ahead below the
+-- height and above it are the same where a strand stays, and those of a group are at its spot
+pub data LieAhead (h : Height) (rest : List Change) : ℕ → List Change → List Group → List Mark → List Mark
+    → Type 0 where
   none : (m : ℕ) (lower upper : List Mark) → LieAhead h rest m rest [] lower upper
   stays : (m : ℕ) (cs : List Change) (b : List ℕ) (gs : List Group) (x : Mark) (lower upper : List Mark)
       → LieAhead h rest (m + 1) cs gs lower upper → LieAhead h rest m cs (staying b ∷ gs) (x ∷ lower) (x ∷ upper)

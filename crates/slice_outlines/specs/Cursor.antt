@@ -44,8 +44,8 @@ abbrev pub IsMetFromBelow : List Group → Type 0
 IsMetFromBelow [] = ⊤
 IsMetFromBelow (g ∷ gs) = g.below ≡ [] → ⊥
 
--- a place among the strands below a height is between two groups of it, and the other is that place above it, where all
--- groups that no strand comes to are to the left
+-- a place among the strands below a height is between two groups of it, and the other is that place above it; groups
+-- there that no strand comes to from below lie to the left
 pub record IsShifted (gs : List Group) (below above : ℕ) : Type 0 where
   pub left : List Group
   pub right : List Group

@@ -41,8 +41,8 @@ pub record AreFlatsOn (es : List LeafEdge) (l : Level) (fs : List Flat) : Type 0
   pub rightwards : GoByLeft fs
   pub all : (k : ℕ) → k < length es → is_flat_at (edge_at es k) l ≡ true → HasNumber fs k
 
--- changes tell of the groups of a height: those of the strands below it, of whose marks these above it are taken, and of
--- the front above, on which a cursor stands; and all its flat edges are at hand
+-- changes tell of the groups of a height: those of the strands below it, of whose marks these above it are taken, and
+-- of the front above, on which a cursor stands; and all its flat edges are at hand
 pub record IsAtLevel (h : Height) (ms : List Mark) (cs : List Change) (fs : List Flat) (c : Cursor) : Type 0 where
   pub groups : List Group
   pub are_groups : AreGroups h.edges.now h.at.now groups

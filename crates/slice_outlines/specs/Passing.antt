@@ -49,7 +49,8 @@ pub record IsCourseOf (w : Way) (c : Course) : Type 0 where
 abbrev pub going_on : List Course → List Course → Option Pt
 going_on [] ws = None
 going_on (v ∷ []) [] = None
-going_on (v ∷ []) (w ∷ []) = if (v.name == w.name) && cond v.forward w.forward (not w.forward) then Some v.from else None
+going_on (v ∷ []) (w ∷ []) = if (v.name == w.name) && cond v.forward w.forward
+    (not w.forward) then Some v.from else None
 going_on (v ∷ []) (w ∷ (x ∷ ws)) = None
 going_on (u ∷ (v ∷ vs)) ws = None
 

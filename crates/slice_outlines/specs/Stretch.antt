@@ -36,7 +36,8 @@ TellWays es fs (s ∷ (t ∷ ss)) = TellWay es fs s t × TellWays es fs (t ∷ s
 
 -- the strands of a stretch that are still to come are at the stops to come, and of the flat edges that have begun those
 -- that may go on from the next stop are there
-pub record Waits (h : Height) (ms : List Mark) (run : Run) (fs : List Flat) (later : List Stop) (a : Along) : Type 0 where
+pub record Waits (h : Height) (ms : List Mark) (run : Run) (fs : List Flat) (later : List Stop)
+    (a : Along) : Type 0 where
   pub run_is : a.run ≡ run
   pub within : IsWithinRun h ms a
   pub begun : a.begun ≤ length fs
@@ -51,7 +52,8 @@ pub record Waits (h : Height) (ms : List Mark) (run : Run) (fs : List Flat) (lat
 
 -- where the strands of a part of a height and the ends of flat edges are
 abbrev pub stretch_spots : Height → List Mark → Run → List Flat → List Spot
-stretch_spots h ms run fs = mark_spots h.edges.now h.at.now (take (run.below_to - run.below) (drop run.below h.below.now))
+stretch_spots h ms run fs = mark_spots h.edges.now h.at.now (take (run.below_to - run.below)
+    (drop run.below h.below.now))
     ++ (mark_spots h.edges.now h.at.now (take (run.above_to - run.above) (drop run.above ms)) ++ flat_spots h.at.now fs)
 
 -- the code has come to a stretch, once the values of its strands are found

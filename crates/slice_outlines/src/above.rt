@@ -8,8 +8,8 @@ use scad_geom::Pt;
 use slice_sweep::{Change, Front};
 use std::alloc::{AllocError, Global};
 
-/// Those of the strands below it, where they stay, with the names of those that come in place of the others. What else is
-/// said of these is to be found.
+/// Those of the strands below it, where they stay, with the names of those that come in place of the others. What else
+/// is said of these is to be found.
 pub(crate) fn marks_above(
     alloc: Global,
     below: &[Mark],

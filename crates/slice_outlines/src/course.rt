@@ -8,8 +8,8 @@ ghost use Rattle.slice_outlines.specs.Passing.{alone, or_none, going_on, edges_t
 use scad_geom::{Edge, Pt};
 use std::alloc::AllocError;
 
-/// A piece by its name, whether it runs as the sweep does, with the inside on its left, and the point, rounded, where the
-/// sweep came to it.
+/// A piece by its name, whether it runs as the sweep does, with the inside on its left, and the point, rounded, where
+/// the sweep came to it.
 #[derive(Clone, Copy, Debug)]
 pub(crate) struct Course {
     pub(crate) name: u32,

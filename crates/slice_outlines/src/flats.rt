@@ -70,7 +70,8 @@ fn flat_of(e: &Edge, number: u32) -> Flat
     requires within { IsEdgeWithin coordinate_limit e.now }
     requires flat { e.now.a.y ≡ e.now.b.y }
     ensures number { result.number ≡ number }
-    ensures is { (edges : List LeafEdge) → number < length edges → edge_at edges number ≡ e.now → IsFlatOf edges result }
+    ensures is { (edges : List LeafEdge) → number < length edges → edge_at edges number ≡ e.now
+        → IsFlatOf edges result }
 {
     if e.b.x < e.a.x {
         Flat {

@@ -4,8 +4,8 @@ ghost use Rattle.slice_outlines.specs.Marks.{left_of_first, begun_in};
 
 use scad_geom::Pt;
 
-/// The least number of a strand's edges, the shape's value to its left, and the point, rounded, where its piece began, if
-/// it has one.
+/// The least number of a strand's edges, the shape's value to its left, and the point, rounded, where its piece began,
+/// if it has one.
 #[derive(Clone, Copy, Debug)]
 pub(crate) struct Mark {
     pub(crate) name: u32,

@@ -20,12 +20,12 @@ use slice_loops::join;
 use slice_snap::cancel;
 use std::alloc::{AllocError, Global};
 
-/// The closed outlines of a shape over the leaves of an edge list, with the inside on their left: the pieces of its border
-/// are merged, their ends rounded to whole points, opposite edges cancel, and those left are joined to loops.
+/// The closed outlines of a shape over the leaves of an edge list, with the inside on their left: the pieces of its
+/// border are merged, their ends rounded to whole points, opposite edges cancel, and those left are joined to loops.
 ///
 /// Where no point of an edge lies within one half micrometre of a cell centre along both axes, they wind once round the
-/// centre if the shape holds it, and not at all round it if it doesn't. Each point of each of their sides lies less than
-/// one micrometre along both axes from a point hard by which the shape holds on one side and not on another.
+/// centre if the shape holds it, and not at all round it if it doesn't. Each point of each of their sides lies less
+/// than one micrometre along both axes from a point hard by which the shape holds on one side and not on another.
 ///
 /// It is refused exactly where there are more edges than the limit, and then where more than 2,000,000 pairs cross.
 pub fn outlines(

@@ -27,7 +27,8 @@ pub(crate) fn pass(
     flat_in: Option<Course>,
     flat_out: Option<Course>,
 ) -> Result<Pt, AllocError>
-    ensures from { IfOk result (λ p. p ≡ start_of place.now.at (ins_at place.now flat_in) (outs_at place.now flat_out)) }
+    ensures from { IfOk result (λ p. p ≡ start_of place.now.at (ins_at place.now flat_in)
+        (outs_at place.now flat_out)) }
     ensures given { OnOk result (given.new.items ≡ given.old.items
         ++ ended_at place.now.at (ins_at place.now flat_in) (outs_at place.now flat_out)) }
 {
@@ -63,7 +64,8 @@ fn end_strands(given: &mut Vec<Edge>, side: &Side<'_>, at: Pt) -> Result<(), All
     Ok(())
 }
 
-/// What lies to the right of a place, below the height and above it, the pieces along the height, and the place, rounded.
+/// What lies to the right of a place, below the height and above it, the pieces along the height, and the place,
+/// rounded.
 #[derive(Clone, Copy, Debug)]
 pub(crate) struct Beside {
     pub(crate) below: bool,

@@ -130,7 +130,8 @@ pub(crate) fn pass_stretch(
     requires above_order { AreInOrder height.now kept.old.marks.items }
     requires below_pass { AllPass height.now.edges.now height.now.at.now height.now.below.now }
     requires above_pass { AllPass height.now.edges.now height.now.at.now kept.old.marks.items }
-    ensures passed { (on : Onwards) (passed : List Spot) → IsOf height.now on → IsBalancedBefore height.now on.shape run.now
+    ensures passed { (on : Onwards) (passed : List Spot) → IsOf height.now on
+        → IsBalancedBefore height.now on.shape run.now
         → StandsOn height.now.edges.now on.shape (bundles_in height.now.front.now) kept.old.cursor
         → ((stops : List Stop) → AreStopsAt height.now stops
         → AreStopsOf (stretch_spots height.now kept.old.marks.items run.now flats.now) (spots_in stops)

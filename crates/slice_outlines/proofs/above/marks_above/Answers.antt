@@ -62,7 +62,8 @@ changes-preserved c = record { within = (next c c.requires.told).within; taken =
 
 pub returns : goal.returns
 returns c t =
-    all_taken c.args.changes.now t.groups c.args.below.now (bundles_in c.args.front.now) c.args.changes.now c.changes.change-index
+    all_taken c.args.changes.now t.groups c.args.below.now
+    (bundles_in c.args.front.now) c.args.changes.now c.changes.change-index
     c.changes.passed c.changes.above.items c.extend_from_slice.new.self.items c.changes-test.false
     (c.changes.invariant.taken t)
     (c.in_ok-extend_from_slice.ensures.items

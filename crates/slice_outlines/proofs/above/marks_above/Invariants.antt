@@ -8,5 +8,6 @@ abbrev pub invariant-changes : goal.invariant-changes
 invariant-changes l = record {
   within : l.passed ≤ length l.below;
   taken : (t : IsTold l.below (bundles_in l.front) l.changes)
-      → AreTakenTo l.changes t.groups l.below (bundles_in l.front) (drop l.change-index l.changes) l.passed l.above.items;
+      → AreTakenTo l.changes t.groups l.below (bundles_in l.front)
+      (drop l.change-index l.changes) l.passed l.above.items;
 }

@@ -15,6 +15,7 @@ returns c =
       all = subst (λ (ks : List ℕ). IsPermutation ks (numbers_of new)) c.in_ok-out.ensures.all
           (IsPermutation-map (λ (f : Flat). f.number) old new c.in_ok-sort.ensures.permutation);
       each = recursion_from_All (IsFlatOf c.args.edges.now) new
-          (All-permutation (IsFlatOf c.args.edges.now) old new c.in_ok-sort.ensures.permutation c.in_ok-out.ensures.each);
+          (All-permutation (IsFlatOf c.args.edges.now) old new c.in_ok-sort.ensures.permutation
+          c.in_ok-out.ensures.each);
       sorted = c.in_ok-sort.ensures.sorted;
     }

@@ -10,7 +10,8 @@ pub flats-init : goal.flats-init
 flats-init c = record {
   from = omega arith;
   to = c.requires.from;
-  on = subst (All (LiesOn c.args.at.now)) (sym (part_none c.args.flats.now c.args.from)) (All-nil (LiesOn c.args.at.now));
+  on = subst (All (LiesOn c.args.at.now)) (sym (part_none c.args.flats.now c.args.from)) (All-nil
+      (LiesOn c.args.at.now));
 }
 
 pub flats-preserved : goal.flats-preserved

@@ -24,4 +24,5 @@ returns-else-has_below c =
     named_above c.args.height.now c.args.kept.now.marks.items c.args.run.now c.requires.group c.requires.pass_below
     c.requires.pass_above c.requires.there_below c.requires.there_above c.name_at-else-has_below.result
     (c.has_below.ensures.none c.if-has_below.false)
-    (c.name_at-else-has_below.ensures ∙ ap (λ (ms : List Mark). (mark_at ms c.args.run.now.above).name) c.deref.ensures.value)
+    (c.name_at-else-has_below.ensures
+    ∙ ap (λ (ms : List Mark). (mark_at ms c.args.run.now.above).name) c.deref.ensures.value)

@@ -10,7 +10,8 @@ use Rattle.slice_outlines.proofs.Passage.{past_none, past_more, has_passed, all_
 use Rattle.slice_outlines.proofs.groups.pass_groups.Goals as goal
 
 pub changes-init : goal.changes-init
-changes-init c = λ w. past_none c.args.height.now c.args.changes.now c.args.limit.now c.args.kept.now c.args.passed.now w
+changes-init c = λ w. past_none c.args.height.now c.args.changes.now c.args.limit.now c.args.kept.now
+    c.args.passed.now w
     c.requires.behind
 
 pub after-run-requires-clause-later : goal.after-run-requires-clause-later
@@ -44,7 +45,8 @@ pass_group-requires-clause-group c =
     let limit = c.args.limit.now in
     let left = left_by r.below_to limit.below r.above_to limit.above c.is_left.result c.is_left.ensures
     c.if-not-is_left.false in
-    let next = next_at h ms cs c.changes.passed limit past.ahead r c.changes-test.true c.after-run.ensures left.0 left.1 in
+    let next = next_at h ms cs c.changes.passed limit past.ahead r c.changes-test.true c.after-run.ensures left.0
+    left.1 in
     group_there h ms cs c.changes.passed limit past.ahead next.0 r next.1
 
 pub pass_group-requires-clause-pass_above : goal.pass_group-requires-clause-pass_above
@@ -95,7 +97,8 @@ returns-then-not-is_left-clause-next c = λ w.
     let end = end_at c.args.height.now c.changes.kept.marks.items c.args.changes.now c.changes.passed limit past.ahead r
     c.changes-test.true c.after-run.ensures (not_left_by r.below_to limit.below r.above_to limit.above c.is_left.result
     c.is_left.ensures c.if-not-is_left.true) in
-    has_passed c.args.height.now c.args.changes.now c.args.limit.now c.args.kept.now c.args.passed.now w c.changes.passed
+    has_passed c.args.height.now c.args.changes.now c.args.limit.now c.args.kept.now c.args.passed.now w
+    c.changes.passed
     c.changes.kept past end
 
 pub returns-clause-passed : goal.returns-clause-passed
@@ -111,5 +114,6 @@ returns-clause-next c = λ w.
     let past = c.changes.invariant w in
     let end = end_past c.args.height.now c.changes.kept.marks.items c.args.changes.now c.changes.passed c.args.limit.now
     past.ahead c.changes-test.false in
-    has_passed c.args.height.now c.args.changes.now c.args.limit.now c.args.kept.now c.args.passed.now w c.changes.passed
+    has_passed c.args.height.now c.args.changes.now c.args.limit.now c.args.kept.now c.args.passed.now w
+    c.changes.passed
     c.changes.kept past end

@@ -25,7 +25,8 @@ changes-preserved c =
           c.after-run.ensures;
       skipped = skip_more c.args.changes.now (between limit.below_to limit.above_to) c.args.passed.now c.changes.passed
           (record { count = c.changes.passed.count + 1; last = r }) r c.changes-test.true c.after-run.ensures
-          (not_left_by limit.below_to r.below limit.above_to r.above c.is_right.result c.is_right.ensures c.if-is_right.false)
+          (not_left_by limit.below_to r.below limit.above_to r.above c.is_right.result c.is_right.ensures
+          c.if-is_right.false)
           refl refl c.changes.invariant.skipped;
     }
 
@@ -41,7 +42,8 @@ returns-then-is_right-clause-next c = λ h ms w.
     let right = left_by limit.below_to r.below limit.above_to r.above c.is_right.result c.is_right.ensures
     c.if-is_right.true in
     all_skipped cs limit c.args.passed.now c.changes.passed h ms w b.0 b.1
-    (skip_end h ms cs c.changes.passed (between limit.below_to limit.above_to) b.0 r c.changes-test.true c.after-run.ensures
+    (skip_end h ms cs c.changes.passed
+    (between limit.below_to limit.above_to) b.0 r c.changes-test.true c.after-run.ensures
     right.0 right.1)
 
 pub returns-clause-behind : goal.returns-clause-behind

@@ -27,7 +27,8 @@ returns c =
     c.in_ok-left.ensures.left in
     IfOk-weaker c.join.result (λ v. AreOutlines c.deref-2.result.now v.items)
     (λ v. AreOutlinesOf c.args.edges.now c.args.shape.now v.items)
-    (λ v h. merged_edges_make_outlines c.args.edges.now c.args.shape.now c.in_ok-given.given.items c.in_ok-left.left.items
+    (λ v h. merged_edges_make_outlines c.args.edges.now c.args.shape.now c.in_ok-given.given.items
+    c.in_ok-left.left.items
     v.items c.in_ok-given.ensures cancelled
     (subst (λ (es : List Edge). AreOutlines es v.items) c.deref-2.ensures.value h))
     c.join.ensures

@@ -39,5 +39,6 @@ marks-preserved c =
       order = low;
       bound = omega (arith, there);
       before = c.marks.invariant.before;
-      behind = λ k d a b q. right (left_before h s.spot ms s.runs c.requires.order c.requires.pass mid k no_mark d a b q);
+      behind = λ k d a b q. right (left_before h s.spot ms s.runs c.requires.order c.requires.pass mid k no_mark d a
+          b q);
     }

@@ -22,7 +22,8 @@ returns-clause-passed c = λ on passed later of name come.
     let across : MeetAcross h marks run s = meet_across h marks a run c.args.s.now c.requires.at
     c.run_at-run.ensures.below c.run_at-run.ensures.above c.run_at-run.ensures.below_to c.run_at-run.ensures.above_to
     c.requires.below_pass c.requires.above_pass c.requires.next c.run_at-run.ensures.by in
-    let round : RoundAlike h marks run s = round_alike h marks a run c.args.s.now c.requires.at c.run_at-run.ensures.below
+    let round : RoundAlike h marks run s = round_alike h marks a run c.args.s.now c.requires.at
+    c.run_at-run.ensures.below
     c.run_at-run.ensures.above c.run_at-run.ensures.below_to c.run_at-run.ensures.above_to c.requires.below_pass
     c.requires.above_pass c.requires.next c.run_at-run.ensures.by in
     c.in_ok-pass_run.ensures.passed on passed later of round across

@@ -22,9 +22,11 @@ stops-init c =
       names = refl;
       right = refl;
       cursor = refl;
-      waits = first_waits c.args.height.now kept.marks.items run c.args.flats.now ss _ c.requires.run c.requires.above_order
+      waits = first_waits c.args.height.now kept.marks.items run c.args.flats.now ss _ c.requires.run
+          c.requires.above_order
           c.requires.above_pass c.requires.strands refl refl refl refl c.new.ensures.items;
-      passed = λ on passed of tell come. subst (λ (ps : List Spot). HasComeOver on ps (spots_in ss) run run.below run.above None
+      passed = λ on passed of tell come. subst (λ (ps : List Spot). HasComeOver on ps
+          (spots_in ss) run run.below run.above None
           kept.marks.items kept.given.items kept.cursor) (sym (append-nil passed)) come;
     }
 
@@ -95,7 +97,8 @@ stops-preserved c =
       begun = c.in_ok-pass_stop.ensures.begun;
       live = c.in_ok-pass_stop.ensures.live;
     } in
-    let later : Waits h ns run fs rest b = wait_on h ms ns run fs s rest a b c.requires.below_order c.requires.below_pass
+    let later : Waits h ns run fs rest b = wait_on h ms ns run fs s rest a b c.requires.below_order
+    c.requires.below_pass
     from.at from.right step waits in
     record {
       names = c.in_ok-pass_stop.ensures.names ∙ c.stops.invariant.names;
@@ -109,7 +112,8 @@ stops-preserved c =
           (c.stops.invariant.passed on passed of tell come) in
           let name = name_on h ms ns run fs s rest a b (from.tell tell) step waits later in
           subst (λ (ps : List Spot). HasComeAlong on ps (spots_in rest) b new)
-          (append_assoc passed (spots_in (take i ss)) (s.spot ∷ []) ∙ ap (λ (us : List Spot). passed ++ us) (sym from.more))
+          (append_assoc passed (spots_in (take i ss)) (s.spot ∷ [])
+          ∙ ap (λ (us : List Spot). passed ++ us) (sym from.more))
           (c.in_ok-pass_stop.ensures.passed on done (spots_in rest) of name before);
     }
 
@@ -127,9 +131,11 @@ returns c = record {
       let kept = c.stops.kept in
       let ms : List Mark = kept.marks.items in
       let none : drop i ss ≡ [] = drop_all i ss c.stops-test.false in
-      let w : Waits h ms run fs [] a = subst (λ (ts : List Stop). Waits h ms run fs ts a) none c.stops.invariant.waits in
+      let w : Waits h ms run fs [] a = subst (λ
+      (ts : List Stop). Waits h ms run fs ts a) none c.stops.invariant.waits in
       let all = all_passed h ms run fs a w in
-      let end = subst (λ (ts : List Stop). HasComeAlong on (passed ++ spots_in ts) [] a kept) (take_all i ss c.stops-test.false)
+      let end = subst (λ (ts : List Stop). HasComeAlong on (passed ++ spots_in ts) [] a kept)
+      (take_all i ss c.stops-test.false)
       (subst (λ (ts : List Stop). HasComeAlong on (passed ++ spots_in (take i ss)) (spots_in ts) a kept) none
       (c.stops.invariant.passed on passed of tell come)) in (
         a.flat,

@@ -16,5 +16,6 @@ invariant-stops l = record {
   passed : (on : Onwards) (passed : List Spot) → IsOf l.height on → TellWays l.height.edges.now l.flats l.stops
       → HasComeOver on passed (spots_in l.stops) l.run l.run.below l.run.above None l.fn.kept.marks.items
       l.fn.kept.given.items l.fn.kept.cursor
-      → HasComeAlong on (passed ++ spots_in (take l.s-index l.stops)) (spots_in (drop l.s-index l.stops)) l.along l.kept;
+      → HasComeAlong on (passed ++ spots_in (take l.s-index l.stops)) (spots_in
+      (drop l.s-index l.stops)) l.along l.kept;
 }

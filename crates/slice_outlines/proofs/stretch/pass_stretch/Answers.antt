@@ -58,14 +58,16 @@ returns c = record {
       let alike : stretch_spots h old run fs ≡ stretch_spots h mid run fs = same_stretch h old mid run fs names in
       let valued = subst (λ (x : Height). AreValuedIn x on.shape run mid) (sym of.0)
       (c.find_values.ensures.values on.shape balanced stands) in
-      let stand = subst (λ (x : Height). StandsOn x.edges.now on.shape (bundles_in x.front.now) c.find_values.new.kept.cursor)
+      let stand = subst (λ (x : Height). StandsOn x.edges.now on.shape
+      (bundles_in x.front.now) c.find_values.new.kept.cursor)
       (sym of.0) (c.find_values.ensures.stands on.shape stands) in
       let same : c.find_values.new.kept.given.items ≡ given = rw c.find_values.ensures.given refl in
       let e = c.in_ok-pass_places.ensures.passed on passed of (λ stops at all.
       tells stops at (subst (λ (ts : List Spot). AreStopsOf ts (spots_in stops)) (sym alike) all)) in (
         e.0,
         subst (λ (ts : List Spot). AreStopsOf ts e.0) (sym alike) e.1,
-        λ reached. e.2 (with_cursor on passed e.0 run run.below run.above None mid given c.find_values.new.kept.given.items
+        λ reached. e.2 (with_cursor on passed e.0 run run.below run.above None mid given
+            c.find_values.new.kept.given.items
             c.args.kept.now.cursor c.find_values.new.kept.cursor same stand
             (reached mid c.find_values.ensures.rest valued)),
       );

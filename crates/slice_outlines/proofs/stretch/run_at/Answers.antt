@@ -13,5 +13,6 @@ returns-clause-by c =
     let a = c.args.along.now in
     All-append (λ m. LiesRightOf h s m → ⊥) (take (c.strands_to.result - a.below) (drop a.below h.below.now))
     (take (c.strands_to-2.result - a.above) (drop a.above c.args.kept.now.marks.items)) c.strands_to.ensures.passed
-    (subst (λ (ms : List Mark). All (λ m. LiesRightOf h s m → ⊥) (take (c.strands_to-2.result - a.above) (drop a.above ms)))
+    (subst (λ (ms : List Mark). All (λ m. LiesRightOf h s m
+    → ⊥) (take (c.strands_to-2.result - a.above) (drop a.above ms)))
     c.deref.ensures.value c.strands_to-2.ensures.passed)

@@ -93,7 +93,8 @@ pass_groups-requires-clause-ahead c =
     let run = c.run_between-run.result in
     let st = stretch_by h fs from j.result.to one j.result.right _ _ run now.marks.items c.deref.result.now
     c.stretches-test.true c.index-flats-from.is j.ensures.from j.ensures.to j.ensures.joined j.ensures.next
-    c.deref.ensures.value (left_cast c.args.flats.now c.stretches.from one c.index-flats-from.is) (whole_cast j.result.right j.ensures.size)
+    c.deref.ensures.value (left_cast c.args.flats.now c.stretches.from one c.index-flats-from.is)
+    (whole_cast j.result.right j.ensures.size)
     c.run_between-run.ensures.run c.run_between-run.ensures.below c.run_between-run.ensures.above in
     let pm = now_pass h cs fs old w from p now f in
     let t = to_stretch h cs fs old w from j.result.to one j.result.right run now.marks.items st pm p now f refl in
@@ -115,7 +116,8 @@ pass_stretch-requires-clause-stands c =
     let run = c.run_between-run.result in
     let st = stretch_by h fs from j.result.to one j.result.right _ _ run now.marks.items c.deref.result.now
     c.stretches-test.true c.index-flats-from.is j.ensures.from j.ensures.to j.ensures.joined j.ensures.next
-    c.deref.ensures.value (left_cast c.args.flats.now c.stretches.from one c.index-flats-from.is) (whole_cast j.result.right j.ensures.size)
+    c.deref.ensures.value (left_cast c.args.flats.now c.stretches.from one c.index-flats-from.is)
+    (whole_cast j.result.right j.ensures.size)
     c.run_between-run.ensures.run c.run_between-run.ensures.below c.run_between-run.ensures.above in
     let pm = now_pass h cs fs old w from p now f in
     let t = to_stretch h cs fs old w from j.result.to one j.result.right run now.marks.items st pm p now f refl in
@@ -142,7 +144,8 @@ pass_stretch-requires-clause-size c =
     let run = c.run_between-run.result in
     let st = stretch_by h fs from j.result.to one j.result.right _ _ run now.marks.items c.deref.result.now
     c.stretches-test.true c.index-flats-from.is j.ensures.from j.ensures.to j.ensures.joined j.ensures.next
-    c.deref.ensures.value (left_cast c.args.flats.now c.stretches.from one c.index-flats-from.is) (whole_cast j.result.right j.ensures.size)
+    c.deref.ensures.value (left_cast c.args.flats.now c.stretches.from one c.index-flats-from.is)
+    (whole_cast j.result.right j.ensures.size)
     c.run_between-run.ensures.run c.run_between-run.ensures.below c.run_between-run.ensures.above in
     let pm = now_pass h cs fs old w from p now f in
     let t = to_stretch h cs fs old w from j.result.to one j.result.right run now.marks.items st pm p now f refl in
@@ -169,7 +172,8 @@ pass_stretch-requires-clause-run c =
     let run = c.run_between-run.result in
     let st = stretch_by h fs from j.result.to one j.result.right _ _ run now.marks.items c.deref.result.now
     c.stretches-test.true c.index-flats-from.is j.ensures.from j.ensures.to j.ensures.joined j.ensures.next
-    c.deref.ensures.value (left_cast c.args.flats.now c.stretches.from one c.index-flats-from.is) (whole_cast j.result.right j.ensures.size)
+    c.deref.ensures.value (left_cast c.args.flats.now c.stretches.from one c.index-flats-from.is)
+    (whole_cast j.result.right j.ensures.size)
     c.run_between-run.ensures.run c.run_between-run.ensures.below c.run_between-run.ensures.above in
     let pm = now_pass h cs fs old w from p now f in
     let t = to_stretch h cs fs old w from j.result.to one j.result.right run now.marks.items st pm p now f refl in
@@ -201,7 +205,8 @@ pass_stretch-requires-clause-above_order c =
     let run = c.run_between-run.result in
     let st = stretch_by h fs from j.result.to one j.result.right _ _ run now.marks.items c.deref.result.now
     c.stretches-test.true c.index-flats-from.is j.ensures.from j.ensures.to j.ensures.joined j.ensures.next
-    c.deref.ensures.value (left_cast c.args.flats.now c.stretches.from one c.index-flats-from.is) (whole_cast j.result.right j.ensures.size)
+    c.deref.ensures.value (left_cast c.args.flats.now c.stretches.from one c.index-flats-from.is)
+    (whole_cast j.result.right j.ensures.size)
     c.run_between-run.ensures.run c.run_between-run.ensures.below c.run_between-run.ensures.above in
     let pm = now_pass h cs fs old w from p now f in
     let t = to_stretch h cs fs old w from j.result.to one j.result.right run now.marks.items st pm p now f refl in
@@ -228,7 +233,8 @@ pass_stretch-requires-clause-above_pass c =
     let run = c.run_between-run.result in
     let st = stretch_by h fs from j.result.to one j.result.right _ _ run now.marks.items c.deref.result.now
     c.stretches-test.true c.index-flats-from.is j.ensures.from j.ensures.to j.ensures.joined j.ensures.next
-    c.deref.ensures.value (left_cast c.args.flats.now c.stretches.from one c.index-flats-from.is) (whole_cast j.result.right j.ensures.size)
+    c.deref.ensures.value (left_cast c.args.flats.now c.stretches.from one c.index-flats-from.is)
+    (whole_cast j.result.right j.ensures.size)
     c.run_between-run.ensures.run c.run_between-run.ensures.below c.run_between-run.ensures.above in
     let pm = now_pass h cs fs old w from p now f in
     let t = to_stretch h cs fs old w from j.result.to one j.result.right run now.marks.items st pm p now f refl in
@@ -255,7 +261,8 @@ skip_groups-passed-requires-clause-behind c =
     let run = c.run_between-run.result in
     let st = stretch_by h fs from j.result.to one j.result.right _ _ run now.marks.items c.deref.result.now
     c.stretches-test.true c.index-flats-from.is j.ensures.from j.ensures.to j.ensures.joined j.ensures.next
-    c.deref.ensures.value (left_cast c.args.flats.now c.stretches.from one c.index-flats-from.is) (whole_cast j.result.right j.ensures.size)
+    c.deref.ensures.value (left_cast c.args.flats.now c.stretches.from one c.index-flats-from.is)
+    (whole_cast j.result.right j.ensures.size)
     c.run_between-run.ensures.run c.run_between-run.ensures.below c.run_between-run.ensures.above in
     let pm = now_pass h cs fs old w from p now f in
     let t = to_stretch h cs fs old w from j.result.to one j.result.right run now.marks.items st pm p now f refl in
@@ -281,7 +288,8 @@ stretches-preserved c = λ w.
     let run = c.run_between-run.result in
     let st = stretch_by h fs from j.result.to one j.result.right _ _ run now.marks.items c.deref.result.now
     c.stretches-test.true c.index-flats-from.is j.ensures.from j.ensures.to j.ensures.joined j.ensures.next
-    c.deref.ensures.value (left_cast c.args.flats.now c.stretches.from one c.index-flats-from.is) (whole_cast j.result.right j.ensures.size)
+    c.deref.ensures.value (left_cast c.args.flats.now c.stretches.from one c.index-flats-from.is)
+    (whole_cast j.result.right j.ensures.size)
     c.run_between-run.ensures.run c.run_between-run.ensures.below c.run_between-run.ensures.above in
     let pm = now_pass h cs fs old w from p now f in
     let t = to_stretch h cs fs old w from j.result.to one j.result.right run now.marks.items st pm p now f refl in
@@ -296,7 +304,8 @@ stretches-preserved c = λ w.
     c.skip_groups-passed.result c.pass_stretch.new.kept c.in_ok-pass_stretch.ensures.passed
     c.in_ok-pass_stretch.ensures.right c.in_ok-pass_stretch.ensures.stands
     (c.skip_groups-passed.ensures.next h mid.marks.items
-    (between_at h cs fs old w from q mid g.0 (between run.below_to run.above_to) e.0)) c.skip_groups-passed.ensures.behind
+    (between_at h cs fs old w from q mid g.0
+    (between run.below_to run.above_to) e.0)) c.skip_groups-passed.ensures.behind
 
 pub pass_groups-requires-2-clause-stands : goal.pass_groups-requires-2-clause-stands
 pass_groups-requires-2-clause-stands c =

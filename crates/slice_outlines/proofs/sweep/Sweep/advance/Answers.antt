@@ -44,7 +44,8 @@ shift-requires c =
     let front : cc.front ≡ s.front = c.clear_cursor.ensures.front in
     let marks : cc.kept.marks.items ≡ s.kept.marks.items = ap (λ v. v.items) c.clear_cursor.ensures.marks in
     let begun : IsBegunTo es l cc.front = subst (IsBegunTo es l) (sym front) w.swept.ready.1 in
-    let ch : AreChanges es l (bundles_in s.front) up cs = subst (λ (f : Front). AreChanges es l (bundles_in f) up cs) front
+    let ch : AreChanges es l (bundles_in s.front) up cs = subst (λ (f : Front). AreChanges es l
+    (bundles_in f) up cs) front
     (c.in_ok-changes.ensures.changes begun) in
     let named = swept_named es w.shape w.levels l _ s w.swept in
     let on = c.clear_cursor.ensures.stands w.shape w.swept.cursor in
@@ -53,7 +54,8 @@ shift-requires c =
     let few = swept_few es w.shape w.levels l _ s w.swept c.requires.few in
     record {
       told = can_shift es l s.kept.marks.items (bundles_in s.front) up c.deref-2.result.now cc.kept.cursor.at
-          (changes_as es l (bundles_in s.front) up cs c.deref-2.result.now c.deref-2.ensures.value ch) named apart on.there
+          (changes_as es l (bundles_in s.front) up cs c.deref-2.result.now c.deref-2.ensures.value ch) named apart
+          on.there
           few (bundles_few es l c.args.upper.now up bundles c.requires.few);
     }
 
@@ -70,7 +72,8 @@ marks_above-requires c =
     let front : cc.front ≡ s.front = c.clear_cursor.ensures.front in
     let marks : cc.kept.marks.items ≡ s.kept.marks.items = ap (λ v. v.items) c.clear_cursor.ensures.marks in
     let begun : IsBegunTo es l cc.front = subst (IsBegunTo es l) (sym front) w.swept.ready.1 in
-    let ch : AreChanges es l (bundles_in s.front) up cs = subst (λ (f : Front). AreChanges es l (bundles_in f) up cs) front
+    let ch : AreChanges es l (bundles_in s.front) up cs = subst (λ (f : Front). AreChanges es l
+    (bundles_in f) up cs) front
     (c.in_ok-changes.ensures.changes begun) in
     let named = swept_named es w.shape w.levels l _ s w.swept in
     let on = c.clear_cursor.ensures.stands w.shape w.swept.cursor in
@@ -97,7 +100,8 @@ pass_level-requires c =
     let front : cc.front ≡ s.front = c.clear_cursor.ensures.front in
     let marks : cc.kept.marks.items ≡ s.kept.marks.items = ap (λ v. v.items) c.clear_cursor.ensures.marks in
     let begun : IsBegunTo es l cc.front = subst (IsBegunTo es l) (sym front) w.swept.ready.1 in
-    let ch : AreChanges es l (bundles_in s.front) up cs = subst (λ (f : Front). AreChanges es l (bundles_in f) up cs) front
+    let ch : AreChanges es l (bundles_in s.front) up cs = subst (λ (f : Front). AreChanges es l
+    (bundles_in f) up cs) front
     (c.in_ok-changes.ensures.changes begun) in
     let named = swept_named es w.shape w.levels l _ s w.swept in
     let on = c.clear_cursor.ensures.stands w.shape w.swept.cursor in
@@ -114,7 +118,8 @@ pass_level-requires c =
     let dh = changes_as es l (bundles_in s.front) up cs ds c.deref-7.ensures.value ch in
     let swapped : c.deref-5.result.now ≡ s.kept.marks.items = c.deref-5.ensures.value
     ∙ ap (λ v. v.items) c.replace-below.ensures.value ∙ marks in
-    let above : c.replace-below.new.dest.items ≡ c.in_ok-above.above.items = ap (λ v. v.items) c.replace-below.ensures.after in
+    let above : c.replace-below.new.dest.items ≡ c.in_ok-above.above.items = ap
+    (λ v. v.items) c.replace-below.ensures.after in
     let taken : AreTaken 0 ds ch.groups c.deref-5.result.now c.replace-below.new.dest.items =
     subst (λ (xs : List Change). AreTaken 0 xs ch.groups c.deref-5.result.now c.replace-below.new.dest.items) (sym same)
     (subst (λ (ms : List Mark). AreTaken 0 c.deref-4.result.now ch.groups ms c.replace-below.new.dest.items)
@@ -126,8 +131,10 @@ pass_level-requires c =
     let from : s.passed ≤ to = c.flats_to-flat_to.ensures.from in
     let ons : AllByRecursion (LiesOn l) (take (to - s.passed) (drop s.passed all)) =
     subst (λ (gs : List Flat). AllByRecursion (LiesOn l) (take (to - s.passed) (drop s.passed gs))) listed
-    (recursion_from_All (LiesOn l) (take (to - s.passed) (drop s.passed c.deref.result.now)) c.flats_to-flat_to.ensures.on) in
-    let off : IsOff l (drop to all) = subst (λ (gs : List Flat). IsOff l (drop to gs)) listed c.flats_to-flat_to.ensures.off in
+    (recursion_from_All (LiesOn l) (take (to - s.passed)
+    (drop s.passed c.deref.result.now)) c.flats_to-flat_to.ensures.on) in
+    let off : IsOff l (drop to all) = subst (λ (gs : List Flat). IsOff l
+    (drop to gs)) listed c.flats_to-flat_to.ensures.off in
     let d = c.requires.neighbours.lower_divisor in
     let b = w.swept.flats_below in
     let fs : List Flat = take (to - cc.passed) (drop cc.passed c.deref-6.result.now) in
@@ -167,7 +174,8 @@ returns c = λ w.
     let front : cc.front ≡ s.front = c.clear_cursor.ensures.front in
     let marks : cc.kept.marks.items ≡ s.kept.marks.items = ap (λ v. v.items) c.clear_cursor.ensures.marks in
     let begun : IsBegunTo es l cc.front = subst (IsBegunTo es l) (sym front) w.swept.ready.1 in
-    let ch : AreChanges es l (bundles_in s.front) up cs = subst (λ (f : Front). AreChanges es l (bundles_in f) up cs) front
+    let ch : AreChanges es l (bundles_in s.front) up cs = subst (λ (f : Front). AreChanges es l
+    (bundles_in f) up cs) front
     (c.in_ok-changes.ensures.changes begun) in
     let named = swept_named es w.shape w.levels l _ s w.swept in
     let on = c.clear_cursor.ensures.stands w.shape w.swept.cursor in
@@ -184,7 +192,8 @@ returns c = λ w.
     let dh = changes_as es l (bundles_in s.front) up cs ds c.deref-7.ensures.value ch in
     let swapped : c.deref-5.result.now ≡ s.kept.marks.items = c.deref-5.ensures.value
     ∙ ap (λ v. v.items) c.replace-below.ensures.value ∙ marks in
-    let above : c.replace-below.new.dest.items ≡ c.in_ok-above.above.items = ap (λ v. v.items) c.replace-below.ensures.after in
+    let above : c.replace-below.new.dest.items ≡ c.in_ok-above.above.items = ap
+    (λ v. v.items) c.replace-below.ensures.after in
     let taken : AreTaken 0 ds ch.groups c.deref-5.result.now c.replace-below.new.dest.items =
     subst (λ (xs : List Change). AreTaken 0 xs ch.groups c.deref-5.result.now c.replace-below.new.dest.items) (sym same)
     (subst (λ (ms : List Mark). AreTaken 0 c.deref-4.result.now ch.groups ms c.replace-below.new.dest.items)
@@ -196,8 +205,10 @@ returns c = λ w.
     let from : s.passed ≤ to = c.flats_to-flat_to.ensures.from in
     let ons : AllByRecursion (LiesOn l) (take (to - s.passed) (drop s.passed all)) =
     subst (λ (gs : List Flat). AllByRecursion (LiesOn l) (take (to - s.passed) (drop s.passed gs))) listed
-    (recursion_from_All (LiesOn l) (take (to - s.passed) (drop s.passed c.deref.result.now)) c.flats_to-flat_to.ensures.on) in
-    let off : IsOff l (drop to all) = subst (λ (gs : List Flat). IsOff l (drop to gs)) listed c.flats_to-flat_to.ensures.off in
+    (recursion_from_All (LiesOn l) (take (to - s.passed)
+    (drop s.passed c.deref.result.now)) c.flats_to-flat_to.ensures.on) in
+    let off : IsOff l (drop to all) = subst (λ (gs : List Flat). IsOff l
+    (drop to gs)) listed c.flats_to-flat_to.ensures.off in
     let d = c.requires.neighbours.lower_divisor in
     let b = w.swept.flats_below in
     let fs : List Flat = take (to - cc.passed) (drop cc.passed c.deref-6.result.now) in
@@ -219,7 +230,8 @@ returns c = λ w.
     let given = ap (λ v. v.items) c.clear_cursor.ensures.given in
     climbed _ c.args.upper.now w.shape w.levels w.later s ds w.swept w.are_levels c.requires.balanced
     c.requires.neighbours bundles dh swapped
-    (record { marks = c.replace-below.new.dest; cursor = c.shift.new.self; given = cc.kept.given }) c.pass_level.new.kept
+    (record { marks = c.replace-below.new.dest; cursor = c.shift.new.self; given = cc.kept.given })
+    c.pass_level.new.kept
     taken fs flats c.requires.few given cc.kept.cursor on c.shift.ensures.tally place ended
     c.in_ok-pass_level.ensures
     (record {

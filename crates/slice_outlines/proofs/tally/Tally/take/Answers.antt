@@ -12,7 +12,8 @@ use Rattle.slice_outlines.proofs.tally.Tally.take.Goals as goal
 
 pub numbers-init : goal.numbers-init
 numbers-init c = record {
-  sums = λ leaf. as_whole (get_or c.args.self.now.turns.items leaf (pos 0)) (headings c.args.edges.now leaf c.args.numbers.now);
+  sums = λ leaf. as_whole (get_or c.args.self.now.turns.items leaf (pos 0))
+      (headings c.args.edges.now leaf c.args.numbers.now);
   room = λ leaf. let r = c.requires.small.room leaf in omega (arith, r);
   len = refl;
   held = keeps_still c.args.self.now.turns.items c.args.self.now.held c.requires.small.ready;
@@ -29,7 +30,8 @@ numbers-preserved c =
           let rest : ℤ = headings c.args.edges.now leaf (drop (c.numbers.k-index + 1) c.args.numbers.now) in
           let w = at_drop_more (headings c.args.edges.now leaf) c.args.numbers.now c.numbers.k-index 0
           c.numbers-test.true in
-          taken_on (old leaf) (new leaf) (heading_of e.edge) (e.leaf == leaf) rest _ _ (c.take_edge.ensures.turns leaf) w
+          taken_on (old leaf) (new leaf) (heading_of e.edge) (e.leaf == leaf) rest _ _
+          (c.take_edge.ensures.turns leaf) w
           (c.numbers.invariant.sums leaf);
       room = λ leaf.
           let r = c.numbers.invariant.room leaf in
@@ -39,7 +41,8 @@ numbers-preserved c =
           omega (arith, r, s);
       len = c.take_edge.ensures.len ∙ c.numbers.invariant.len;
       held = keeps_both c.args.self.now.turns.items c.numbers.self.turns.items c.take_edge.new.turns.items
-          c.args.self.now.held c.numbers.self.held c.take_edge.new.held c.numbers.invariant.held c.take_edge.ensures.held;
+          c.args.self.now.held c.numbers.self.held c.take_edge.new.held c.numbers.invariant.held
+          c.take_edge.ensures.held;
     }
 
 pub returns : goal.returns
