@@ -22,6 +22,7 @@ DRAWN = {
     "plate": (content(os.path.join(EXAMPLES, "print.toml")), b"5"),
     "knob": (THICK, b"5"),
     "box": (THICK, b"2"),
+    "arch": (content(os.path.join(EXAMPLES, "arch.toml")), b"50"),
 }
 
 # Two layers: a square with a hole, and one that is empty; with walls, infill, supports and travels.
