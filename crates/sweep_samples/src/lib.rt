@@ -4,5 +4,3 @@
 
 #[cfg(test)]
 mod random_fronts;
-#[cfg(test)]
-mod random_outlines;

@@ -10,3 +10,6 @@ levels-preserved c =
     let next : c.levels.i - 1 + 1 ≡ c.levels.i + 1 - 1 = omega (arith, from) in
     subst (λ (j : ℕ). IsReadyFor c.args.edges.now (level_at c.args.levels.now j) c.is_like_slab.new.front) next
     c.in_ok-alike.ensures
+
+pub levels-init : goal.levels-init
+levels-init c = c.in_ok-front.ensures.ready (level_at c.args.levels.now 0)
