@@ -29,6 +29,9 @@ def of_outside(last, job):
     program, outlines = job.names["GCODE"], job.names["CLI"]
     told = [f"{shown(program)}:{line}: Outside", *row_shown(program, line)]
     told.append(f"extruding move {number} of the program doesn't stay inside the outlines of its layer by the clearance")
+    if row_of(program, line - 2) == b"; supports":
+        return [*told, "it is the first move of a support: supports stand outside of the outlines, so a program with some is "
+                       "judged up to here", CHAPTER]
     ends = ends_of(program, line)
     return [*told, *(why_outside(*ends, outlines, job.settings) if ends else []), CHAPTER]
 

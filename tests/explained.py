@@ -244,6 +244,8 @@ def outside(told):
         of("that_rises", ["z = 0.200 mm to 0.400, and an extruding move has to keep"], PROGRAM + b"G1 X1 Z0.4 E2\n"),
         of("behind_a_place_that_was_set", ["from (0.000, 0.000) to (-1.000, 0.000) at z = 0.200"],
            PROGRAM + b"G92 X0 Y0\nG1 X-1 E2\n"),
+        of("of_a_support", ["o.gcode:7: Outside\n    7 | G1 X25 E2\n", "extruding move 2 of", "first move of a support"],
+           PROGRAM + b"; supports\nG1 X20 Y0.5\nG1 X25 E2\n"),
         told("a_move_of_a_program_from_a_pipe", 8, ["an extruding move doesn't stay inside"],
              [*VERIFY[:2], b"/dev/stdin"], files=files, shell='cat n.gcode | "$@"'),
         told("nothing_of_moves_that_stay", 0, [], VERIFY, files={"o.cli": OUTLINES, "o.gcode": PROGRAM}),
