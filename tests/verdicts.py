@@ -51,7 +51,8 @@ def rows_of(table, width):
 # What `plan` writes
 
 class OfPlan:
-    """What `plan` writes for a golden case is inside by the same settings; and what becomes of it with changes."""
+    """What `plan` writes for a golden case is inside by the same settings, or outside at its first support; and what becomes
+    of it with changes."""
 
     def __init__(self, case, job, changes):
         self.name, self.case, self.changes = f"verdict_of_{case}", case, changes
@@ -70,10 +71,21 @@ class OfPlan:
         outlines, text = (planned.left[it] for it in self.outputs)
         settings = given["settings.toml"] if self.has_settings else None
         layers, _, moves, *_ = done.removeprefix(b"done: ").split(b", ")
-        checks = {"as it is": judged("", (outlines, text), 0, b"inside: %s, %s\n" % (layers, moves), settings)}
+        status, report = outside_by_supports(text) or (0, b"inside: %s, %s\n" % (layers, moves))
+        checks = {"as it is": judged("", (outlines, text), status, report, settings)}
         for (line, old, new), status, report in self.changes:
             checks[f"line {line}, {new}"] = judged("", (outlines, changed(text, line, old, new)), status, report, settings)
         return Each(self.name, checks).tried(program)
+
+
+def outside_by_supports(text):
+    """The verdict on a program with supports: outside at the first move along one, behind the travel to it."""
+    lines = text.split(b"\n")
+    if b"; supports" not in lines:
+        return None
+    at = lines.index(b"; supports")
+    before = sum(it.startswith(b"G1 ") and b" E" in it for it in lines[:at])
+    return 8, b"outside: move %d line %d\n" % (before + 1, at + 3)
 
 
 def changed(text, line, old, new):
