@@ -25,12 +25,12 @@ returns-clause-within c =
     let old : List LeafEdge = c.args.edges.now.items in
     let around : List Edge = c.deref.result.now in
     let outline : All (λ l. All (IsWithin coordinate_limit) l) c.from_ref.result.now =
-      subst (λ (ls : List (List Pt)). All (λ l. All (IsWithin coordinate_limit) l) ls) (sym c.from_ref.ensures.value)
-      (All-cons (λ l. All (IsWithin coordinate_limit) l) c.args.outline.now [] c.requires.points
-      (All-nil (λ l. All (IsWithin coordinate_limit) l))) in
+    subst (λ (ls : List (List Pt)). All (λ l. All (IsWithin coordinate_limit) l) ls) (sym c.from_ref.ensures.value)
+    (All-cons (λ l. All (IsWithin coordinate_limit) l) c.args.outline.now [] c.requires.points
+    (All-nil (λ l. All (IsWithin coordinate_limit) l))) in
     let these : All (IsEdgeWithin coordinate_limit) around =
-      subst (λ (es : List Edge). All (IsEdgeWithin coordinate_limit) es) (sym (sides_are c))
-      (outlines_within coordinate_limit c.from_ref.result.now outline) in
+    subst (λ (es : List Edge). All (IsEdgeWithin coordinate_limit) es) (sym (sides_are c))
+    (outlines_within coordinate_limit c.from_ref.result.now outline) in
     subst (λ (es : List LeafEdge). All (λ e. IsEdgeWithin coordinate_limit e.edge) es)
     (sym c.in_ok-push_leaf.ensures)
     (All-append (λ (e : LeafEdge). IsEdgeWithin coordinate_limit e.edge) old (map (leaf_edge c.args.leaf) around)
