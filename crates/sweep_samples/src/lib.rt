@@ -4,3 +4,5 @@
 
 #[cfg(test)]
 mod random_fronts;
+#[cfg(test)]
+mod random_outlines;
