@@ -10,7 +10,7 @@ use Rattle.scad_scope.specs.declared.frame.Frame.{Frame}
 use Rattle.scad_scope.specs.declared.home.Home.{Home}
 use Rattle.scad_scope.specs.declared.home.Home.TheVariants.{Unscoped, Searched, Tabled}
 use Rattle.scad_scope.specs.declared.kept.Kept.{Kept}
-use Rattle.scad_scope.specs.declared.names.Names.{Names as NamesHeld}
+use Rattle.scad_scope.specs.declared.named_values.NamedValues.{NamedValues}
 use Rattle.scad_scope.specs.Names.{Names}
 use Rattle.scad_scope.specs.declared.frames.Frames.{Frames}
 use Rattle.scad_scope.specs.Stored.{Stored, StoredChildren}
@@ -20,7 +20,7 @@ abbrev pub named : Vec ℕ Global × Value → List ℕ × Datum
 named p = (p.0.items, datum_of p.1)
 
 -- the first names of a frame
-abbrev pub few_in : NamesHeld → Names
+abbrev pub few_in : NamedValues → Names
 few_in n = map named n.few.items
 
 -- the names, where there are any
@@ -29,10 +29,10 @@ or_none None = []
 or_none (Some all) = all
 
 -- the names behind them
-abbrev pub more_in : NamesHeld → Names
+abbrev pub more_in : NamedValues → Names
 more_in n = or_none (option_map (λ b. map named b.value.entries) n.more)
 
-unfoldable pub names_in : NamesHeld → Names
+unfoldable pub names_in : NamedValues → Names
 names_in n = few_in n ++ more_in n
 
 abbrev pub children_stored : Kept → StoredChildren

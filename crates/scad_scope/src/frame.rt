@@ -3,7 +3,7 @@
 use crate::home::Home;
 use crate::kept::Kept;
 use crate::kind::Kind;
-use crate::names::Names;
+use crate::named_values::NamedValues;
 use scad_ast::Item;
 use scad_value::Value;
 use std::alloc::{AllocError, Global};
@@ -11,7 +11,7 @@ use std::alloc::{AllocError, Global};
 /// A frame of a scope or a call. Its parent is the number of the frame round it.
 #[derive(Drop)]
 pub struct Frame<'p> {
-    pub names: Names,
+    pub names: NamedValues,
     pub parent: Option<u32>,
     pub home: Home<'p>,
     pub kept: Option<Kept<'p>>,

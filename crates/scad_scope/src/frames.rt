@@ -6,7 +6,7 @@ use crate::frame::Frame;
 use crate::home::Home;
 use crate::kept::Kept;
 use crate::kind::Kind;
-use crate::names::Names;
+use crate::named_values::NamedValues;
 use scad_ast::{Item, Scope};
 use scad_value::Value;
 use std::alloc::{AllocError, Global};
@@ -60,7 +60,7 @@ impl<'p> Frames<'p> {
         if number >= u32::MAX as usize {
             return Err(AllocError);
         }
-        let names = Names::new(self.alloc);
+        let names = NamedValues::new(self.alloc);
         self.frames.push(Frame {
             names,
             parent,

@@ -5,7 +5,7 @@ use Rattle.scad_scope.specs.Names.{with_name}
 use Rattle.scad_scope.specs.View.{named, few_in, names_in}
 use Rattle.scad_scope.proofs.Few.{more-insert}
 use Rattle.scad_scope.proofs.Outwards.{same_key}
-use Rattle.scad_scope.proofs.names.Names.start.Goals as goal
+use Rattle.scad_scope.proofs.named_values.NamedValues.start.Goals as goal
 
 pub returns-clause-named : goal.returns-clause-named
 unfolding names_in

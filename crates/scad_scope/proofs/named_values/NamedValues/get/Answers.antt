@@ -5,7 +5,7 @@ use Rattle.scad_scope.specs.Names.{place_in, value_of_name}
 use Rattle.scad_scope.specs.View.{named, few_in, or_none, more_in, names_in}
 use Rattle.scad_scope.proofs.Few.{few-value, value-unplaced}
 use Rattle.scad_scope.proofs.Outwards.{lent, value_of_name-named}
-use Rattle.scad_scope.proofs.names.Names.get.Goals as goal
+use Rattle.scad_scope.proofs.named_values.NamedValues.get.Goals as goal
 
 pub returns-then-place-len : goal.returns-then-place-len
 unfolding names_in

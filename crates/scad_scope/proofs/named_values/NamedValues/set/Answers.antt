@@ -2,7 +2,7 @@ use Rattle.std.proofs.Common.{ap, ◌∙◌, map, arith}
 use Rattle.scad_scope.specs.Names.{place_in}
 use Rattle.scad_scope.specs.View.{named, more_in, names_in}
 use Rattle.scad_scope.proofs.Few.{few-set}
-use Rattle.scad_scope.proofs.names.Names.set.Goals as goal
+use Rattle.scad_scope.proofs.named_values.NamedValues.set.Goals as goal
 
 pub returns-then-place-len-clause-named : goal.returns-then-place-len-clause-named
 unfolding names_in

@@ -1,7 +1,7 @@
 use Rattle.std.proofs.Common.{ap, ◌∙◌, [], ◌∷◌, ◌++◌, map}
 use Rattle.scad_scope.specs.View.{named, more_in, names_in}
 use Rattle.scad_scope.proofs.Few.{few-push}
-use Rattle.scad_scope.proofs.names.Names.append.Goals as goal
+use Rattle.scad_scope.proofs.named_values.NamedValues.append.Goals as goal
 
 pub returns-clause-named : goal.returns-clause-named
 unfolding names_in
