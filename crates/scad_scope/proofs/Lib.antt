@@ -1,7 +1,9 @@
 pub mod Few
+pub mod HeldNames
 pub mod Listing
 pub mod Noted
 pub mod Outwards
+pub mod Placed
 pub mod Resolved
 pub mod Rows
 pub mod Tables

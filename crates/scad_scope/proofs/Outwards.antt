@@ -13,7 +13,8 @@ use Rattle.scad_scope.specs.declared.frame.Frame.{Frame}
 use Rattle.scad_scope.specs.Names.{value_of_name, with_name}
 use Rattle.scad_scope.specs.Env.{Env, outside, sought, or_else}
 use Rattle.scad_scope.specs.Stored.{Stored, pushed, stored_at, with_name_in, with_name_in_last, env_at, env_round, env_of, envs_onto, envs}
-use Rattle.scad_scope.specs.View.{named, frame_stored}
+use Rattle.scad_scope.specs.Held.{named}
+use Rattle.scad_scope.specs.View.{frame_stored}
 
 -- ---- names in memory
 abbrev pub same_key : Vec ℕ Global → Vec ℕ Global → Bool

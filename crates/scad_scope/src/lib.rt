@@ -6,12 +6,15 @@
 mod binding;
 mod entries;
 mod frame;
+mod frame_names;
 mod frames;
 mod home;
 mod kept;
 mod kind;
 mod named_values;
 mod names;
+mod place_search;
+mod placed_values;
 mod resolution;
 mod slot;
 mod table;

@@ -2,7 +2,7 @@
 
 ghost use Rattle.std.specs.Prelude.{◌≡◌, map};
 ghost use Rattle.scad_scope.specs.Names.{place_in};
-ghost use Rattle.scad_scope.specs.View.{named};
+ghost use Rattle.scad_scope.specs.Held.{named};
 
 use indexmap::IndexMap;
 use scad_value::Value;
@@ -49,12 +49,12 @@ impl NamedValues {
     ghost use Rattle.std.specs.Prelude.{◌≡◌, ◌≤◌, [], length, option_map, OnOk, OnErr};
     ghost use Rattle.scad_value.specs.View.{datum_of};
     ghost use Rattle.scad_scope.specs.Names.{place_in, value_of_name, with_name};
-    ghost use Rattle.scad_scope.specs.View.{few_in, more_in, names_in};
+    ghost use Rattle.scad_scope.specs.Held.{few_in, is_nil, more_in, named_in};
 
     /// No names. They take no memory.
-    #[tactic(auto, unfolding(crate::specs::View::names_in))]
+    #[tactic(auto, unfolding(crate::specs::Held::named_in))]
     pub fn new(alloc: Global) -> NamedValues
-        ensures { names_in result ≡ [] }
+        ensures { named_in result ≡ [] }
     {
         NamedValues {
             few: Vec::new(alloc),
@@ -63,11 +63,11 @@ impl NamedValues {
     }
 
     /// Sets a name.
-    #[tactic(auto, unfolding(crate::specs::View::names_in))]
+    #[tactic(auto, unfolding(crate::specs::Held::named_in))]
     pub fn set(&mut self, alloc: Global, name: Vec<u8>, value: Value) -> Result<(), AllocError>
-        ensures named { OnOk result (names_in self.new
-            ≡ with_name name.items (datum_of value) (names_in self.old)) }
-        ensures refused { OnErr result (names_in self.new ≡ names_in self.old) }
+        ensures named { OnOk result (named_in self.new
+            ≡ with_name name.items (datum_of value) (named_in self.old)) }
+        ensures refused { OnErr result (named_in self.new ≡ named_in self.old) }
     {
         let place = place_of(self.few.as_slice(), name.as_slice());
         if place < self.few.len() {
@@ -78,12 +78,12 @@ impl NamedValues {
     }
 
     /// Sets a name that isn't among the few.
-    #[tactic(auto, unfolding(crate::specs::View::names_in))]
+    #[tactic(auto, unfolding(crate::specs::Held::named_in))]
     fn add(&mut self, alloc: Global, name: Vec<u8>, value: Value) -> Result<(), AllocError>
         requires { length (few_in self.old) ≤ place_in name.items (few_in self.old) }
-        ensures named { OnOk result (names_in self.new
-            ≡ with_name name.items (datum_of value) (names_in self.old)) }
-        ensures refused { OnErr result (names_in self.new ≡ names_in self.old) }
+        ensures named { OnOk result (named_in self.new
+            ≡ with_name name.items (datum_of value) (named_in self.old)) }
+        ensures refused { OnErr result (named_in self.new ≡ named_in self.old) }
     {
         if let Some(held) = &mut self.more {
             held.insert(name, value)?;
@@ -97,13 +97,13 @@ impl NamedValues {
     }
 
     /// Puts a name behind the few.
-    #[tactic(auto, unfolding(crate::specs::View::names_in))]
+    #[tactic(auto, unfolding(crate::specs::Held::named_in))]
     fn append(&mut self, name: Vec<u8>, value: Value) -> Result<(), AllocError>
         requires absent { length (few_in self.old) ≤ place_in name.items (few_in self.old) }
         requires last { more_in self.old ≡ [] }
-        ensures named { OnOk result (names_in self.new
-            ≡ with_name name.items (datum_of value) (names_in self.old)) }
-        ensures refused { OnErr result (names_in self.new ≡ names_in self.old) }
+        ensures named { OnOk result (named_in self.new
+            ≡ with_name name.items (datum_of value) (named_in self.old)) }
+        ensures refused { OnErr result (named_in self.new ≡ named_in self.old) }
     {
         make_room(&mut self.few)?;
         self.few.push((name, value))?;
@@ -114,9 +114,9 @@ impl NamedValues {
     fn start(&mut self, alloc: Global, name: Vec<u8>, value: Value) -> Result<(), AllocError>
         requires absent { length (few_in self.old) ≤ place_in name.items (few_in self.old) }
         requires last { more_in self.old ≡ [] }
-        ensures named { OnOk result (names_in self.new
-            ≡ with_name name.items (datum_of value) (names_in self.old)) }
-        ensures refused { OnErr result (names_in self.new ≡ names_in self.old) }
+        ensures named { OnOk result (named_in self.new
+            ≡ with_name name.items (datum_of value) (named_in self.old)) }
+        ensures refused { OnErr result (named_in self.new ≡ named_in self.old) }
     {
         let mut held = IndexMap::new(alloc);
         held.insert(name, value)?;
@@ -127,7 +127,7 @@ impl NamedValues {
     /// The value of a name.
     pub fn get(&self, name: &[u8]) -> Option<&Value>
         ensures { option_map (λ v. datum_of v.now) result
-            ≡ value_of_name name.now (names_in self.now) }
+            ≡ value_of_name name.now (named_in self.now) }
     {
         let place = place_of(self.few.as_slice(), name);
         if place < self.few.len() {
@@ -136,6 +136,16 @@ impl NamedValues {
         match &self.more {
             Some(held) => held.get(name),
             None => None,
+        }
+    }
+
+    /// Whether there are no names.
+    pub fn is_empty(&self) -> bool
+        ensures { result ≡ is_nil (named_in self.now) }
+    {
+        match &self.more {
+            Some(held) => self.few.is_empty() && held.is_empty(),
+            None => self.few.is_empty(),
         }
     }
 }
