@@ -1,7 +1,9 @@
 pub mod Few
+pub mod Finding
 pub mod HeldNames
 pub mod Listing
 pub mod Noted
+pub mod OnLiterals
 pub mod Outwards
 pub mod Placed
 pub mod Resolved

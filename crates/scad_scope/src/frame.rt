@@ -1,10 +1,10 @@
 //! A frame: names with their values.
 
+use crate::frame_names::FrameNames;
 use crate::home::Home;
 use crate::kept::Kept;
 use crate::kind::Kind;
 use crate::slot::Slot;
-use crate::frame_names::FrameNames;
 use scad_ast::Item;
 use scad_value::Value;
 use std::alloc::{AllocError, Global};

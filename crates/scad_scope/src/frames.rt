@@ -3,10 +3,10 @@
 ghost use Rattle.std.specs.Prelude.{◌<◌, ◌^◌, vec_len};
 
 use crate::frame::Frame;
+use crate::frame_names::FrameNames;
 use crate::home::Home;
 use crate::kept::Kept;
 use crate::kind::Kind;
-use crate::frame_names::FrameNames;
 use crate::names::Names;
 use crate::slot::Slots;
 use scad_ast::{Item, Scope};

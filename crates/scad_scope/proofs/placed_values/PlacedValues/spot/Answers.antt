@@ -10,9 +10,10 @@ returns-then-number-len c =
     let v = c.args.self.now in
     let listing = listing_of v in
     let at = sym c.place.ensures ∙ c.in-Some.is in
-    let many = length-map v.entries.items (name_placed listing) in
-    (c.number-number.ensures ∙ place-number c.args.name.now listing c.in-Some.place v.entries.items v.places at,
-    omega (arith, many))
+    let many = length-map v.entries.items (name_placed listing) in (
+      c.number-number.ensures ∙ place-number c.args.name.now listing c.in-Some.place v.entries.items v.places at,
+      omega (arith, many),
+    )
 
 pub returns-else-number-len : goal.returns-else-number-len
 returns-else-number-len c =

@@ -14,7 +14,7 @@ invariant_of-self c =
     let listing = listing_of v in
     let old = c.index_mut.result.now in
     let same = map-set_same place_in_entry v.entries.items c.args.number (old.0, c.args.value) old
-        (ap place_in_entry c.index_mut.ensures.value) in
+    (ap place_in_entry c.index_mut.ensures.value) in
     let place_at : ℕ → Option ℕ = λ q. place_of (name_at listing q) listing in
     record {
       places = ap (map place_at) same ∙ v.places ∙ sym (ap (map (λ q. Some q)) same);
