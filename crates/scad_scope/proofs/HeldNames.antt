@@ -9,7 +9,7 @@ use Rattle.scad_value.specs.Datum.{Datum}
 use Rattle.scad_value.specs.declared.value.Value.{Value}
 use Rattle.scad_scope.specs.Chain.{are_listed, names_held}
 use Rattle.scad_scope.specs.Held.{is_nil}
-use Rattle.scad_scope.specs.Listing.{Listing, place_of, name_at}
+use Rattle.scad_scope.specs.Listing.{Listing, place_of}
 use Rattle.scad_scope.specs.Names.{Names, is_same_name, place_in, value_of_name, with_name}
 use Rattle.scad_scope.specs.Placed.{ArePlaces, first_place, name_placed, or_unlisted, place_in_entry}
 use Rattle.scad_scope.proofs.Few.{set-unplaced}

@@ -1,14 +1,13 @@
 -- Names in memory, and the places of those that are listed.
-use Rattle.std.proofs.Common.{◌≡◌, ℕ, ◌+◌, ◌<◌, Bool, true, false, cond, List, [], ◌∷◌, ◌++◌, map, length, get_or, Option, Some, None, if◌then◌else◌, Vec, Global, refl, sym, ap, ap₂, ◌∙◌, arith}
+use Rattle.std.proofs.Common.{◌≡◌, ℕ, ◌+◌, Bool, true, false, cond, List, [], ◌∷◌, ◌++◌, map, Some, None, if◌then◌else◌, Vec, Global, refl, sym, ap, ap₂, ◌∙◌}
 use Rattle.std.specs.Prelude.{nat_eq, nat_lt, is_some, position, not, ◌||◌}
 use Rattle.std.specs.List.{list_any, prefix_len, position_from}
-use Rattle.std.specs.Cmp.Lexicographic.{pointwise, bytes_decides}
+use Rattle.std.specs.Cmp.Lexicographic.{pointwise}
 use Rattle.std.proofs.lemmas.List.{length-map, map-append}
 use Rattle.std.proofs.lemmas.Iterator.Adapters.{position_from-zero}
-use Rattle.std.proofs.lemmas.List.Quantifiers.{position-Some}
 use Rattle.indexmap.specs.IndexSet.{insert_key}
 use Rattle.scad_scope.specs.Names.{is_same_name}
-use Rattle.scad_scope.specs.Listing.{Listing, place_of, name_at, with_listed}
+use Rattle.scad_scope.specs.Listing.{Listing, place_of, with_listed}
 
 -- the names of words in memory
 abbrev pub words : List (Vec ℕ Global) → Listing

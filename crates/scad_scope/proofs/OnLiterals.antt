@@ -1,5 +1,5 @@
 -- Worked examples: the names of two frames, and where a name lies in them.
-use Rattle.std.proofs.Common.{◌≡◌, ℕ, List, [], ◌∷◌, Option, Some, None, refl}
+use Rattle.std.proofs.Common.{◌≡◌, List, [], ◌∷◌, Some, None, refl}
 use Rattle.std.specs.Prelude.{codes}
 use Rattle.scad_value.specs.Datum.{undef}
 use Rattle.scad_scope.specs.Chain.{HoldNames, chain_at, names_at}

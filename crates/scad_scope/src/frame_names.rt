@@ -6,7 +6,7 @@ ghost use Rattle.scad_scope.specs.Placed.{first_place};
 
 use crate::named_values::NamedValues;
 use crate::names::Names;
-use crate::placed_values::{PlacedValues, Spot};
+use crate::placed_values::{Found, PlacedValues};
 use scad_value::Value;
 use std::alloc::{AllocError, Global};
 
@@ -61,19 +61,19 @@ impl<'p> FrameNames<'p> {
         ensures refused { OnErr result (names_in self.new ≡ names_in self.old) }
         ensures names { option_map (λ n. n.now) self.new.placed.names ≡ option_map (λ n. n.now) self.old.placed.names }
     {
-        match self.placed.spot(name) {
-            Spot::Set(number) => {
+        match self.placed.find(name) {
+            Found::Set(number) => {
                 self.placed.write(number, value);
                 Ok(())
             }
-            Spot::Free(place) => {
+            Found::Free(place) => {
                 if self.named.is_empty() {
                     self.placed.push(place, value)
                 } else {
                     self.add(alloc, name, value)
                 }
             }
-            Spot::Unlisted => self.add(alloc, name, value),
+            Found::Unlisted => self.add(alloc, name, value),
         }
     }
 
@@ -98,10 +98,10 @@ impl<'p> FrameNames<'p> {
         ensures { option_map (λ v. datum_of v.now) result
             ≡ value_of_name name.now (names_in self.now) }
     {
-        match self.placed.spot(name) {
-            Spot::Set(number) => Some(self.placed.value(number)),
-            Spot::Free(_) => self.named.get(name),
-            Spot::Unlisted => self.named.get(name),
+        match self.placed.find(name) {
+            Found::Set(number) => Some(self.placed.value(number)),
+            Found::Free(_) => self.named.get(name),
+            Found::Unlisted => self.named.get(name),
         }
     }
 

@@ -263,24 +263,24 @@ impl<'p> Frames<'p> {
             → option_map (λ v. datum_of v.now) result ≡ sought name (env_at (envs (stored self.now)) from) }
     {
         let all = slots.as_slice();
-        let mut at = from as usize;
+        let mut here = from as usize;
         let mut up = 0;
         let mut next = 0;
         'outwards: loop {
-            if self.frames.len() <= at {
+            if self.frames.len() <= here {
                 return None;
             }
-            let frame = &self.frames[at];
+            let frame = &self.frames[here];
             match frame.find(all, next, up) {
                 Ok(value) => return Some(value),
                 Err(left) => next = left,
             }
             match frame.parent {
                 Some(parent) => {
-                    if at <= parent as usize {
+                    if here <= parent as usize {
                         return None;
                     }
-                    at = parent as usize;
+                    here = parent as usize;
                     up += 1;
                 }
                 None => return None,

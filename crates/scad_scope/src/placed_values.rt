@@ -10,7 +10,7 @@ use scad_value::Value;
 use std::alloc::{AllocError, Global};
 
 /// Where a name lies: its value has the number of an entry, or its place is free, or it isn't listed.
-pub enum Spot {
+pub enum Found {
     Set(usize),
     Free(usize),
     Unlisted,
@@ -34,7 +34,7 @@ impl<'p> PlacedValues<'p> {
     ghost use Rattle.scad_scope.specs.Listing.{place_of, name_at};
     ghost use Rattle.scad_scope.specs.Names.{Names as NamesSet, place_in, value_of_name, with_name};
     ghost use Rattle.scad_scope.specs.Placed.{number_in};
-    ghost use Rattle.scad_scope.specs.Spots.{IsSpot};
+    ghost use Rattle.scad_scope.specs.Found.{IsFound};
 
     /// No values, at the places of these names. It takes no memory.
     pub fn new(alloc: Global, names: Option<&'p Names>) -> PlacedValues<'p>
@@ -78,19 +78,19 @@ impl<'p> PlacedValues<'p> {
     }
 
     /// Where the name lies.
-    pub fn spot(&self, name: &[u8]) -> Spot
-        ensures { IsSpot name.now (listing_of self.now) (placed_in self.now) result }
+    pub fn find(&self, name: &[u8]) -> Found
+        ensures { IsFound name.now (listing_of self.now) (placed_in self.now) result }
     {
         match self.place(name) {
             Some(place) => {
                 let number = self.number(place);
                 if number < self.entries.len() {
-                    Spot::Set(number)
+                    Found::Set(number)
                 } else {
-                    Spot::Free(place)
+                    Found::Free(place)
                 }
             }
-            None => Spot::Unlisted,
+            None => Found::Unlisted,
         }
     }
 

@@ -1,4 +1,4 @@
-use Rattle.std.proofs.Common.{get_or, sym, ◌∙◌, arith}
+use Rattle.std.proofs.Common.{get_or, sym, arith}
 use Rattle.scad_scope.specs.declared.slot.Slot.{Slot}
 use Rattle.scad_scope.specs.View.{frame_listed, frame_stored}
 use Rattle.scad_scope.proofs.Finding.{any-default, find-here, find-other, find-past}

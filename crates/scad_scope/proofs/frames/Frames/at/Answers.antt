@@ -8,13 +8,13 @@ use Rattle.scad_scope.proofs.Finding.{here, names-index, outer}
 use Rattle.scad_scope.proofs.Outwards.{stored-index, sought-past, sought-there, sought-round, round-before, round-past}
 use Rattle.scad_scope.proofs.frames.Frames.at.Goals as goal
 
-pub returns-then-len-at : goal.returns-then-len-at
+pub returns-then-len-here : goal.returns-then-len-here
 unfolding listed stored
-returns-then-len-at c =
+returns-then-len-here c =
     λ name listings is hold.
     let fs = c.args.self.now.frames.items in
     let many = length-map fs frame_stored in
-    sym (sought-past (map frame_stored fs) c.outwards.at name (omega (arith, many)))
+    sym (sought-past (map frame_stored fs) c.outwards.here name (omega (arith, many)))
     ∙ (c.outwards.invariant.left name listings is hold).same
 
 pub returns-in-Ok : goal.returns-in-Ok
@@ -25,7 +25,7 @@ returns-in-Ok c =
     let all = map frame_stored fs in
     let many = length-map fs frame_stored in
     let f = c.index-frame.result.now in
-    let at = c.outwards.at in
+    let at = c.outwards.here in
     let left = c.outwards.invariant.left name listings is hold in
     let h = here name (map frame_listed fs) all c.args.slots.now c.args.from at c.outwards.up c.outwards.next left in
     let found = c.in-Ok.ensures name h.listing h.more
@@ -35,15 +35,15 @@ returns-in-Ok c =
     (stored-index fs at f (omega arith) c.index-frame.ensures) name (datum_of c.in-Ok.value.now) found)
     ∙ left.same
 
-pub returns-then-at-parent : goal.returns-then-at-parent
+pub returns-then-here-parent : goal.returns-then-here-parent
 unfolding listed stored frame_stored
-returns-then-at-parent c =
+returns-then-here-parent c =
     λ name listings is hold.
     let fs = c.args.self.now.frames.items in
     let all = map frame_stored fs in
     let many = length-map fs frame_stored in
     let f = c.index-frame.result.now in
-    let at = c.outwards.at in
+    let at = c.outwards.here in
     let left = c.outwards.invariant.left name listings is hold in
     let h = here name (map frame_listed fs) all c.args.slots.now c.args.from at c.outwards.up c.outwards.next left in
     let absent = c.in-Err.ensures name h.listing h.more
@@ -63,7 +63,7 @@ outwards-preserved c = record {
       let all = map frame_stored fs in
       let many = length-map fs frame_stored in
       let f = c.index-frame.result.now in
-      let at = c.outwards.at in
+      let at = c.outwards.here in
       let left = c.outwards.invariant.left name listings is hold in
       let h = here name (map frame_listed fs) all c.args.slots.now c.args.from at c.outwards.up c.outwards.next left in
       let there = stored-index fs at f (omega arith) c.index-frame.ensures in
@@ -88,7 +88,7 @@ returns-in-None c =
     let all = map frame_stored fs in
     let many = length-map fs frame_stored in
     let f = c.index-frame.result.now in
-    let at = c.outwards.at in
+    let at = c.outwards.here in
     let left = c.outwards.invariant.left name listings is hold in
     let h = here name (map frame_listed fs) all c.args.slots.now c.args.from at c.outwards.up c.outwards.next left in
     let absent = c.in-Err.ensures name h.listing h.more

@@ -8,11 +8,11 @@ use Rattle.scad_scope.proofs.frames.Frames.at.Given as goal
 
 abbrev pub invariant-outwards : goal.invariant-outwards
 invariant-outwards l = record {
-  near : l.at + l.up ≤ l.from;
+  near : l.here + l.up ≤ l.from;
   left : (name : List ℕ) (listings : List Listing) → l.slots ≡ slots_of name listings
       → HoldNames listings (listed l.self) (stored l.self) l.from
-      → Left name (listed l.self) (stored l.self) l.slots l.from l.at l.up l.next;
+      → Left name (listed l.self) (stored l.self) l.slots l.from l.here l.up l.next;
 }
 
 abbrev pub decreases-outwards : goal.decreases-outwards
-decreases-outwards l = l.at
+decreases-outwards l = l.here

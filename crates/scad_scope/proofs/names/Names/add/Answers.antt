@@ -1,4 +1,4 @@
-use Rattle.std.proofs.Common.{sym, ap, ◌∙◌}
+use Rattle.std.proofs.Common.{ap, ◌∙◌}
 use Rattle.scad_scope.specs.Listing.{with_listed}
 use Rattle.scad_scope.proofs.Listing.{words, words-insert}
 use Rattle.scad_scope.proofs.names.Names.add.Goals as goal

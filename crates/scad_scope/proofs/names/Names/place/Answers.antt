@@ -1,4 +1,4 @@
-use Rattle.std.proofs.Common.{sym, ap, ◌∙◌}
+use Rattle.std.proofs.Common.{ap, ◌∙◌}
 use Rattle.scad_scope.specs.Listing.{place_of}
 use Rattle.scad_scope.proofs.Listing.{place-word}
 use Rattle.scad_scope.proofs.names.Names.place.Goals as goal

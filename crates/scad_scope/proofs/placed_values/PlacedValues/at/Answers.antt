@@ -1,4 +1,4 @@
-use Rattle.std.proofs.Common.{arith, [], sym, ap, ◌∙◌}
+use Rattle.std.proofs.Common.{arith, [], ap, ◌∙◌}
 use Rattle.std.proofs.lemmas.List.{append-nil, length-map}
 use Rattle.scad_scope.specs.Held.{listing_of, placed_in}
 use Rattle.scad_scope.specs.Names.{value_of_name}

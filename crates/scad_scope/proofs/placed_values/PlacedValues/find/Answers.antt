@@ -3,7 +3,7 @@ use Rattle.std.proofs.lemmas.List.{length-map}
 use Rattle.scad_scope.specs.Held.{listing_of}
 use Rattle.scad_scope.specs.Placed.{name_placed}
 use Rattle.scad_scope.proofs.Placed.{place-name, place-number, place-unlisted}
-use Rattle.scad_scope.proofs.placed_values.PlacedValues.spot.Goals as goal
+use Rattle.scad_scope.proofs.placed_values.PlacedValues.find.Goals as goal
 
 pub returns-then-number-len : goal.returns-then-number-len
 returns-then-number-len c =
