@@ -3,7 +3,7 @@
 use scad_ast::{Expr, Item, Node, Scope};
 use scad_fault::{Place, Text};
 use scad_num::Num;
-use scad_scope::{Binding, Bindings, Frames, Kept, bindings};
+use scad_scope::{Binding, Bindings, Frames, Kept, Names, Slots, bindings, resolve};
 use scad_value::{Value, equal};
 use std::alloc::{AllocError, Global};
 
@@ -180,4 +180,100 @@ fn further_names_are_found_and_set(rt: HostRuntime) {
         assert!(rt; has(&frames, 0, name, 1));
     }
     assert!(rt; frames.get(0, b"k").is_none());
+}
+
+/// These names, each once.
+fn names_of(alloc: Global, words: &[&[u8]]) -> Result<Names, AllocError> {
+    let mut names = Names::new(alloc);
+    'words: for word in words {
+        names.add(word)?;
+    }
+    Ok(names)
+}
+
+/// The names of a call of the function of `f=2; function f(x)=x+1; module f(){cube(f(f));} f();`, and those of the program.
+fn listed(alloc: Global) -> Result<[Names; 2], AllocError> {
+    Ok([names_of(alloc, &[b"x", b"x"])?, names_of(alloc, &[b"f", b"g"])?])
+}
+
+/// The frame of that program, where f is 2 and a further name isn't set, and in it that of the call, where x is 2.
+fn called<'p>(alloc: Global, names: &'p [Names; 2]) -> Result<Frames<'p>, AllocError> {
+    let mut frames = Frames::new(alloc);
+    let program = frames.push_names(None, None, None, &names[1])?;
+    frames.set(b"f", number(2))?;
+    frames.push_names(Some(program), None, None, &names[0])?;
+    frames.set(b"x", number(2))?;
+    Ok(frames)
+}
+
+/// Whether the name has this number by its slots, from the call outwards.
+fn lies(alloc: Global, frames: &Frames, names: &[Names; 2], name: &[u8], z: i64) -> bool {
+    match resolve(alloc, names, name) {
+        Ok(slots) => match frames.at(1, &slots) {
+            Some(v) => equal(v, &number(z)),
+            None => false,
+        },
+        Err(_) => false,
+    }
+}
+
+/// Whether no slot of the name is set.
+fn is_unset(alloc: Global, frames: &Frames, names: &[Names; 2], name: &[u8]) -> bool {
+    match resolve(alloc, names, name) {
+        Ok(slots) => frames.at(1, &slots).is_none(),
+        Err(_) => false,
+    }
+}
+
+/// Whether the frame tells names with this one at a place.
+fn lists(frames: &Frames, at: u32, name: &[u8], place: usize) -> bool {
+    match frames.names(at) {
+        Some(names) => names.place(name) == Some(place),
+        None => false,
+    }
+}
+
+#[test]
+fn names_are_found_by_slots(rt: HostRuntime) {
+    let names = listed(rt.alloc()).expect(&rt, "names");
+    let mut frames = called(rt.alloc(), &names).expect(&rt, "frames");
+    assert!(rt; lies(rt.alloc(), &frames, &names, b"f", 2) && lies(rt.alloc(), &frames, &names, b"x", 2));
+    assert!(rt; is_unset(rt.alloc(), &frames, &names, b"g") && is_unset(rt.alloc(), &frames, &names, b"h"));
+    assert!(rt; has(&frames, 1, b"f", 2) && has(&frames, 1, b"x", 2));
+    assert!(rt; lists(&frames, 0, b"g", 1) && lists(&frames, 1, b"x", 0));
+    // h isn't listed
+    frames.set(b"h", number(5)).expect(&rt, "a value");
+    assert!(rt; frames.names(1).is_none() && has(&frames, 1, b"h", 5) && lists(&frames, 0, b"f", 0));
+}
+
+/// Whether the slot of a number is this one.
+fn is_slot(slots: &Slots, i: usize, up: usize, place: usize) -> bool {
+    let list = slots.as_slice();
+    i < list.len() && list[i].up == up && list[i].place == place
+}
+
+/// Names that both frames list: b is set in the outer one alone, c in both.
+fn hidden<'p>(alloc: Global, names: &'p Names) -> Result<Frames<'p>, AllocError> {
+    let mut frames = Frames::new(alloc);
+    let outer = frames.push_names(None, None, None, names)?;
+    set_all(&mut frames, &[b"c", b"b"], 1)?;
+    frames.push_names(Some(outer), None, None, names)?;
+    frames.set(b"c", number(3))?;
+    Ok(frames)
+}
+
+#[test]
+fn unset_slots_are_passed(rt: HostRuntime) {
+    let alloc = rt.alloc();
+    let words: &[&[u8]] = &[b"a", b"b", b"c"];
+    let names = names_of(alloc, words).expect(&rt, "names");
+    let both = [
+        names_of(alloc, words).expect(&rt, "names"),
+        names_of(alloc, words).expect(&rt, "names"),
+    ];
+    let frames = hidden(alloc, &names).expect(&rt, "frames");
+    assert!(rt; lies(alloc, &frames, &both, b"b", 1) && lies(alloc, &frames, &both, b"c", 3));
+    assert!(rt; is_unset(alloc, &frames, &both, b"a"));
+    let slots = resolve(alloc, &both, b"c").expect(&rt, "slots");
+    assert!(rt; slots.as_slice().len() == 2 && is_slot(&slots, 0, 0, 2) && is_slot(&slots, 1, 1, 2));
 }

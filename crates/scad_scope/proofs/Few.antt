@@ -6,7 +6,7 @@ use Rattle.scad_value.specs.Datum.{Datum}
 use Rattle.scad_value.specs.declared.value.Value.{Value}
 use Rattle.scad_value.specs.View.{datum_of}
 use Rattle.scad_scope.specs.Names.{Names, is_same_name, place_in, value_of_name, with_name}
-use Rattle.scad_scope.specs.View.{named}
+use Rattle.scad_scope.specs.Held.{named}
 use Rattle.scad_scope.proofs.Outwards.{same_key, named-insert}
 
 -- ---- a name that stands there
@@ -61,29 +61,26 @@ value-unplaced name (p ∷ xs) more past = by (value-unplaced name xs more) (is_
     by rest false past = rest (omega (arith, past))
 
 -- ---- entries in memory
--- one is set
-pub few-set : (name : List ℕ) (all : List (Vec ℕ Global × Value)) (more : Names) (i : ℕ)
-    (e : Vec ℕ Global × Value)
-    (v : Value) → i ≡ place_in name (map named all) → i < length all → e ≡ get_or all i e
-    → map named (set all i (e.0, v)) ++ more ≡ with_name name (datum_of v) (map named all ++ more)
-few-set name all more i e v at low is =
-    let many = length-map all named in
-    ap (λ l. l ++ more) (map-set named all i (e.0, v)
-    ∙ ap (λ p. set (map named all) i (p.0, datum_of v))
-    (ap named is ∙ sym (get_or-map named all i e (named e) low)))
-    ∙ ap (λ j. set (map named all) j ((get_or (map named all) j (named e)).0, datum_of v) ++ more) at
-    ∙ set-placed name (datum_of v) (map named all) more (named e) (omega (arith, many, at, low))
+module _ {A : Type 0} (view : A → List ℕ × Datum) where
+  -- one is set
+  pub few-set : (name : List ℕ) (d : Datum) (all : List A) (more : Names) (i : ℕ) (old new : A)
+      → view new ≡ ((view old).0, d) → i ≡ place_in name (map view all) → i < length all → old ≡ get_or all i old
+      → map view (set all i new) ++ more ≡ with_name name d (map view all ++ more)
+  few-set name d all more i old new made at low is =
+      let many = length-map all view in
+      ap (λ l. l ++ more) (map-set view all i new ∙ ap (set (map view all) i)
+      (made ∙ ap (λ p. (p.0, d)) (ap view is ∙ sym (get_or-map view all i old (view old) low))))
+      ∙ ap (λ j. set (map view all) j ((get_or (map view all) j (view old)).0, d) ++ more) at
+      ∙ set-placed name d (map view all) more (view old) (omega (arith, many, at, low))
 
--- one is sought
-pub few-value : (name : List ℕ) (all : List (Vec ℕ Global × Value)) (more : Names) (i : ℕ)
-    (e : Vec ℕ Global × Value)
-    → i ≡ place_in name (map named all) → i < length all → e ≡ get_or all i e
-    → Some (datum_of e.1) ≡ value_of_name name (map named all ++ more)
-few-value name all more i e at low is =
-    let many = length-map all named in
-    ap (λ p. Some p.1) (ap named is ∙ sym (get_or-map named all i e (named e) low))
-    ∙ ap (λ j. Some (get_or (map named all) j (named e)).1) at
-    ∙ value-placed name (map named all) more (named e) (omega (arith, many, at, low))
+  -- one is sought
+  pub few-value : (name : List ℕ) (all : List A) (more : Names) (i : ℕ) (e : A) → i ≡ place_in name (map view all)
+      → i < length all → e ≡ get_or all i e → Some (view e).1 ≡ value_of_name name (map view all ++ more)
+  few-value name all more i e at low is =
+      let many = length-map all view in
+      ap (λ p. Some p.1) (ap view is ∙ sym (get_or-map view all i e (view e) low))
+      ∙ ap (λ j. Some (get_or (map view all) j (view e)).1) at
+      ∙ value-placed name (map view all) more (view e) (omega (arith, many, at, low))
 
 -- one goes behind them
 pub few-push : (key : Vec ℕ Global) (v : Value) (all : List (Vec ℕ Global × Value)) (more : Names)
@@ -128,3 +125,5 @@ place-past name all i e below is other =
 pub place-none : (name : List ℕ) (all : List (Vec ℕ Global × Value)) (i : ℕ) → length all ≤ i
     → place_in name (map named (drop i all)) ≡ 0
 place-none name all i past = ap (λ l. place_in name (map named l)) (drop_all i all past)
+
+pub ruleset unplaced = (set-unplaced, value-unplaced)

@@ -1,5 +1,11 @@
 pub mod Few
+pub mod Finding
+pub mod HeldNames
+pub mod Listing
 pub mod Noted
+pub mod OnLiterals
 pub mod Outwards
+pub mod Placed
+pub mod Resolved
 pub mod Rows
 pub mod Tables

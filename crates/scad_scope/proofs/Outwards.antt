@@ -3,7 +3,7 @@ use Rattle.std.proofs.Common.{◌≡◌, ℕ, ◌+◌, ◌-◌, ◌<◌, ◌≤�
 use Rattle.std.specs.Prelude.{nat_eq, option_copied}
 use Rattle.std.specs.Cmp.Lexicographic.{pointwise}
 use Rattle.std.proofs.lemmas.List.{map-append, map-set, take-map, length-map, get_or-take, get_or_past, get_or-map, set-get_or, drop_more, length-append, length-take, length-take-le, take-append-drop, take_at, append-nil}
-use Rattle.std.proofs.Math.Seq.{get_or-append_seam}
+use Rattle.std.proofs.Math.Seq.{get_or-append_seam, map-set_same}
 use Rattle.std.specs.Map.{lookup}
 use Rattle.scad_value.specs.Datum.{Datum}
 use Rattle.indexmap.specs.IndexMap.{insert_entry}
@@ -13,7 +13,8 @@ use Rattle.scad_scope.specs.declared.frame.Frame.{Frame}
 use Rattle.scad_scope.specs.Names.{value_of_name, with_name}
 use Rattle.scad_scope.specs.Env.{Env, outside, sought, or_else}
 use Rattle.scad_scope.specs.Stored.{Stored, pushed, stored_at, with_name_in, with_name_in_last, env_at, env_round, env_of, envs_onto, envs}
-use Rattle.scad_scope.specs.View.{named, frame_stored}
+use Rattle.scad_scope.specs.Held.{named}
+use Rattle.scad_scope.specs.View.{frame_listed, frame_stored}
 
 -- ---- names in memory
 abbrev pub same_key : Vec ℕ Global → Vec ℕ Global → Bool
@@ -57,6 +58,11 @@ stored-same fs i old new below is same =
     (get_or-map frame_stored fs i old (frame_stored old) below)) ∙ set-get_or (map frame_stored fs) i
     (frame_stored old)
 
+-- what a frame was pushed with stays
+pub listed-same : (fs : List Frame) (i : ℕ) (old new : Frame) → old ≡ get_or fs i old
+    → frame_listed new ≡ frame_listed old → map frame_listed (set fs i new) ≡ map frame_listed fs
+listed-same fs i old new is same = map-set_same frame_listed fs i new old (same ∙ ap frame_listed is)
+
 -- a value that is lent is a value
 pub lent : (r : Option (Bor Value)) → option_map (λ v. datum_of v.now) r ≡ option_map datum_of (option_copied r)
 lent None = refl
@@ -68,16 +74,15 @@ pub stored-index : (fs : List Frame) (n : ℕ) (f : Frame) → n < length fs →
 stored-index fs n f below is = ap frame_stored is ∙ sym (get_or-map frame_stored fs n f (frame_stored f) below)
 
 -- the name is set in the last frame
-pub stored-last : (fs : List Frame) (i : ℕ) (key name : List ℕ) (d : Datum) (old new : Frame) → i ≡ length fs - 1
-    → i < length fs → key ≡ name → old ≡ get_or fs i old → frame_stored new ≡ with_name_in key d (frame_stored old)
+pub stored-last : (fs : List Frame) (i : ℕ) (name : List ℕ) (d : Datum) (old new : Frame) → i ≡ length fs - 1
+    → i < length fs → old ≡ get_or fs i old → frame_stored new ≡ with_name_in name d (frame_stored old)
     → map frame_stored (set fs i new) ≡ with_name_in_last name d (map frame_stored fs)
-stored-last fs i key name d old new last below same is made =
-    stored-written fs i old new (pushed None None None) (with_name_in name d) below is
-    (made ∙ ap (λ n. with_name_in n d (frame_stored old)) same)
+stored-last fs i name d old new last below is made =
+    stored-written fs i old new (pushed None None None) (with_name_in name d) below is made
     ∙ ap (λ j. set (map frame_stored fs) j (with_name_in name d (stored_at (map frame_stored fs) j)))
     (last ∙ ap (λ m. m - 1) (sym (length-map fs frame_stored)))
 
-pub ruleset writes = (stored-written, stored-same, length-map)
+pub ruleset writes = (stored-written, stored-same, listed-same, length-map)
 
 -- ---- the environment of a number
 split : (before : List Env) (xs ys : List Stored) → envs_onto before (xs ++ ys) ≡ envs_onto (envs_onto before xs) ys

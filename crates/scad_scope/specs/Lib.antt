@@ -1,8 +1,14 @@
 pub mod Assigned
+pub mod Chain
 pub mod Definitions
 pub mod Env
+pub mod Found
+pub mod Held
+pub mod Listing
 pub mod Names
 pub mod Noted
+pub mod Placed
+pub mod Slots
 pub mod Stored
 pub mod Tabled
 pub mod View

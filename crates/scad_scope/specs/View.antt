@@ -1,39 +1,21 @@
 -- The frames that a value in memory is.
-use Rattle.std.specs.Prelude.{ℕ, List, [], ◌++◌, Option, Some, None, map, option_map, Vec}
-use Rattle.std.specs.Global.{Global}
+use Rattle.std.specs.Prelude.{List, ◌++◌, Option, Some, None, map, option_map}
 use Rattle.scad_ast.specs.Scope.{items}
 use Rattle.scad_ast.specs.Tree.{Items}
-use Rattle.scad_value.specs.Datum.{Datum}
-use Rattle.scad_value.specs.View.{datum_of}
-use Rattle.scad_value.specs.declared.value.Value.{Value}
 use Rattle.scad_scope.specs.declared.frame.Frame.{Frame}
+use Rattle.scad_scope.specs.declared.frame_names.FrameNames.{FrameNames}
 use Rattle.scad_scope.specs.declared.home.Home.{Home}
 use Rattle.scad_scope.specs.declared.home.Home.TheVariants.{Unscoped, Searched, Tabled}
 use Rattle.scad_scope.specs.declared.kept.Kept.{Kept}
-use Rattle.scad_scope.specs.declared.names.Names.{Names as NamesHeld}
+use Rattle.scad_scope.specs.Held.{named_in, placed_in}
+use Rattle.scad_scope.specs.Listing.{Listing}
 use Rattle.scad_scope.specs.Names.{Names}
 use Rattle.scad_scope.specs.declared.frames.Frames.{Frames}
 use Rattle.scad_scope.specs.Stored.{Stored, StoredChildren}
 
--- a name with its value
-abbrev pub named : Vec ℕ Global × Value → List ℕ × Datum
-named p = (p.0.items, datum_of p.1)
-
--- the first names of a frame
-abbrev pub few_in : NamesHeld → Names
-few_in n = map named n.few.items
-
--- the names, where there are any
-abbrev pub or_none : Option Names → Names
-or_none None = []
-or_none (Some all) = all
-
--- the names behind them
-abbrev pub more_in : NamesHeld → Names
-more_in n = or_none (option_map (λ b. map named b.value.entries) n.more)
-
-unfoldable pub names_in : NamesHeld → Names
-names_in n = few_in n ++ more_in n
+-- the names of a frame with their values
+unfoldable pub names_in : FrameNames → Names
+names_in n = placed_in n.placed ++ named_in n.named
 
 abbrev pub children_stored : Kept → StoredChildren
 children_stored k = record { statements = items k.scope.now.items; home = k.home }
@@ -55,3 +37,11 @@ frame_stored f = record {
 -- the frames by their numbers
 unfoldable pub stored : Frames → List Stored
 stored f = map frame_stored f.frames.items
+
+-- the names that a frame was pushed with
+unfoldable pub frame_listed : Frame → Option Listing
+frame_listed f = option_map (λ n. n.now) f.names.placed.names
+
+-- of each frame the names that it was pushed with, where it was pushed with names
+unfoldable pub listed : Frames → List (Option Listing)
+listed f = map frame_listed f.frames.items

@@ -6,15 +6,24 @@
 mod binding;
 mod entries;
 mod frame;
+mod frame_names;
 mod frames;
 mod home;
 mod kept;
 mod kind;
+mod named_values;
 mod names;
+mod place_search;
+mod placed_values;
+mod resolution;
+mod slot;
 mod table;
 mod variables;
 
 pub use binding::{Binding, Bindings};
 pub use frames::Frames;
 pub use kept::Kept;
+pub use names::Names;
+pub use resolution::resolve;
+pub use slot::{Slot, Slots};
 pub use variables::bindings;

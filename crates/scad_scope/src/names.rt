@@ -1,141 +1,53 @@
-//! The names of a frame with their values.
+//! The names that a frame can hold.
 
-ghost use Rattle.std.specs.Prelude.{◌≡◌, map};
-ghost use Rattle.scad_scope.specs.Names.{place_in};
-ghost use Rattle.scad_scope.specs.View.{named};
-
-use indexmap::IndexMap;
-use scad_value::Value;
+use indexmap::IndexSet;
 use std::alloc::{AllocError, Global};
+use std::marker::Model;
 
-/// How many names lie in a list. The frame of a call has few, and a map of them takes several times
-/// the memory.
-const FEW_NAMES: usize = 8;
-
-/// Names with their values, in the order in which they were first set: the first of them in a list,
-/// further ones in a map.
+/// The names that one frame can hold, each once, seen by contracts as a list. The place of a name is found by its hash.
 #[derive(Drop)]
 pub struct Names {
-    few: Vec<(Vec<u8>, Value)>,
-    more: Option<Box<IndexMap<Vec<u8>, Value>>>,
+    alloc: Global,
+    set: IndexSet<Vec<u8>>,
 }
 
-/// How many names stand before a name in a list: all of them where it isn't there.
-fn place_of(all: &[(Vec<u8>, Value)], name: &[u8]) -> usize
-    ensures { result ≡ place_in name.now (map named all.now) }
-{
-    let mut i = 0;
-    'entries: for entry in all {
-        if name == entry.0.as_slice() {
-            return i;
-        }
-        i += 1;
-    }
-    i
-}
+impl Model for Names {
+    ghost use Rattle.std.specs.Prelude.{map};
+    ghost use Rattle.scad_scope.specs.Listing.{Listing};
 
-/// Makes room for one more, for the first one no more than that: many frames have no other.
-fn make_room(all: &mut Vec<(Vec<u8>, Value)>) -> Result<(), AllocError>
-    ensures { all.new.items ≡ all.old.items }
-{
-    if all.is_empty() {
-        all.reserve_exact(1)
-    } else {
-        all.reserve(1)
-    }
+    ghost Value = { Listing };
+
+    ghost view = { λ n. map (λ w. w.items) n.set.keys };
 }
 
 impl Names {
-    ghost use Rattle.std.specs.Prelude.{◌≡◌, ◌≤◌, [], length, option_map, OnOk, OnErr};
-    ghost use Rattle.scad_value.specs.View.{datum_of};
-    ghost use Rattle.scad_scope.specs.Names.{place_in, value_of_name, with_name};
-    ghost use Rattle.scad_scope.specs.View.{few_in, more_in, names_in};
+    ghost use Rattle.std.specs.Prelude.{◌≡◌, [], OnOk, OnErr};
+    ghost use Rattle.scad_scope.specs.Listing.{place_of, with_listed};
 
-    /// No names. They take no memory.
-    #[tactic(auto, unfolding(crate::specs::View::names_in))]
+    /// No names. It takes no memory.
     pub fn new(alloc: Global) -> Names
-        ensures { names_in result ≡ [] }
+        ensures { result ≡ [] }
     {
         Names {
-            few: Vec::new(alloc),
-            more: None,
+            alloc,
+            set: IndexSet::new(alloc),
         }
     }
 
-    /// Sets a name.
-    #[tactic(auto, unfolding(crate::specs::View::names_in))]
-    pub fn set(&mut self, alloc: Global, name: Vec<u8>, value: Value) -> Result<(), AllocError>
-        ensures named { OnOk result (names_in self.new
-            ≡ with_name name.items (datum_of value) (names_in self.old)) }
-        ensures refused { OnErr result (names_in self.new ≡ names_in self.old) }
+    /// Lists a name last, where it isn't listed.
+    pub fn add(&mut self, name: &[u8]) -> Result<(), AllocError>
+        ensures listed { OnOk result (self.new ≡ with_listed name.now self.old) }
+        ensures refused { OnErr result (self.new ≡ self.old) }
     {
-        let place = place_of(self.few.as_slice(), name.as_slice());
-        if place < self.few.len() {
-            self.few[place].1 = value;
-            return Ok(());
-        }
-        self.add(alloc, name, value)
-    }
-
-    /// Sets a name that isn't among the few.
-    #[tactic(auto, unfolding(crate::specs::View::names_in))]
-    fn add(&mut self, alloc: Global, name: Vec<u8>, value: Value) -> Result<(), AllocError>
-        requires { length (few_in self.old) ≤ place_in name.items (few_in self.old) }
-        ensures named { OnOk result (names_in self.new
-            ≡ with_name name.items (datum_of value) (names_in self.old)) }
-        ensures refused { OnErr result (names_in self.new ≡ names_in self.old) }
-    {
-        if let Some(held) = &mut self.more {
-            held.insert(name, value)?;
-            return Ok(());
-        }
-        if self.few.len() < FEW_NAMES {
-            self.append(name, value)
-        } else {
-            self.start(alloc, name, value)
-        }
-    }
-
-    /// Puts a name behind the few.
-    #[tactic(auto, unfolding(crate::specs::View::names_in))]
-    fn append(&mut self, name: Vec<u8>, value: Value) -> Result<(), AllocError>
-        requires absent { length (few_in self.old) ≤ place_in name.items (few_in self.old) }
-        requires last { more_in self.old ≡ [] }
-        ensures named { OnOk result (names_in self.new
-            ≡ with_name name.items (datum_of value) (names_in self.old)) }
-        ensures refused { OnErr result (names_in self.new ≡ names_in self.old) }
-    {
-        make_room(&mut self.few)?;
-        self.few.push((name, value))?;
+        let word = Vec::from_slice(self.alloc, name)?;
+        self.set.insert(word)?;
         Ok(())
     }
 
-    /// Begins the map with a name.
-    fn start(&mut self, alloc: Global, name: Vec<u8>, value: Value) -> Result<(), AllocError>
-        requires absent { length (few_in self.old) ≤ place_in name.items (few_in self.old) }
-        requires last { more_in self.old ≡ [] }
-        ensures named { OnOk result (names_in self.new
-            ≡ with_name name.items (datum_of value) (names_in self.old)) }
-        ensures refused { OnErr result (names_in self.new ≡ names_in self.old) }
+    /// The place of a name.
+    pub fn place(&self, name: &[u8]) -> Option<usize>
+        ensures { result ≡ place_of name.now self.now }
     {
-        let mut held = IndexMap::new(alloc);
-        held.insert(name, value)?;
-        self.more = Some(Box::new(alloc, held)?);
-        Ok(())
-    }
-
-    /// The value of a name.
-    pub fn get(&self, name: &[u8]) -> Option<&Value>
-        ensures { option_map (λ v. datum_of v.now) result
-            ≡ value_of_name name.now (names_in self.now) }
-    {
-        let place = place_of(self.few.as_slice(), name);
-        if place < self.few.len() {
-            return Some(&self.few[place].1);
-        }
-        match &self.more {
-            Some(held) => held.get(name),
-            None => None,
-        }
+        self.set.get_index_of(name)
     }
 }

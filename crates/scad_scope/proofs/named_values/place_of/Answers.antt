@@ -1,7 +1,7 @@
 use Rattle.std.proofs.Common.{sym, ap, ◌∙◌, arith}
 use Rattle.scad_scope.specs.Names.{is_same_name}
 use Rattle.scad_scope.proofs.Few.{place-here, place-past, place-none}
-use Rattle.scad_scope.proofs.names.place_of.Goals as goal
+use Rattle.scad_scope.proofs.named_values.place_of.Goals as goal
 
 pub returns-then-eq : goal.returns-then-eq
 returns-then-eq c =

@@ -1,7 +1,7 @@
 use Rattle.std.proofs.Common.{◌≡◌, ◌+◌, map, drop}
 use Rattle.scad_scope.specs.Names.{place_in}
-use Rattle.scad_scope.specs.View.{named}
-use Rattle.scad_scope.proofs.names.place_of.Given as goal
+use Rattle.scad_scope.specs.Held.{named}
+use Rattle.scad_scope.proofs.named_values.place_of.Given as goal
 
 abbrev pub invariant-entries : goal.invariant-entries
 invariant-entries l = record {

@@ -1,10 +1,10 @@
 use Rattle.std.proofs.Common.{ap, ◌∙◌, [], ◌∷◌, ◌++◌, map}
-use Rattle.scad_scope.specs.View.{named, more_in, names_in}
+use Rattle.scad_scope.specs.Held.{named, more_in, named_in}
 use Rattle.scad_scope.proofs.Few.{few-push}
-use Rattle.scad_scope.proofs.names.Names.append.Goals as goal
+use Rattle.scad_scope.proofs.named_values.NamedValues.append.Goals as goal
 
 pub returns-clause-named : goal.returns-clause-named
-unfolding names_in
+unfolding named_in
 returns-clause-named c =
     ap (λ l. map named l ++ more_in c.args.self.now)
     (c.in_ok-push.ensures.items ∙ ap (λ l. l ++ (c.args.name, c.args.value) ∷ []) c.make_room.ensures)
