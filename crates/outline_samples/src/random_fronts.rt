@@ -13,7 +13,6 @@ use slice_events::levels;
 use slice_slab::{Bundle, slab};
 use slice_sweep::Front;
 use std::alloc::{AllocError, Global};
-use std::test::Fail;
 
 // The points of a grid: so many a side, near to one another or far apart.
 #[derive(Clone, Copy)]
@@ -115,18 +114,23 @@ fn are_like_slabs(alloc: Global, edges: &[LeafEdge], levels: &[Level]) -> Result
     Ok(alike)
 }
 
-#[test]
-fn bundles_are_those_made_from_all_edges(rt: HostRuntime) -> Result<(), Fail> {
-    for seed in 1..1501u64 {
-        let mut dice = Dice::of_seed(seed);
-        let edges = roll_edges(rt.alloc(), &mut dice)?;
-        if edges.len() < 100 {
-            let heights = levels(rt.alloc(), &edges).ok().ok_or("refused")?;
-            assert!(rt;
-                are_like_slabs(rt.alloc(), &edges, &heights)?,
-                "seed {seed}"
-            );
-        }
+// Whether those of the random edges of a seed are.
+fn is_seed_like_slabs(alloc: Global, seed: u64) -> Option<bool> {
+    let mut dice = Dice::of_seed(seed);
+    let edges = roll_edges(alloc, &mut dice).ok()?;
+    if edges.len() >= 100 {
+        return None;
     }
-    Ok(())
+    let heights = levels(alloc, &edges).ok()?;
+    are_like_slabs(alloc, &edges, &heights).ok()
+}
+
+#[test]
+fn bundles_are_those_made_from_all_edges(rt: HostRuntime) {
+    for seed in 1..1501u64 {
+        assert!(rt;
+            is_seed_like_slabs(rt.alloc(), seed) == Some(true),
+            "seed {seed}"
+        );
+    }
 }
