@@ -6,7 +6,6 @@ ghost use Rattle.scad_geom.specs.Within.{IsWithin, IsEdgeWithin};
 use scad_geom::{Edge, LeafEdge, Pt};
 use slice_events::{EventFault, levels};
 use std::alloc::{AllocError, Global};
-use std::test::Fail;
 
 // One edge many times over: its copies don't cross each other.
 fn push_copies(edges: &mut Vec<LeafEdge>, count: u16, a: Pt, b: Pt) -> Result<(), AllocError>
@@ -42,18 +41,12 @@ fn push_pair(edges: &mut Vec<LeafEdge>) -> Result<(), AllocError>
 }
 
 #[test]
-fn two_million_crossings_are_taken_and_one_more_is_refused(rt: HostRuntime) -> Result<(), Fail> {
-    let mut edges = across(rt.alloc())?;
+fn two_million_crossings_are_taken_and_one_more_is_refused(rt: HostRuntime) {
+    let mut edges = across(rt.alloc()).expect(&rt, "memory");
     assert!(rt; edges.len() == 3000);
-    let taken = levels(rt.alloc(), &edges).ok().ok_or("refused")?;
-    assert_eq!(rt; taken.len(), 3);
-    push_pair(&mut edges)?;
+    assert!(rt; matches!(levels(rt.alloc(), &edges), Ok(taken) if taken.len() == 3));
+    push_pair(&mut edges).expect(&rt, "memory");
     assert!(rt; edges.len() == 3002);
-    assert!(rt;
-        matches!(
-            levels(rt.alloc(), &edges),
-            Err(EventFault::Crossings(2_000_001))
-        )
-    );
-    Ok(())
+    let refused = levels(rt.alloc(), &edges);
+    assert!(rt; matches!(refused, Err(EventFault::Crossings(2_000_001))));
 }

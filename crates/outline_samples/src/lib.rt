@@ -1,5 +1,5 @@
-//! Worked examples of outlines: heights, slabs, pieces of borders, loops and whole layers. It promises nothing: it is a crate
-//! of tests, so that the crates that it tries are proved once.
+//! Worked examples of outlines: heights, slabs, fronts of sweeps, pieces of borders, loops and whole layers. It promises
+//! nothing: it is a crate of tests, so that the crates that it tries are proved once.
 #![tactic(auto, using(scad_geom::proofs::Casts::casts))]
 
 #[cfg(test)]
@@ -14,6 +14,10 @@ mod loops;
 mod pieces;
 #[cfg(test)]
 mod random_borders;
+#[cfg(test)]
+mod random_fronts;
+#[cfg(test)]
+mod random_outlines;
 #[cfg(test)]
 mod rectangles;
 #[cfg(test)]

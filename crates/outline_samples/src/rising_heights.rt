@@ -13,7 +13,6 @@ use scad_geom::{Edge, LeafEdge, Level, Pt};
 use slice_events::levels;
 use slice_slab::{Active, Bundle, slab};
 use std::alloc::{AllocError, Global};
-use std::test::Fail;
 
 // One edge after another on one line, a flat one where they meet, and one beside both.
 const EDGES: [LeafEdge; 4] = [
@@ -68,40 +67,33 @@ fn live_after(
     Ok(live)
 }
 
-#[test]
-fn an_edge_is_live_from_its_lower_end_on(rt: HostRuntime) -> Result<(), Fail> {
-    let live = live_after(
-        rt.alloc(),
-        &EDGES,
-        &Level { n: -1, d: 2 },
-        &Level { n: 0, d: 1 },
-    )?;
-    assert_eq!(rt; live.as_slice(), [1, 3].as_slice());
-    Ok(())
+fn is_live(alloc: Global, first: &Level, at: &Level, wanted: &[u32]) -> bool
+    requires first { IsLevelWithin coordinate_limit first.now }
+    requires at { IsLevelWithin coordinate_limit at.now }
+    requires rises { IsAtMost first.now at.now }
+{
+    match live_after(alloc, &EDGES, first, at) {
+        Ok(live) => live.as_slice() == wanted,
+        Err(_) => false,
+    }
 }
 
 #[test]
-fn edges_that_meet_at_a_height_are_live_there(rt: HostRuntime) -> Result<(), Fail> {
-    let live = live_after(
-        rt.alloc(),
-        &EDGES,
-        &Level { n: 0, d: 1 },
-        &Level { n: 8, d: 2 },
-    )?;
-    assert_eq!(rt; live.as_slice(), [0, 1, 2, 3].as_slice());
-    Ok(())
+fn an_edge_is_live_from_its_lower_end_on(rt: HostRuntime) {
+    let (below, lowest) = (Level { n: -1, d: 2 }, Level { n: 0, d: 1 });
+    assert!(rt; is_live(rt.alloc(), &below, &lowest, &[1, 3]));
 }
 
 #[test]
-fn an_edge_is_live_up_to_its_upper_end(rt: HostRuntime) -> Result<(), Fail> {
-    let live = live_after(
-        rt.alloc(),
-        &EDGES,
-        &Level { n: 8, d: 2 },
-        &Level { n: 9, d: 2 },
-    )?;
-    assert_eq!(rt; live.as_slice(), [0, 3].as_slice());
-    Ok(())
+fn edges_that_meet_at_a_height_are_live_there(rt: HostRuntime) {
+    let (lowest, middle) = (Level { n: 0, d: 1 }, Level { n: 8, d: 2 });
+    assert!(rt; is_live(rt.alloc(), &lowest, &middle, &[0, 1, 2, 3]));
+}
+
+#[test]
+fn an_edge_is_live_up_to_its_upper_end(rt: HostRuntime) {
+    let (middle, above) = (Level { n: 8, d: 2 }, Level { n: 9, d: 2 });
+    assert!(rt; is_live(rt.alloc(), &middle, &above, &[0, 3]));
 }
 
 // Whether two lists have the same bundles in the same order.
@@ -153,19 +145,24 @@ fn are_like_slabs(alloc: Global, edges: &[LeafEdge], levels: &[Level]) -> Result
     Ok(alike)
 }
 
-#[test]
-fn bundles_are_those_made_from_all_edges(rt: HostRuntime) -> Result<(), Fail> {
-    for seed in 1..201u64 {
-        let mut dice = Dice::of_seed(seed);
-        let edges = roll_edges(rt.alloc(), &mut dice)?;
-        if edges.len() < 100 {
-            let heights = levels(rt.alloc(), &edges).ok().ok_or("refused")?;
-            assert!(rt; heights.len() > 3, "seed {seed}");
-            assert!(rt;
-                are_like_slabs(rt.alloc(), &edges, &heights)?,
-                "seed {seed}"
-            );
-        }
+// Whether the random edges of a seed have more than three levels, and those bundles above each.
+fn is_seed_like_slabs(alloc: Global, seed: u64) -> Option<bool> {
+    let mut dice = Dice::of_seed(seed);
+    let edges = roll_edges(alloc, &mut dice).ok()?;
+    if edges.len() >= 100 {
+        return None;
     }
-    Ok(())
+    let heights = levels(alloc, &edges).ok()?;
+    let alike = are_like_slabs(alloc, &edges, &heights).ok()?;
+    Some(alike && heights.len() > 3)
+}
+
+#[test]
+fn bundles_are_those_made_from_all_edges(rt: HostRuntime) {
+    for seed in 1..201u64 {
+        assert!(rt;
+            is_seed_like_slabs(rt.alloc(), seed) == Some(true),
+            "seed {seed}"
+        );
+    }
 }

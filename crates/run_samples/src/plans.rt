@@ -1,6 +1,7 @@
 //! What `plan` and `sample` write and report. The texts come from an independent program.
 ghost use Rattle.std.specs.Prelude.{◌≤◌};
 
+use crate::file_texts::{PLATE_HATCHED, PLATE_PROGRAM};
 use crate::runs::{Answer, ROOM, answer_of, desk_with};
 use crate::settings::settled;
 use scad_fault::Text;
@@ -15,49 +16,6 @@ use std::thread::Threads;
 
 /// A plate of three millimetres, one layer thick.
 const PLATE: &str = "cube([3,3,0.2]);";
-
-pub const PLATE_OUTLINES: &str = "$$HEADERSTART
-$$ASCII
-$$UNITS/0.001
-$$VERSION/200
-$$LAYERS/1
-$$HEADEREND
-$$GEOMETRYSTART
-$$LAYER/200
-$$POLYLINE/1,1,5,0,0,3000,0,3000,3000,0,3000,0,0
-$$HATCHES/1,1,900,2000,2100,2000
-$$GEOMETRYEND
-";
-
-pub const PLATE_PROGRAM: &str = "; scadslice
-G21
-G90
-M82
-M107
-M140 S60
-M104 S200
-M190 S60
-M109 S200
-G28
-G92 E0
-; layer 0
-G1 Z0.200 F7200
-G1 X0.225 Y0.225 F7200
-G1 X2.775 Y0.225 E0.09541 F1800
-G1 X2.775 Y2.775 E0.19083 F1800
-G1 X0.225 Y2.775 E0.28624 F1800
-G1 X0.225 Y0.225 E0.38166 F1800
-G1 X0.675 Y0.675 F7200
-G1 X2.325 Y0.675 E0.44339 F1800
-G1 X2.325 Y2.325 E0.50513 F1800
-G1 X0.675 Y2.325 E0.56687 F1800
-G1 X0.675 Y0.675 E0.62861 F1800
-G1 X0.900 Y2.000 F7200
-G1 X2.100 Y2.000 E0.67351 F1800
-M104 S0
-M140 S0
-M84
-";
 
 const PLATE_LINE: &str = "done: 1 layers, 1 loops, 9 moves, E 0.67351\n";
 
@@ -86,7 +44,7 @@ fn a_plate_is_planned(rt: HostRuntime) {
     for workers in &["1", "3"] {
         let answer = planned(&rt, alloc, PLATE, workers, &[], ROOM);
         expect_report(&rt, &answer, 0, PLATE_LINE, workers);
-        let same = answer.cli.as_slice() == PLATE_OUTLINES.as_bytes()
+        let same = answer.cli.as_slice() == PLATE_HATCHED.as_bytes()
             && answer.gcode.as_slice() == PLATE_PROGRAM.as_bytes();
         assert!(rt; same);
     }
@@ -97,7 +55,7 @@ fn done_but_for<R: Threads + Sync + Abort>(rt: &R, alloc: Global, call: u64) -> 
     let answer = planned(rt, alloc, PLATE, "3", &[call], ROOM);
     let (code, report) = end_without(call);
     expect_report(rt, &answer, code, report, "a call fails");
-    let fronts = PLATE_OUTLINES.as_bytes().starts_with(&answer.cli)
+    let fronts = PLATE_HATCHED.as_bytes().starts_with(&answer.cli)
         && PLATE_PROGRAM.as_bytes().starts_with(&answer.gcode);
     assert!(rt;
         fronts && (answer.faults == 0) == (code == 0),

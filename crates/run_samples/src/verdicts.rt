@@ -1,5 +1,5 @@
 //! What `verify` answers. The answers come from an independent program.
-use crate::plans::{PLATE_OUTLINES, PLATE_PROGRAM};
+use crate::file_texts::{PLATE_HATCHED, PLATE_PROGRAM};
 use crate::runs::{Answer, ROOM, expect, push_file, run_on, texts_of};
 use scad_io::MemoryDesk;
 use std::alloc::{AllocError, Global};
@@ -16,7 +16,7 @@ struct Case<'a> {
 
 /// The two files that `plan` writes of a plate.
 const PLATE: Case = Case {
-    outlines: PLATE_OUTLINES,
+    outlines: PLATE_HATCHED,
     program: PLATE_PROGRAM,
     settings: "",
 };
@@ -172,7 +172,7 @@ const OUTLINES: [(&str, &str, &str); 3] = [
 fn outlines_are_judged_before_the_program(rt: HostRuntime) {
     let alloc = rt.alloc();
     for &(old, new, report) in &OUTLINES {
-        let outlines = turned(alloc, PLATE_OUTLINES, old, new).expect(&rt, "memory");
+        let outlines = turned(alloc, PLATE_HATCHED, old, new).expect(&rt, "memory");
         let case = Case {
             outlines: outlines.as_str(),
             program: "M99\n",

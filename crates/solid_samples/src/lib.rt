@@ -1,11 +1,15 @@
-//! Worked examples of solids: surfaces, matrices, shapes, extrusions, sections, trees, and the modules of the language. It
-//! promises nothing: it is a crate of tests, so that the crates that it tries are proved once.
+//! Worked examples of solids: surfaces, matrices, shapes, extrusions, hulls, sections, trees, and the modules of the language.
+//! It promises nothing: it is a crate of tests, so that the crates that it tries are proved once.
 #![tactic(auto, using(scad_geom::proofs::Casts::casts))]
 
 #[cfg(test)]
 mod corners;
 #[cfg(test)]
 mod extrusions;
+#[cfg(test)]
+mod hull_rings;
+#[cfg(test)]
+mod hulls;
 #[cfg(test)]
 mod matrices;
 #[cfg(test)]

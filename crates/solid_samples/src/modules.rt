@@ -2,7 +2,7 @@
 
 use scad_ast::{Arg, Expr, Node};
 use scad_fault::{Place, Text};
-use scad_matrix::{Axis, translate, turn};
+use scad_matrix::{Axis, Matrix, translate, turn};
 use scad_modules::{
     ArgumentFault, Fineness, Flat, Module, Name, Primitive, Resolution, Shape, Transform,
     crosses_axis, linear_by, matrix_of, meaning_of, outlines_of, points_in, primitive_of,
@@ -10,8 +10,8 @@ use scad_modules::{
 };
 use scad_num::Num;
 use scad_value::Value;
-use std::alloc::Global;
-use std::test::Fail;
+use std::alloc::{AllocError, Global};
+use std::process::Abort;
 
 fn number(n: u8) -> Num {
     Num::within(i64::from(n) * 1_000_000)
@@ -22,7 +22,7 @@ fn value(n: u8) -> Value {
 }
 
 // An argument with a name, or without one where that is empty.
-fn arg(alloc: Global, name: &[u8]) -> Result<Arg, Fail> {
+fn arg(alloc: Global, name: &[u8]) -> Result<Arg, AllocError> {
     let name = if name.is_empty() {
         None
     } else {
@@ -38,136 +38,159 @@ fn arg(alloc: Global, name: &[u8]) -> Result<Arg, Fail> {
     })
 }
 
+// Arguments of these names, parted by commas.
+fn args(alloc: Global, names: &str) -> Result<Vec<Arg>, AllocError> {
+    let mut args = Vec::new(alloc);
+    for name in names.split(',') {
+        args.push(arg(alloc, name.as_bytes())?)?;
+    }
+    Ok(args)
+}
+
+const NAMES: [(&str, Name); 8] = [
+    ("cube", Name::Known(Module::Shape(Shape::Cube))),
+    ("square", Name::Known(Module::Flat(Flat::Square))),
+    ("render", Name::Known(Module::Union)),
+    ("for", Name::For),
+    ("hull", Name::Known(Module::Hull)),
+    ("minkowski", Name::LeftOut),
+    ("Cube", Name::Unknown),
+    ("", Name::Unknown),
+];
+
 #[test]
 fn names_have_meanings(rt: HostRuntime) {
-    for (name, meaning) in [
-        ("cube", Name::Known(Module::Shape(Shape::Cube))),
-        ("square", Name::Known(Module::Flat(Flat::Square))),
-        ("render", Name::Known(Module::Union)),
-        ("for", Name::For),
-        ("hull", Name::Known(Module::Hull)),
-        ("minkowski", Name::LeftOut),
-        ("Cube", Name::Unknown),
-        ("", Name::Unknown),
-    ] {
-        assert_eq!(rt; meaning_of(name.as_bytes()), meaning, "{name}");
+    for &(name, meaning) in &NAMES {
+        assert!(rt; meaning_of(name.as_bytes()) == meaning, "{name}");
     }
 }
 
+fn is_number(found: Option<&Value>, wanted: Num) -> bool {
+    matches!(found, Some(Value::Number(n)) if *n == wanted)
+}
+
 #[test]
-fn later_arguments_win_and_undef_is_none(rt: HostRuntime) -> Result<(), Fail> {
-    let alloc = rt.alloc();
-    let args = [arg(alloc, b"")?, arg(alloc, b"size")?, arg(alloc, b"")?];
+fn later_arguments_win_and_undef_is_none(rt: HostRuntime) {
+    let args = args(rt.alloc(), ",size,").expect(&rt, "memory");
     let values = [value(1), value(2), Value::Undef];
-    let size = taken(Some(0), b"size", &args, &values);
-    assert_eq!(rt; size.is_some(), true);
-    if let Some(Value::Number(n)) = size {
-        assert_eq!(rt; *n, number(2));
+    assert!(rt; is_number(taken(Some(0), b"size", &args, &values), number(2)));
+    assert!(rt; taken(Some(1), b"center", &args, &values).is_none());
+    assert!(rt; taken(None, b"r", &args, &values).is_none());
+}
+
+// What a transformation by one value is.
+fn matrix_by(alloc: Global, transform: Transform, by: Value) -> Result<Matrix, ArgumentFault> {
+    match args(alloc, "") {
+        Ok(args) => matrix_of(transform, &args, &[by]),
+        Err(_) => Err(ArgumentFault::Memory),
     }
-    assert_eq!(rt; taken(Some(1), b"center", &args, &values).is_none(), true);
-    assert_eq!(rt; taken(None, b"r", &args, &values).is_none(), true);
-    Ok(())
+}
+
+// A vector of 1 and 2.
+fn pair(alloc: Global) -> Result<Value, AllocError> {
+    let members = Vec::from_array(alloc, [value(1), value(2)])?;
+    Value::vector(alloc, members)
 }
 
 #[test]
-fn transformations_give_matrices(rt: HostRuntime) -> Result<(), Fail> {
-    let args = [arg(rt.alloc(), b"")?];
-    let turned = matrix_of(Transform::Rotate, &args, &[value(90)]);
-    assert_eq!(rt; turned, Ok(turn(Axis::Z, 90_000)));
-    let shift = Vec::from_array(rt.alloc(), [value(1), value(2)])?;
-    let moved = matrix_of(
-        Transform::Translate,
-        &args,
-        &[Value::vector(rt.alloc(), shift)?],
-    );
-    assert_eq!(rt; moved, Ok(translate(number(1), number(2), number(0))));
-    let bad = matrix_of(Transform::Mirror, &args, &[value(1)]);
-    assert_eq!(rt; bad, Err(ArgumentFault::BadArgument));
-    Ok(())
-}
-
-#[test]
-fn arguments_give_primitives_and_these_solids(rt: HostRuntime) -> Result<(), Fail> {
+fn transformations_give_matrices(rt: HostRuntime) {
     let alloc = rt.alloc();
-    let args = [arg(alloc, b"")?];
-    let fine = Fineness {
-        fn_: value(4),
+    let shift = pair(alloc).expect(&rt, "memory");
+    let shifted = translate(number(1), number(2), number(0));
+    assert!(rt; matrix_by(alloc, Transform::Rotate, value(90)) == Ok(turn(Axis::Z, 90_000)));
+    assert!(rt; matrix_by(alloc, Transform::Translate, shift) == Ok(shifted));
+    assert!(rt; matrix_by(alloc, Transform::Mirror, value(1)) == Err(ArgumentFault::BadArgument));
+}
+
+fn fineness(sides: u8) -> Fineness {
+    Fineness {
+        fn_: value(sides),
         fa: value(12),
         fs: value(2),
-    };
+    }
+}
+
+/// The shape of size 3 is told to have twelve triangles, and has them.
+fn has_twelve_triangles(rt: &impl Abort, alloc: Global, shape: Shape) -> bool {
+    let args = args(alloc, "").expect(rt, "memory");
+    let p = primitive_of(alloc, shape, &fineness(4), &args, &[value(3)]).expect(rt, "a primitive");
+    if triangles_of(&p) != 12 {
+        return false;
+    }
     let m = translate(number(0), number(0), number(0));
-    for (shape, count) in [
-        (Shape::Cube, 12),
-        (Shape::Sphere, 12),
-        (Shape::Cylinder, 12),
-    ] {
-        let p = primitive_of(alloc, shape, &fine, &args, &[value(3)])?;
-        assert_eq!(rt; triangles_of(&p), count);
-        let solid = solid_of(alloc, &p, &m)?;
-        assert_eq!(rt; solid.count(), count as usize);
-    }
-    let none = primitive_of(alloc, Shape::Polyhedron, &fine, &args, &[value(3)]);
-    assert_eq!(rt; matches!(&none, Err(ArgumentFault::BadArgument)), true);
-    Ok(())
+    let solid = solid_of(alloc, &p, &m).expect(rt, "a solid");
+    solid.count() == 12
 }
 
 #[test]
-fn arguments_give_outlines_and_their_points(rt: HostRuntime) -> Result<(), Fail> {
-    let alloc = rt.alloc();
-    let args = [arg(alloc, b"")?];
-    let fine = Fineness {
-        fn_: value(5),
-        fa: value(12),
-        fs: value(2),
-    };
-    for (flat, points) in [(Flat::Square, 4), (Flat::Circle, 5)] {
-        let outlines = outlines_of(alloc, flat, &fine, &args, &[value(3)])?;
-        assert_eq!(rt; outlines.len(), 1);
-        for outline in &outlines {
-            assert_eq!(rt; points_in(outline), points);
-            assert_eq!(rt; ring_of(alloc, outline)?.len(), points);
+fn arguments_give_primitives_and_these_solids(rt: HostRuntime) {
+    for &shape in &[Shape::Cube, Shape::Sphere, Shape::Cylinder] {
+        assert!(rt; has_twelve_triangles(&rt, rt.alloc(), shape));
+    }
+    let args = args(rt.alloc(), "").expect(&rt, "memory");
+    let none = primitive_of(
+        rt.alloc(),
+        Shape::Polyhedron,
+        &fineness(4),
+        &args,
+        &[value(3)],
+    );
+    assert!(rt; matches!(&none, Err(ArgumentFault::BadArgument)));
+}
+
+/// The outline is told to have so many points, and has them.
+fn has_points(rt: &impl Abort, alloc: Global, flat: Flat, points: usize) -> bool {
+    let args = args(alloc, "").expect(rt, "memory");
+    let outlines = outlines_of(alloc, flat, &fineness(5), &args, &[value(3)]).expect(
+        rt, "outlines",
+    );
+    match outlines.as_slice() {
+        [outline] => {
+            let ring = ring_of(alloc, outline).expect(rt, "memory");
+            points_in(outline) == points && ring.len() == points
         }
+        _ => false,
     }
-    let none = outlines_of(alloc, Flat::Polygon, &fine, &args, &[value(3)]);
-    assert_eq!(rt; matches!(&none, Err(ArgumentFault::BadArgument)), true);
-    Ok(())
 }
 
 #[test]
-fn arguments_give_heights_and_turns(rt: HostRuntime) -> Result<(), Fail> {
-    let alloc = rt.alloc();
-    let args = [arg(alloc, b"height")?, arg(alloc, b"twist")?];
-    let plain = linear_by(&args, &[value(3), value(0)]);
-    assert_eq!(rt; plain, Ok((number(3), false)));
-    let twisted = linear_by(&args, &[value(3), value(1)]);
-    assert_eq!(rt; twisted, Err(ArgumentFault::LeftOut));
-    let fine = Fineness {
-        fn_: value(7),
-        fa: value(12),
-        fs: value(2),
-    };
-    let resolution = Resolution {
+fn arguments_give_outlines_and_their_points(rt: HostRuntime) {
+    assert!(rt; has_points(&rt, rt.alloc(), Flat::Square, 4));
+    assert!(rt; has_points(&rt, rt.alloc(), Flat::Circle, 5));
+    let args = args(rt.alloc(), "").expect(&rt, "memory");
+    let none = outlines_of(rt.alloc(), Flat::Polygon, &fineness(5), &args, &[value(3)]);
+    assert!(rt; matches!(&none, Err(ArgumentFault::BadArgument)));
+}
+
+fn resolution() -> Resolution {
+    Resolution {
         fn_: number(7),
         fa: number(12),
         fs: number(2),
-    };
-    assert_eq!(rt;
-        turned_by(&fine, &args, &[value(3), value(1)]),
-        Ok(resolution)
-    );
-    let ring = [
-        (number(1), number(0)),
-        (number(2), number(1)),
-        (number(0), number(3)),
-    ];
-    let profile = profile_of(alloc, &translate(number(1), number(0), number(9)), &ring)?;
-    let want = [
-        (number(2), number(0)),
-        (number(3), number(1)),
-        (number(1), number(3)),
-    ];
-    assert_eq!(rt; profile.as_slice(), want.as_slice());
-    assert_eq!(rt; crosses_axis(&profile), false);
-    assert_eq!(rt; turns_of(resolution, &profile), 7);
-    Ok(())
+    }
+}
+
+#[test]
+fn arguments_give_heights_and_turns(rt: HostRuntime) {
+    let args = args(rt.alloc(), "height,twist").expect(&rt, "memory");
+    let (plain, twisted) = ([value(3), value(0)], [value(3), value(1)]);
+    assert!(rt; linear_by(&args, &plain) == Ok((number(3), false)));
+    assert!(rt; linear_by(&args, &twisted) == Err(ArgumentFault::LeftOut));
+    assert!(rt; turned_by(&fineness(7), &args, &twisted) == Ok(resolution()));
+}
+
+/// The outline moved by 1 is this one; it stays on one side of the axis, and is turned in seven parts.
+fn is_moved_to(rt: &impl Abort, alloc: Global, ring: &[(Num, Num)], wanted: &[(Num, Num)]) -> bool {
+    let m = translate(number(1), number(0), number(9));
+    let profile = profile_of(alloc, &m, ring).expect(rt, "a profile");
+    let is_aside = !crosses_axis(&profile) && turns_of(resolution(), &profile) == 7;
+    profile.as_slice() == wanted && is_aside
+}
+
+#[test]
+fn outlines_are_placed_beside_the_axis(rt: HostRuntime) {
+    let (zero, one, two, three) = (number(0), number(1), number(2), number(3));
+    let ring = [(one, zero), (two, one), (zero, three)];
+    let wanted = [(two, zero), (three, one), (one, three)];
+    assert!(rt; is_moved_to(&rt, rt.alloc(), &ring, &wanted));
 }

@@ -1,8 +1,10 @@
-//! Worked examples of toolpaths and texts: sides, walls, infill and plans of layers, the texts of outlines and of printing
-//! programs, written and read back, words and settings, sources of samples. It promises nothing: it is a crate of tests, so
-//! that the crates that it tries are proved once.
+//! Worked examples of toolpaths and texts: sides, walls, infill and plans of layers, support lines, the texts of outlines and
+//! of printing programs, written and read back, words and settings, sources of samples. It promises nothing: it is a crate of
+//! tests, so that the crates that it tries are proved once.
 #![tactic(auto, using(scad_geom::proofs::Casts::casts))]
 
+#[cfg(test)]
+mod cover_limits;
 #[cfg(test)]
 mod infill;
 #[cfg(test)]
@@ -11,6 +13,8 @@ mod machine;
 mod outline_reading;
 #[cfg(test)]
 mod outline_texts;
+#[cfg(test)]
+mod overhangs;
 #[cfg(test)]
 mod plans;
 #[cfg(test)]
@@ -24,9 +28,17 @@ mod random_plans;
 #[cfg(test)]
 mod random_runs;
 #[cfg(test)]
+mod random_stacks;
+#[cfg(test)]
 mod random_walls;
 #[cfg(test)]
+mod rectangles;
+#[cfg(test)]
+mod row_numbers;
+#[cfg(test)]
 mod sample_sources;
+#[cfg(test)]
+mod support_rows;
 #[cfg(test)]
 mod walls;
 #[cfg(test)]

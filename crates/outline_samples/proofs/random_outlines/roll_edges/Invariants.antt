@@ -1,0 +1,11 @@
+use Rattle.std.specs.Prelude.{All}
+use Rattle.scad_geom.specs.Within.{IsEdgeWithin}
+use Rattle.scad_geom.specs.Limits.{coordinate_limit}
+use Rattle.scad_geom.specs.Leaves.{AreLeavesBalanced}
+use Rattle.outline_samples.proofs.random_outlines.roll_edges.Given as goal
+
+abbrev pub invariant-outlines : goal.invariant-outlines
+invariant-outlines l = record {
+  within : All (λ e. IsEdgeWithin coordinate_limit e.edge) l.edges.items;
+  balanced : AreLeavesBalanced l.edges.items;
+}

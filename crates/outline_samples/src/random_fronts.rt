@@ -1,0 +1,136 @@
+//! Random edges, many of them collinear, doubled, flat, empty or through one point.
+ghost use Rattle.std.specs.Prelude.{◌+◌, ◌<◌, ◌≤◌, ◌^◌, length, OnOk, IfOk, All, unsigned_abs};
+ghost use Rattle.scad_geom.specs.Limits.{coordinate_limit};
+ghost use Rattle.scad_geom.specs.Within.{IsWithin, IsEdgeWithin};
+ghost use Rattle.scad_geom.specs.Level.{IsLevelWithin};
+ghost use Rattle.slice_events.specs.Levels.{AreLevels};
+ghost use Rattle.slice_sweep.specs.Front.{IsReadyFor};
+ghost use Rattle.slice_bool.specs.Parts.{level_at};
+
+use sample_dice::Dice;
+use scad_geom::{Edge, LeafEdge, Level, Pt};
+use slice_events::levels;
+use slice_slab::{Bundle, slab};
+use slice_sweep::Front;
+use std::alloc::{AllocError, Global};
+
+// The points of a grid: so many a side, near to one another or far apart.
+#[derive(Clone, Copy)]
+struct Grid {
+    side: u32,
+    is_wide: bool,
+    ghost some: { 0 < side },
+    ghost few: { side ≤ 10 },
+}
+
+impl Grid {
+    fn roll(dice: &mut Dice) -> Grid {
+        let side = 2 + dice.roll(8);
+        let is_wide = dice.roll(2) == 1;
+        Grid { side, is_wide }
+    }
+
+    fn roll_coordinate(&self, dice: &mut Dice) -> i32
+        ensures { unsigned_abs result ≤ coordinate_limit }
+    {
+        let k = dice.roll(self.side) as i32;
+        if self.is_wide {
+            1_000_000 - k * 200_000
+        } else {
+            1_000_000 - k
+        }
+    }
+
+    fn roll_point(&self, dice: &mut Dice) -> Pt
+        ensures { IsWithin coordinate_limit result }
+    {
+        let x = self.roll_coordinate(dice);
+        let y = self.roll_coordinate(dice);
+        Pt { x, y }
+    }
+}
+
+fn roll_edges(alloc: Global, dice: &mut Dice) -> Result<Vec<LeafEdge>, AllocError>
+    ensures { IfOk result (λ v. All (λ e. IsEdgeWithin coordinate_limit e.edge) v.items) }
+{
+    let mut edges = Vec::new(alloc);
+    let count = 2 + dice.roll(14);
+    let grid = Grid::roll(dice);
+    'edges: for _i in 0..count {
+        let a = grid.roll_point(dice);
+        let b = grid.roll_point(dice);
+        let edge = Edge { a, b };
+        edges.push(LeafEdge { leaf: 0, edge })?;
+    }
+    Ok(edges)
+}
+
+// Whether a front has the same bundles in the same order.
+fn has_bundles(front: &Front, bundles: &[Bundle]) -> bool {
+    if front.count() != bundles.len() {
+        return false;
+    }
+    for i in 0..bundles.len() {
+        if front.bundle(i) != bundles[i].as_slice() {
+            return false;
+        }
+    }
+    true
+}
+
+// Whether the bundles above a level are those that `slab` makes from all edges.
+fn is_like_slab(
+    alloc: Global,
+    edges: &[LeafEdge],
+    front: &mut Front,
+    levels: &[Level],
+    i: usize,
+) -> Result<bool, AllocError>
+    requires edges { All (λ e. IsEdgeWithin coordinate_limit e.edge) edges.now }
+    requires few { length edges.now < 2 ^ 32 }
+    requires within { All (IsLevelWithin coordinate_limit) levels.now }
+    requires levels { AreLevels edges.now levels.now }
+    requires there { i + 1 < length levels.now }
+    requires front { IsReadyFor edges.now (level_at levels.now i) front.old }
+    ensures { OnOk result (IsReadyFor edges.now (level_at levels.now (i + 1)) front.new) }
+{
+    front.advance(edges, &levels[i], &levels[i + 1])?;
+    let bundles = slab(alloc, edges, &levels[i], &levels[i + 1])?;
+    Ok(has_bundles(front, &bundles))
+}
+
+// Whether all bundles are.
+fn are_like_slabs(alloc: Global, edges: &[LeafEdge], levels: &[Level]) -> Result<bool, AllocError>
+    requires edges { All (λ e. IsEdgeWithin coordinate_limit e.edge) edges.now }
+    requires few { length edges.now < 2 ^ 32 }
+    requires within { All (IsLevelWithin coordinate_limit) levels.now }
+    requires levels { AreLevels edges.now levels.now }
+{
+    let mut front = Front::new(alloc, edges)?;
+    let mut alike = true;
+    'levels: for i in 1..levels.len() {
+        alike = is_like_slab(alloc, edges, &mut front, levels, i - 1)? && alike;
+    }
+    Ok(alike)
+}
+
+// Whether those of the random edges of a seed are.
+fn is_seed_like_slabs(alloc: Global, seed: u64) -> Option<bool> {
+    let mut dice = Dice::of_seed(seed);
+    let edges = roll_edges(alloc, &mut dice).ok()?;
+    if edges.len() >= 100 {
+        return None;
+    }
+    let heights = levels(alloc, &edges).ok()?;
+    are_like_slabs(alloc, &edges, &heights).ok()
+}
+
+#[test]
+fn bundles_are_those_made_from_all_edges(rt: HostRuntime) {
+    for seed in 1..1501u64 {
+        assert!(rt;
+            is_seed_like_slabs(rt.alloc(), seed) == Some(true),
+            "seed {seed}"
+        );
+    }
+}
