@@ -1,5 +1,6 @@
 mod Lists
 mod Keys
+mod Overwriting
 mod Weakening
 mod Starting
 mod Mending

@@ -15,7 +15,7 @@ ghost use Rattle.slice_sweep.specs.Places.{came_from_below, StartsKeyless, ArePl
 use crate::change::Change;
 use crate::group::{goes_on, group_end, members, older};
 use crate::leave::leaving;
-use crate::replace::{replace, weaken, without_keys};
+use crate::replace::{replace, weaken};
 use crate::step::Step;
 use crate::strand::Strand;
 use std::alloc::AllocError;
@@ -176,9 +176,8 @@ fn regroup(
 {
     let numbers = members(step, strands, from, to)?;
     let bundles = leaving(step, &numbers)?;
-    let others = without_keys(step.alloc, bundles)?;
-    let end = from + others.len();
+    let end = from + bundles.len();
     weaken(strands, from);
-    replace(strands, from, to, others)?;
+    replace(step.alloc, strands, from, to, bundles)?;
     Ok(end)
 }

@@ -1,12 +1,12 @@
 -- The bundles of the edges that go on stand in the place of the group.
-use Rattle.std.proofs.Common.{◌≡◌, ◌+◌, ◌-◌, ◌<◌, ◌++◌, drop, filter, sym, ap, subst, arith, rules, List, ℕ, length, All, IsPermutation}
+use Rattle.std.proofs.Common.{◌≡◌, ◌+◌, ◌-◌, ◌<◌, ◌++◌, ◌∙◌, drop, filter, refl, sym, ap, subst, arith, rules, List, ℕ, length, All, IsPermutation}
 use Rattle.std.specs.List.{concat}
 use Rattle.slice_slab.specs.Bundles.{edge_at, reaches}
 use Rattle.slice_slab.specs.KeptOrder.{IsSamePlaceAt, AllStand}
 use Rattle.slice_sweep.specs.declared.strand.Strand.{Strand}
-use Rattle.slice_sweep.specs.Strands.{numbers_in}
+use Rattle.slice_sweep.specs.Strands.{numbers_in, fresh}
 use Rattle.slice_sweep.specs.Mending.{AreMendedTo, KeepTimes}
-use Rattle.slice_sweep.proofs.Weakening.{weakened_length}
+use Rattle.slice_sweep.proofs.Weakening.{length_fresh, weakened_length}
 use Rattle.slice_sweep.proofs.Groups.{group_there, group_together, placed_by, regrouped_by}
 use Rattle.slice_sweep.proofs.mend.regroup.Goals as goal
 use Rattle.slice_sweep.proofs.mend.regroup.Goals.{After-drop-numbers-2}
@@ -53,12 +53,13 @@ put c =
     let same = subst (λ (ks : List ℕ). IsPermutation
     (filter (λ k. reaches (edge_at s.edges.now k) s.lower.now s.upper.now) ks) (concat c.in_ok-bundles.bundles.items))
     c.deref-2.ensures.value c.in_ok-bundles.ensures.members in
-    let long : c.len.result ≡ length c.in_ok-others.others.items = search rules in
+    let long : c.len.result ≡ length c.in_ok-bundles.bundles.items = search rules in
+    let size = long ∙ sym (length_fresh c.in_ok-bundles.bundles.items) in
     regrouped_by s.edges.now s.lower.now s.upper.now s.lower_within c.requires.neighbours c.args.from c.args.to L
     c.requires.mended c.requires.group c.in_ok-numbers.numbers.items split c.in_ok-bundles.bundles.items
-    c.in_ok-bundles.ensures.ranked same c.weaken.new.strands.items c.in_ok-others.others.items
-    c.replace.new.strands.items (c.args.from + c.len.result) c.weaken.ensures c.in_ok-others.ensures
-    c.in_ok-replace.ensures (ap (λ (n : ℕ). c.args.from + n) long)
+    c.in_ok-bundles.ensures.ranked same c.weaken.new.strands.items
+    (fresh c.in_ok-bundles.bundles.items) c.replace.new.strands.items (c.args.from + c.len.result) c.weaken.ensures refl
+    c.in_ok-replace.ensures (ap (λ (n : ℕ). c.args.from + n) size)
 
 pub returns-clause-mended : goal.returns-clause-mended
 returns-clause-mended c = (put c).0
@@ -78,9 +79,10 @@ returns-clause-told c all cs gone o a =
     let same = subst (λ (ks : List ℕ). IsPermutation
     (filter (λ k. reaches (edge_at s.edges.now k) s.lower.now s.upper.now) ks) (concat c.in_ok-bundles.bundles.items))
     c.deref-2.ensures.value c.in_ok-bundles.ensures.members in
-    let long : c.len.result ≡ length c.in_ok-others.others.items = search rules in
+    let long : c.len.result ≡ length c.in_ok-bundles.bundles.items = search rules in
+    let size = long ∙ sym (length_fresh c.in_ok-bundles.bundles.items) in
     placed_by s.edges.now s.lower.now s.upper.now s.lower_within c.requires.neighbours c.args.from c.args.to L
     c.requires.mended c.requires.group c.in_ok-numbers.numbers.items split c.in_ok-bundles.bundles.items
-    c.in_ok-bundles.ensures.ranked same c.weaken.new.strands.items c.in_ok-others.others.items
-    c.replace.new.strands.items (c.args.from + c.len.result) c.weaken.ensures c.in_ok-others.ensures
-    c.in_ok-replace.ensures (ap (λ (n : ℕ). c.args.from + n) long) all cs gone o a
+    c.in_ok-bundles.ensures.ranked same c.weaken.new.strands.items
+    (fresh c.in_ok-bundles.bundles.items) c.replace.new.strands.items (c.args.from + c.len.result) c.weaken.ensures refl
+    c.in_ok-replace.ensures (ap (λ (n : ℕ). c.args.from + n) size) all cs gone o a
