@@ -1,7 +1,7 @@
 mod Lists
 mod Keys
-mod Overwriting
 mod Weakening
+mod Overwriting
 mod Starting
 mod Mending
 mod Telling

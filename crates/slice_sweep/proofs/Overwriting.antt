@@ -1,9 +1,10 @@
 -- Bundles written over strands, one after another.
-use Rattle.std.proofs.Common.{◌≡◌, ℕ, zero, suc, ◌+◌, ◌<◌, List, [], ◌∷◌, ◌++◌, length, set, take, drop, refl, sym, ap, ◌∙◌, arith, subst}
-use Rattle.std.proofs.lemmas.List.{length-append}
+use Rattle.std.proofs.Common.{◌≡◌, ℕ, zero, suc, ◌+◌, ◌-◌, ◌<◌, List, [], ◌∷◌, ◌++◌, ◌≤◌, length, set, take, drop, refl, sym, ap, ap₂, ◌∙◌, arith, subst, append_assoc}
+use Rattle.std.proofs.lemmas.List.{length-append, length-take-le, take_at, drop_at, drop-drop}
 use Rattle.slice_sweep.specs.declared.strand.Strand.{Strand}
 use Rattle.slice_sweep.specs.Keys.{stale}
 use Rattle.slice_sweep.specs.Strands.{fresh}
+use Rattle.slice_sweep.proofs.Weakening.{length_fresh}
 
 abbrev keyless : List ℕ → Strand
 keyless b = record { bundle = b; wake = stale }
@@ -38,3 +39,40 @@ overwritten L X from p ys b e o x =
     subst (λ (q : ℕ). X ≡ take from L ++ (fresh ys ++ drop q L)) (sym e) x in
     subst (λ (q : ℕ). set X p (keyless b) ≡ take from L ++ (fresh (ys ++ (b ∷ [])) ++ drop q L)) n
     (ap (λ (xs : List Strand). set xs p (keyless b)) here ∙ write_behind L from ys b p e o)
+
+-- the strand behind them taken out
+pub taken_out : (L X : List Strand) (from to : ℕ) (bs : List (List ℕ)) → from + length bs + 1 ≡ to → to ≤ length L
+    → X ≡ take from L ++ (fresh bs ++ drop (from + length bs) L)
+    → take (to - 1) X ++ drop (to - 1 + 1) X ≡ take from L ++ (fresh bs ++ drop to L)
+taken_out L X from to bs e o x =
+    ap₂ (λ (xs ys : List Strand). xs ++ ys) front back ∙ append_assoc (take from L) (fresh bs) (drop to L)
+  where
+    p : ℕ
+    p = to - 1
+
+    here : from ≤ length L
+    here = omega (arith, e, o)
+
+    p_is : from + length bs ≡ p
+    p_is = omega (arith, e)
+
+    behind : p + 1 ≡ to
+    behind = omega (arith, e)
+
+    A : List Strand
+    A = take from L ++ fresh bs
+
+    size : length A ≡ p
+    size = length-append (take from L) (fresh bs)
+        ∙ ap₂ (λ (a b : ℕ). a + b) (length-take-le from L here) (length_fresh bs) ∙ p_is
+
+    X_as : X ≡ A ++ drop p L
+    X_as = subst (λ (q : ℕ). X ≡ take from L ++ (fresh bs ++ drop q L)) p_is x
+        ∙ sym (append_assoc (take from L) (fresh bs) (drop p L))
+
+    front : take p X ≡ A
+    front = ap (take p) X_as ∙ take_at A (drop p L) p size
+
+    back : drop (p + 1) X ≡ drop to L
+    back = sym (drop-drop 1 p X) ∙ ap (drop 1) (ap (drop p) X_as ∙ drop_at A (drop p L) p size) ∙ drop-drop 1 p L
+        ∙ ap (λ (q : ℕ). drop q L) behind

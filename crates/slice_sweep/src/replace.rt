@@ -34,6 +34,10 @@ pub(crate) fn replace(
         overwrite(strands, from, bundles);
         return Ok(());
     }
+    if from < to && bundles.len() == to - from - 1 {
+        overwrite_less(strands, from, to, bundles);
+        return Ok(());
+    }
     exchange(strands, from, to, without_keys(alloc, bundles)?)
 }
 
@@ -51,6 +55,16 @@ fn overwrite(strands: &mut Vec<Strand>, from: usize, bundles: Vec<Bundle>)
         };
         place += 1;
     }
+}
+
+// Writes bundles over all strands from one place to another but the last, which goes: the others move once.
+fn overwrite_less(strands: &mut Vec<Strand>, from: usize, to: usize, bundles: Vec<Bundle>)
+    requires size { from + length bundles.items + 1 ≡ to }
+    requires to { to ≤ length strands.old.items }
+    ensures { strands.new.items ≡ take from strands.old.items ++ (fresh bundles.items ++ drop to strands.old.items) }
+{
+    overwrite(strands, from, bundles);
+    strands.remove(to - 1);
 }
 
 fn without_keys(alloc: Global, bundles: Vec<Bundle>) -> Result<Vec<Strand>, AllocError>
