@@ -20,8 +20,8 @@ use scad_geom::line::high;
 use scad_geom::{Edge, LeafEdge, Pt};
 use slice_slab::Bundle;
 
-/// Makes the keys of the mended strands that a height has left without: those that have come, and those to the left of a
-/// change.
+/// Makes the keys of the mended strands that a height has left without one: those that have come, and the one to the
+/// left of each change.
 pub(crate) fn wake_all(step: &Step<'_>, strands: &mut Vec<Strand>, changes: &[Change])
     requires ordered { AreOrdered step.now.edges.now step.now.lower.now step.now.upper.now strands.old.items }
     ensures ordered { AreOrdered step.now.edges.now step.now.lower.now step.now.upper.now strands.new.items }
