@@ -1,6 +1,7 @@
 mod Lists
 mod Keys
 mod Weakening
+mod Overwriting
 mod Starting
 mod Mending
 mod Telling

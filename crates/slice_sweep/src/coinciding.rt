@@ -1,5 +1,5 @@
 //! Neighbouring rays that coincide, in bundles.
-ghost use Rattle.std.specs.Prelude.{◌≡◌, ◌<◌, ◌∷◌, [], ◌++◌, length, IfOk, OnOk, IfSome};
+ghost use Rattle.std.specs.Prelude.{◌≡◌, ◌<◌, ◌∷◌, [], ◌++◌, true, length, IfOk, OnOk};
 ghost use Rattle.slice_sweep.specs.Rays.{bundles_of, is_parallel, ends_bundle};
 
 use crate::ray::Ray;
@@ -15,45 +15,47 @@ pub(crate) fn group(alloc: Global, rays: &[Ray]) -> Result<Vec<Bundle>, AllocErr
     let mut out = Vec::new(alloc);
     let mut current = Vec::new(alloc);
     'rays: for i in 0..rays.len() {
-        current.push(rays[i].number)?;
+        let number = rays[i].number;
         if is_last(rays, i) {
-            close(alloc, &mut out, &mut current)?;
+            close(alloc, &mut out, &mut current, number)?;
+        } else {
+            current.push(number)?;
         }
     }
     Ok(out)
 }
 
-// The numbers so far become a bundle.
-fn close(alloc: Global, out: &mut Vec<Bundle>, current: &mut Vec<u32>) -> Result<(), AllocError>
-    ensures out { OnOk result (out.new.items ≡ out.old.items ++ current.old.items ∷ []) }
+// The numbers so far and one more become a bundle.
+fn close(
+    alloc: Global,
+    out: &mut Vec<Bundle>,
+    current: &mut Vec<u32>,
+    last: u32,
+) -> Result<(), AllocError>
+    ensures out { OnOk result (out.new.items ≡ out.old.items ++ (current.old.items ++ last ∷ []) ∷ []) }
     ensures current { OnOk result (current.new.items ≡ []) }
 {
-    out.push(taken(alloc, current))?;
+    let bundle = taken(alloc, current, last)?;
+    out.push(bundle)?;
     Ok(())
 }
 
-// Takes the numbers out. One alone leaves the memory to those of the next bundle.
-fn taken(alloc: Global, current: &mut Vec<u32>) -> Bundle
-    ensures bundle { result ≡ current.old.items }
-    ensures current { current.new.items ≡ [] }
+// Takes the numbers out, and one more behind them. One alone takes no memory.
+fn taken(alloc: Global, current: &mut Vec<u32>, last: u32) -> Result<Bundle, AllocError>
+    ensures bundle { IfOk result (λ b. b ≡ current.old.items ++ last ∷ []) }
+    ensures current { OnOk result (current.new.items ≡ []) }
 {
-    match alone(current.as_slice()) {
-        Some(edge) => {
-            current.clear();
-            Bundle::of_one(edge)
-        }
-        None => Bundle::from_vec(mem::replace(current, Vec::new(alloc))),
+    if is_empty(current.as_slice()) {
+        return Ok(Bundle::of_one(last));
     }
+    current.push(last)?;
+    Ok(Bundle::from_vec(mem::replace(current, Vec::new(alloc))))
 }
 
-// The number of a list that has one alone.
-fn alone(numbers: &[u32]) -> Option<u32>
-    ensures { IfSome result (λ k. numbers.now ≡ k ∷ []) }
+fn is_empty(numbers: &[u32]) -> bool
+    ensures { result ≡ true → numbers.now ≡ [] }
 {
-    match numbers {
-        [edge] => Some(*edge),
-        _ => None,
-    }
+    matches!(numbers, [])
 }
 
 // Whether the ray doesn't coincide with the next, or is the last.

@@ -1,5 +1,5 @@
 //! Strands that meet a height at one place.
-ghost use Rattle.std.specs.Prelude.{◌≡◌, ◌<◌, ◌≤◌, ◌+◌, ◌++◌, ◌∷◌, [], ◌*ℤ◌, int_le, ℕ, true, take, drop, length, IfOk, All};
+ghost use Rattle.std.specs.Prelude.{◌≡◌, ◌<◌, ◌≤◌, ◌+◌, ◌++◌, ◌∷◌, [], ◌*ℤ◌, int_le, ℕ, true, take, drop, length, OnOk, All};
 ghost use Rattle.std.specs.Ordering.{int_eq, int_cmp};
 ghost use Rattle.scad_geom.specs.Limits.{coordinate_limit};
 ghost use Rattle.scad_geom.specs.Line.{low, high, rise, x_at};
@@ -77,20 +77,20 @@ fn all_reach(edges: &[LeafEdge], numbers: &[u32], upper: &Level) -> bool
 
 /// The numbers of the edges of the strands from one place to another.
 pub(crate) fn members(
-    step: &Step<'_>,
     strands: &[Strand],
     from: usize,
     to: usize,
-) -> Result<Vec<u32>, AllocError>
+    numbers: &mut Vec<u32>,
+) -> Result<(), AllocError>
     requires from { from ≤ to }
     requires to { to ≤ length strands.now }
-    ensures { IfOk result (λ v. v.items ++ numbers_in (drop to strands.now) ≡ numbers_in (drop from strands.now)) }
+    ensures { OnOk result (numbers.new.items ++ numbers_in (drop to strands.now) ≡ numbers_in (drop from strands.now)) }
 {
-    let mut numbers = Vec::new(step.alloc);
+    numbers.clear();
     'strands: for i in from..to {
         numbers.extend_from_slice(strands[i].bundle.as_slice())?;
     }
-    Ok(numbers)
+    Ok(())
 }
 
 /// How many of the strands from one place to another were there below the height.

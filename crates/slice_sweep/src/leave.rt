@@ -1,5 +1,5 @@
 //! The edges that leave a place at a height.
-ghost use Rattle.std.specs.Prelude.{◌≡◌, ◌<◌, ◌^◌, pos, ◌<ℤ◌, true, filter, length, IfOk, All};
+ghost use Rattle.std.specs.Prelude.{◌≡◌, ◌<◌, ◌^◌, pos, ◌<ℤ◌, true, filter, length, IfOk, OnOk, All};
 ghost use Rattle.std.specs.List.{concat};
 ghost use Rattle.std.specs.List.Sorted.{IsPermutation};
 ghost use Rattle.scad_geom.specs.Limits.{coordinate_limit};
@@ -21,7 +21,11 @@ use std::alloc::AllocError;
 
 /// Of the edges of these numbers, which lie at one place at the lower height, those that reach the upper one: by slope,
 /// with those that coincide in one bundle.
-pub(crate) fn leaving(step: &Step<'_>, numbers: &[u32]) -> Result<Vec<Bundle>, AllocError>
+pub(crate) fn leaving(
+    step: &Step<'_>,
+    numbers: &[u32],
+    rays: &mut Vec<Ray>,
+) -> Result<Vec<Bundle>, AllocError>
     requires there { All (λ k. k < length step.now.edges.now) numbers.now }
     requires together { AllStand (IsSamePlaceAt step.now.lower.now) step.now.edges.now numbers.now numbers.now }
     ensures members { IfOk result (λ v. IsPermutation
@@ -29,24 +33,24 @@ pub(crate) fn leaving(step: &Step<'_>, numbers: &[u32]) -> Result<Vec<Bundle>, A
         (concat v.items)) }
     ensures ranked { IfOk result (λ v. AreRanked step.now.edges.now step.now.lower.now v.items) }
 {
-    let mut rays = rays(step, numbers)?;
-    sort(&mut rays)?;
-    group(step.alloc, &rays)
+    gather(step, numbers, rays)?;
+    sort(rays)?;
+    group(step.alloc, rays)
 }
 
-fn rays(step: &Step<'_>, numbers: &[u32]) -> Result<Vec<Ray>, AllocError>
+fn gather(step: &Step<'_>, numbers: &[u32], rays: &mut Vec<Ray>) -> Result<(), AllocError>
     requires there { All (λ k. k < length step.now.edges.now) numbers.now }
-    ensures numbers { IfOk result (λ v. numbers_of v.items
+    ensures numbers { OnOk result (numbers_of rays.new.items
         ≡ filter (λ k. reaches (edge_at step.now.edges.now k) step.now.lower.now step.now.upper.now) numbers.now) }
-    ensures rays { IfOk result (λ v. All (IsRayOf step.now.edges.now) v.items) }
+    ensures rays { OnOk result (All (IsRayOf step.now.edges.now) rays.new.items) }
 {
-    let mut out = Vec::new(step.alloc);
+    rays.clear();
     'numbers: for k in numbers {
         if goes_up(step, *k) {
-            out.push(ray(step.edges, *k))?;
+            rays.push(ray(step.edges, *k))?;
         }
     }
-    Ok(out)
+    Ok(())
 }
 
 fn goes_up(step: &Step<'_>, k: u32) -> bool

@@ -17,6 +17,7 @@ mod mend;
 mod place;
 mod ray;
 mod replace;
+mod room;
 mod slope;
 mod start;
 mod step;

@@ -67,7 +67,7 @@ impl Front {
             key: key_of(lower),
         };
         let changes = mend(&step, &mut self.strands)?;
-        wake_all(&step, &mut self.strands);
+        wake_all(&step, &mut self.strands, &changes);
         Ok(changes)
     }
 

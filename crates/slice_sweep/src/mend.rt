@@ -15,7 +15,8 @@ ghost use Rattle.slice_sweep.specs.Places.{came_from_below, StartsKeyless, ArePl
 use crate::change::Change;
 use crate::group::{goes_on, group_end, members, older};
 use crate::leave::leaving;
-use crate::replace::{replace, weaken, without_keys};
+use crate::replace::{replace, weaken};
+use crate::room::Room;
 use crate::step::Step;
 use crate::strand::Strand;
 use std::alloc::AllocError;
@@ -34,9 +35,10 @@ pub(crate) fn mend(step: &Step<'_>, strands: &mut Vec<Strand>) -> Result<Vec<Cha
         (bundles_of strands.new.items) v.items) }
 {
     let mut changes = Vec::new(step.alloc);
+    let mut room = Room::new(step.alloc);
     let mut place = 0;
     'places: while place < strands.len() {
-        place = mend_at(step, strands, &mut changes, place)?;
+        place = mend_at(step, strands, &mut changes, &mut room, place)?;
     }
     Ok(changes)
 }
@@ -46,6 +48,7 @@ fn mend_at(
     step: &Step<'_>,
     strands: &mut Vec<Strand>,
     changes: &mut Vec<Change>,
+    room: &mut Room,
     place: usize,
 ) -> Result<usize, AllocError>
     requires neighbours { AreNeighbours step.now.edges.now step.now.lower.now step.now.upper.now }
@@ -63,13 +66,14 @@ fn mend_at(
     if is_asleep(step, strands, place) {
         return Ok(place + 1);
     }
-    mend_awake(step, strands, changes, place)
+    mend_awake(step, strands, changes, room, place)
 }
 
 fn mend_awake(
     step: &Step<'_>,
     strands: &mut Vec<Strand>,
     changes: &mut Vec<Change>,
+    room: &mut Room,
     place: usize,
 ) -> Result<usize, AllocError>
     requires neighbours { AreNeighbours step.now.edges.now step.now.lower.now step.now.upper.now }
@@ -90,7 +94,7 @@ fn mend_awake(
         tell_start(changes, place, gone)?;
         return Ok(place + 1);
     }
-    let behind = regroup(step, strands, place, end)?;
+    let behind = regroup(step, strands, room, place, end)?;
     tell(
         changes,
         Change {
@@ -156,6 +160,7 @@ fn is_later(step: &Step<'_>, wake: i64) -> bool
 fn regroup(
     step: &Step<'_>,
     strands: &mut Vec<Strand>,
+    room: &mut Room,
     from: usize,
     to: usize,
 ) -> Result<usize, AllocError>
@@ -174,11 +179,10 @@ fn regroup(
         → ArePlacedTo step.now.edges.now step.now.lower.now n all strands.new.items
         (cs ++ record { from = from; gone = gone; come = n - from } ∷ [])) }
 {
-    let numbers = members(step, strands, from, to)?;
-    let bundles = leaving(step, &numbers)?;
-    let others = without_keys(step.alloc, bundles)?;
-    let end = from + others.len();
+    members(strands, from, to, &mut room.numbers)?;
+    let bundles = leaving(step, &room.numbers, &mut room.rays)?;
+    let end = from + bundles.len();
     weaken(strands, from);
-    replace(strands, from, to, others)?;
+    replace(step.alloc, strands, from, to, bundles)?;
     Ok(end)
 }

@@ -1,5 +1,5 @@
 //! Where an edge has its place among strands.
-ghost use Rattle.std.specs.Prelude.{◌≡◌, ◌<◌, ◌≤◌, ◌+◌, ◌*ℤ◌, int_lt, ℕ, length, All};
+ghost use Rattle.std.specs.Prelude.{◌≡◌, ◌<◌, ◌≤◌, ◌+◌, ◌*◌, ◌^◌, ◌*ℤ◌, int_lt, unsigned_abs, ℕ, length, All};
 ghost use Rattle.scad_geom.specs.Limits.{coordinate_limit};
 ghost use Rattle.scad_geom.specs.Line.{rise, x_at};
 ghost use Rattle.scad_geom.specs.Within.{IsEdgeWithin};
@@ -10,7 +10,9 @@ ghost use Rattle.slice_sweep.specs.Strands.{head, AreThere, strand_at};
 
 use crate::strand::Strand;
 use crate::wake::head;
-use scad_geom::{LeafEdge, Level, cmp_x_at};
+use scad_geom::line::{rise, x_at};
+use scad_geom::wide::times;
+use scad_geom::{LeafEdge, Level};
 
 /// A place before which a strand lies to the left of an edge at a height, and after which one doesn't.
 pub(crate) fn place(edges: &[LeafEdge], strands: &[Strand], k: u32, at: &Level) -> usize
@@ -24,11 +26,14 @@ pub(crate) fn place(edges: &[LeafEdge], strands: &[Strand], k: u32, at: &Level) 
     ensures right { result < length strands.now
         → IsNotRightAt at.now (edge_at edges.now k) (head edges.now (strand_at strands.now result).bundle) }
 {
+    let e = &edges[k as usize].edge;
+    let x = x_at(e, at);
+    let up = rise(e);
     let mut low = 0;
     let mut high = strands.len();
     'places: while low < high {
         let middle = low + (high - low) / 2;
-        if is_left(edges, &strands[middle], k, at) {
+        if is_left(edges, &strands[middle], x, up, at) {
             low = middle + 1;
         } else {
             high = middle;
@@ -37,15 +42,16 @@ pub(crate) fn place(edges: &[LeafEdge], strands: &[Strand], k: u32, at: &Level) 
     low
 }
 
-#[tactic(auto, using(scad_geom::proofs::Casts::casts, slice_slab::proofs::Ranking::cmp_tests))]
-fn is_left(edges: &[LeafEdge], s: &Strand, k: u32, at: &Level) -> bool
+// Whether a strand lies at a height to the left of an edge with this x and this rise.
+fn is_left(edges: &[LeafEdge], s: &Strand, x: i128, up: i128, at: &Level) -> bool
     requires within { All (λ e. IsEdgeWithin coordinate_limit e.edge) edges.now }
     requires there { All (λ k. k < length edges.now) s.now.bundle }
-    requires edge { k < length edges.now }
+    requires x { unsigned_abs x ≤ 2 ^ 89 }
+    requires up { unsigned_abs up ≤ 2 * coordinate_limit }
     requires at { IsLevelWithin coordinate_limit at.now }
-    ensures { result ≡ int_lt (x_at (head edges.now s.now.bundle) at.now.n at.now.d *ℤ rise (edge_at edges.now k))
-        (x_at (edge_at edges.now k) at.now.n at.now.d *ℤ rise (head edges.now s.now.bundle)) }
+    ensures { result ≡ int_lt (x_at (head edges.now s.now.bundle) at.now.n at.now.d *ℤ up)
+        (x *ℤ rise (head edges.now s.now.bundle)) }
 {
     let first = head(edges, &s.bundle);
-    cmp_x_at(&first, &edges[k as usize].edge, at).is_lt()
+    times::<89, 22>(x_at(&first, at), up) < times::<89, 22>(x, rise(&first))
 }

@@ -12,6 +12,7 @@ ghost use Rattle.slice_sweep.specs.Keys.{IsBelowKey};
 ghost use Rattle.slice_sweep.specs.Strands.{head, EndAbove, LiesLeft, AreThere, strand_at, bundles_of};
 ghost use Rattle.slice_sweep.specs.Mending.{ComesBefore, AreOrdered};
 
+use crate::change::Change;
 use crate::key::{STALE, meeting_key, whole_key};
 use crate::step::Step;
 use crate::strand::Strand;
@@ -19,14 +20,31 @@ use scad_geom::line::high;
 use scad_geom::{Edge, LeafEdge, Pt};
 use slice_slab::Bundle;
 
-/// Makes the keys of mended strands that have none.
-pub(crate) fn wake_all(step: &Step<'_>, strands: &mut Vec<Strand>)
+/// Makes the keys of the mended strands that a height has left without one: those that have come, and the one to the
+/// left of each change.
+pub(crate) fn wake_all(step: &Step<'_>, strands: &mut Vec<Strand>, changes: &[Change])
     requires ordered { AreOrdered step.now.edges.now step.now.lower.now step.now.upper.now strands.old.items }
     ensures ordered { AreOrdered step.now.edges.now step.now.lower.now step.now.upper.now strands.new.items }
     ensures bundles { bundles_of strands.new.items ≡ bundles_of strands.old.items }
 {
-    'strands: for i in 0..strands.len() {
-        if strands[i].wake == STALE {
+    'changes: for change in changes {
+        wake_from(
+            step,
+            strands,
+            change.from.saturating_sub(1),
+            change.from.saturating_add(change.come),
+        );
+    }
+}
+
+// Makes the keys of the strands from one place to another that have none.
+fn wake_from(step: &Step<'_>, strands: &mut Vec<Strand>, from: usize, to: usize)
+    requires ordered { AreOrdered step.now.edges.now step.now.lower.now step.now.upper.now strands.old.items }
+    ensures ordered { AreOrdered step.now.edges.now step.now.lower.now step.now.upper.now strands.new.items }
+    ensures bundles { bundles_of strands.new.items ≡ bundles_of strands.old.items }
+{
+    'strands: for i in from..to {
+        if i < strands.len() && strands[i].wake == STALE {
             wake(step, strands, i);
         }
     }
@@ -38,7 +56,6 @@ fn wake(step: &Step<'_>, strands: &mut Vec<Strand>, i: usize)
     requires there { i < length strands.old.items }
     ensures ordered { AreOrdered step.now.edges.now step.now.lower.now step.now.upper.now strands.new.items }
     ensures bundles { bundles_of strands.new.items ≡ bundles_of strands.old.items }
-    ensures len { length strands.new.items ≡ length strands.old.items }
 {
     let key = wake_of(step.edges, strands, i);
     strands[i].wake = key;

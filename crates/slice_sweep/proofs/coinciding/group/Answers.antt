@@ -5,30 +5,29 @@ use Rattle.slice_slab.specs.Passages.{prefixed}
 use Rattle.slice_sweep.specs.Rays.{bundles_of}
 use Rattle.slice_sweep.proofs.RaySteps.{close_step, open_step}
 use Rattle.slice_sweep.proofs.coinciding.group.Goals as goal
-use Rattle.slice_sweep.proofs.coinciding.group.Goals.{then-is_last+in_ok-close, else-is_last}
+use Rattle.slice_sweep.proofs.coinciding.group.Goals.{then-is_last+in_ok-close, else-is_last+in_ok-push}
 
 pub rays-preserved : goal.rays-preserved
 rays-preserved c =
     let d : Ray = c.index-rays-i.result in
     let ks : List ℕ = c.rays.current.items in
-    let more : c.push.new.self.items ≡ ks ++ ((get_or c.args.rays.now c.rays.i d).number ∷ []) =
-    c.in_ok-push.ensures.items in
+    let k : ℕ = (get_or c.args.rays.now c.rays.i d).number in
     elim c.if-is_last.branch [
       | then-is_last+in_ok-close w ↦
-          let out : c.if-is_last.out.items ≡ c.rays.out.items ++ (c.push.new.self.items ∷ []) = ap (λ v. v.items)
+          let out : c.if-is_last.out.items ≡ c.rays.out.items ++ ((ks ++ (k ∷ [])) ∷ []) = ap (λ v. v.items)
           w.out-is ∙ w.in_ok-close.ensures.out in
           let current : c.if-is_last.current.items ≡ [] = ap (λ v. v.items) w.current-is ∙ w.in_ok-close.ensures.current
           in
           ap₂ (λ (xs : List (List ℕ)) (ys : List ℕ). xs ++ prefixed ys
-          (bundles_of (drop (c.rays.i + 1) c.args.rays.now)))
-          (out ∙ ap (λ (ys : List ℕ). c.rays.out.items ++ (ys ∷ [])) more) current
+          (bundles_of (drop (c.rays.i + 1) c.args.rays.now))) out current
           ∙ close_step c.rays.out.items ks c.args.rays.now c.rays.i d (bundles_of c.args.rays.now)
           c.rays-test.true (sym c.is_last.ensures ∙ w.if-is_last.true) c.rays.invariant
-      | else-is_last w ↦
+      | else-is_last+in_ok-push w ↦
           let out : c.if-is_last.out.items ≡ c.rays.out.items = ap (λ v. v.items) w.out-is in
-          let current : c.if-is_last.current.items ≡ c.push.new.self.items = ap (λ v. v.items) w.current-is in
+          let current : c.if-is_last.current.items ≡ ks ++ (k ∷ []) = ap (λ v. v.items) w.current-is
+          ∙ w.in_ok-push.ensures.items in
           ap₂ (λ (xs : List (List ℕ)) (ys : List ℕ). xs ++ prefixed ys
-          (bundles_of (drop (c.rays.i + 1) c.args.rays.now))) out (current ∙ more)
+          (bundles_of (drop (c.rays.i + 1) c.args.rays.now))) out current
           ∙ open_step c.rays.out.items ks c.args.rays.now c.rays.i d (bundles_of c.args.rays.now)
           c.rays-test.true (sym c.is_last.ensures ∙ w.if-is_last.false) c.rays.invariant
     ]

@@ -11,8 +11,8 @@ pub returns-clause-members : goal.returns-clause-members
 returns-clause-members c =
     let s = c.args.step.now in
     let p : ℕ → Bool = λ k. reaches (edge_at s.edges.now k) s.lower.now s.upper.now in
-    let made = leaving_made s.edges.now s.lower.now p c.args.numbers.now c.in_ok-rays.rays.items c.sort.new.rays.items
-    c.requires.together c.in_ok-rays.ensures.numbers c.in_ok-rays.ensures.rays c.in_ok-sort.ensures.permutation
+    let made = leaving_made s.edges.now s.lower.now p c.args.numbers.now c.gather.new.rays.items c.sort.new.rays.items
+    c.requires.together c.in_ok-gather.ensures.numbers c.in_ok-gather.ensures.rays c.in_ok-sort.ensures.permutation
     c.in_ok-sort.ensures.sorted in
     IfOk-weaker c.group.result _ _
     (λ v e. subst (λ (bs : List (List ℕ)). IsPermutation (filter p c.args.numbers.now) (concat bs))
@@ -23,8 +23,8 @@ pub returns-clause-ranked : goal.returns-clause-ranked
 returns-clause-ranked c =
     let s = c.args.step.now in
     let p : ℕ → Bool = λ k. reaches (edge_at s.edges.now k) s.lower.now s.upper.now in
-    let made = leaving_made s.edges.now s.lower.now p c.args.numbers.now c.in_ok-rays.rays.items c.sort.new.rays.items
-    c.requires.together c.in_ok-rays.ensures.numbers c.in_ok-rays.ensures.rays c.in_ok-sort.ensures.permutation
+    let made = leaving_made s.edges.now s.lower.now p c.args.numbers.now c.gather.new.rays.items c.sort.new.rays.items
+    c.requires.together c.in_ok-gather.ensures.numbers c.in_ok-gather.ensures.rays c.in_ok-sort.ensures.permutation
     c.in_ok-sort.ensures.sorted in
     IfOk-weaker c.group.result _ _
     (λ v e. subst (AreRanked s.edges.now s.lower.now) (sym (e ∙ ap bundles_of c.deref.ensures.value)) made.1)

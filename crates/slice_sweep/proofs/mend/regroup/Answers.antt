@@ -1,33 +1,33 @@
 -- The bundles of the edges that go on stand in the place of the group.
-use Rattle.std.proofs.Common.{◌≡◌, ◌+◌, ◌-◌, ◌<◌, ◌++◌, drop, filter, sym, ap, subst, arith, rules, List, ℕ, length, All, IsPermutation}
+use Rattle.std.proofs.Common.{◌≡◌, ◌+◌, ◌-◌, ◌<◌, ◌++◌, ◌∙◌, drop, filter, refl, sym, ap, subst, arith, rules, List, ℕ, length, All, IsPermutation}
 use Rattle.std.specs.List.{concat}
 use Rattle.slice_slab.specs.Bundles.{edge_at, reaches}
 use Rattle.slice_slab.specs.KeptOrder.{IsSamePlaceAt, AllStand}
 use Rattle.slice_sweep.specs.declared.strand.Strand.{Strand}
-use Rattle.slice_sweep.specs.Strands.{numbers_in}
+use Rattle.slice_sweep.specs.Strands.{numbers_in, fresh}
 use Rattle.slice_sweep.specs.Mending.{AreMendedTo, KeepTimes}
-use Rattle.slice_sweep.proofs.Weakening.{weakened_length}
+use Rattle.slice_sweep.proofs.Weakening.{length_fresh, weakened_length}
 use Rattle.slice_sweep.proofs.Groups.{group_there, group_together, placed_by, regrouped_by}
 use Rattle.slice_sweep.proofs.mend.regroup.Goals as goal
-use Rattle.slice_sweep.proofs.mend.regroup.Goals.{After-drop-numbers-2}
+use Rattle.slice_sweep.proofs.mend.regroup.Goals.{In_ok-replace}
 
 pub leaving-requires-clause-there : goal.leaving-requires-clause-there
 leaving-requires-clause-there c =
     let s = c.args.step.now in
-    let split = subst (λ (xs : List Strand). c.in_ok-numbers.numbers.items ++ numbers_in (drop c.args.to xs)
-    ≡ numbers_in (drop c.args.from xs)) c.deref.ensures.value c.in_ok-numbers.ensures in
+    let split = subst (λ (xs : List Strand). c.members.new.numbers.items ++ numbers_in (drop c.args.to xs)
+    ≡ numbers_in (drop c.args.from xs)) c.deref.ensures.value c.in_ok-members.ensures in
     subst (All (λ k. k < length s.edges.now)) (sym c.deref-2.ensures.value)
     (group_there s.edges.now s.lower.now s.upper.now s.lower_within c.requires.neighbours c.args.from c.args.to
-    c.args.strands.now.items c.requires.mended c.requires.group c.in_ok-numbers.numbers.items split)
+    c.args.strands.now.items c.requires.mended c.requires.group c.members.new.numbers.items split)
 
 pub leaving-requires-clause-together : goal.leaving-requires-clause-together
 leaving-requires-clause-together c =
     let s = c.args.step.now in
-    let split = subst (λ (xs : List Strand). c.in_ok-numbers.numbers.items ++ numbers_in (drop c.args.to xs)
-    ≡ numbers_in (drop c.args.from xs)) c.deref.ensures.value c.in_ok-numbers.ensures in
+    let split = subst (λ (xs : List Strand). c.members.new.numbers.items ++ numbers_in (drop c.args.to xs)
+    ≡ numbers_in (drop c.args.from xs)) c.deref.ensures.value c.in_ok-members.ensures in
     subst (λ (ks : List ℕ). AllStand (IsSamePlaceAt s.lower.now) s.edges.now ks ks) (sym c.deref-2.ensures.value)
     (group_together s.edges.now s.lower.now s.upper.now s.lower_within c.requires.neighbours c.args.from c.args.to
-    c.args.strands.now.items c.requires.mended c.requires.group c.in_ok-numbers.numbers.items split)
+    c.args.strands.now.items c.requires.mended c.requires.group c.members.new.numbers.items split)
 
 pub replace-requires-clause-to : goal.replace-requires-clause-to
 replace-requires-clause-to c =
@@ -38,7 +38,7 @@ replace-requires-clause-to c =
     (omega (arith, some, within)) c.weaken.ensures in
     omega (arith, within, size)
 
-put : (c : After-drop-numbers-2)
+put : (c : In_ok-replace)
     → AreMendedTo c.args.step.now.edges.now c.args.step.now.lower.now c.args.step.now.upper.now
     (c.args.from + c.len.result) c.replace.new.strands.items
     × KeepTimes c.args.step.now.edges.now c.args.step.now.lower.now c.args.step.now.upper.now
@@ -48,17 +48,18 @@ put : (c : After-drop-numbers-2)
 put c =
     let s = c.args.step.now in
     let L : List Strand = c.args.strands.now.items in
-    let split = subst (λ (xs : List Strand). c.in_ok-numbers.numbers.items ++ numbers_in (drop c.args.to xs)
-    ≡ numbers_in (drop c.args.from xs)) c.deref.ensures.value c.in_ok-numbers.ensures in
+    let split = subst (λ (xs : List Strand). c.members.new.numbers.items ++ numbers_in (drop c.args.to xs)
+    ≡ numbers_in (drop c.args.from xs)) c.deref.ensures.value c.in_ok-members.ensures in
     let same = subst (λ (ks : List ℕ). IsPermutation
     (filter (λ k. reaches (edge_at s.edges.now k) s.lower.now s.upper.now) ks) (concat c.in_ok-bundles.bundles.items))
     c.deref-2.ensures.value c.in_ok-bundles.ensures.members in
-    let long : c.len.result ≡ length c.in_ok-others.others.items = search rules in
+    let long : c.len.result ≡ length c.in_ok-bundles.bundles.items = search rules in
+    let size = long ∙ sym (length_fresh c.in_ok-bundles.bundles.items) in
     regrouped_by s.edges.now s.lower.now s.upper.now s.lower_within c.requires.neighbours c.args.from c.args.to L
-    c.requires.mended c.requires.group c.in_ok-numbers.numbers.items split c.in_ok-bundles.bundles.items
-    c.in_ok-bundles.ensures.ranked same c.weaken.new.strands.items c.in_ok-others.others.items
-    c.replace.new.strands.items (c.args.from + c.len.result) c.weaken.ensures c.in_ok-others.ensures
-    c.in_ok-replace.ensures (ap (λ (n : ℕ). c.args.from + n) long)
+    c.requires.mended c.requires.group c.members.new.numbers.items split c.in_ok-bundles.bundles.items
+    c.in_ok-bundles.ensures.ranked same c.weaken.new.strands.items
+    (fresh c.in_ok-bundles.bundles.items) c.replace.new.strands.items (c.args.from + c.len.result) c.weaken.ensures refl
+    c.in_ok-replace.ensures (ap (λ (n : ℕ). c.args.from + n) size)
 
 pub returns-clause-mended : goal.returns-clause-mended
 returns-clause-mended c = (put c).0
@@ -73,14 +74,15 @@ pub returns-clause-told : goal.returns-clause-told
 returns-clause-told c all cs gone o a =
     let s = c.args.step.now in
     let L : List Strand = c.args.strands.now.items in
-    let split = subst (λ (xs : List Strand). c.in_ok-numbers.numbers.items ++ numbers_in (drop c.args.to xs)
-    ≡ numbers_in (drop c.args.from xs)) c.deref.ensures.value c.in_ok-numbers.ensures in
+    let split = subst (λ (xs : List Strand). c.members.new.numbers.items ++ numbers_in (drop c.args.to xs)
+    ≡ numbers_in (drop c.args.from xs)) c.deref.ensures.value c.in_ok-members.ensures in
     let same = subst (λ (ks : List ℕ). IsPermutation
     (filter (λ k. reaches (edge_at s.edges.now k) s.lower.now s.upper.now) ks) (concat c.in_ok-bundles.bundles.items))
     c.deref-2.ensures.value c.in_ok-bundles.ensures.members in
-    let long : c.len.result ≡ length c.in_ok-others.others.items = search rules in
+    let long : c.len.result ≡ length c.in_ok-bundles.bundles.items = search rules in
+    let size = long ∙ sym (length_fresh c.in_ok-bundles.bundles.items) in
     placed_by s.edges.now s.lower.now s.upper.now s.lower_within c.requires.neighbours c.args.from c.args.to L
-    c.requires.mended c.requires.group c.in_ok-numbers.numbers.items split c.in_ok-bundles.bundles.items
-    c.in_ok-bundles.ensures.ranked same c.weaken.new.strands.items c.in_ok-others.others.items
-    c.replace.new.strands.items (c.args.from + c.len.result) c.weaken.ensures c.in_ok-others.ensures
-    c.in_ok-replace.ensures (ap (λ (n : ℕ). c.args.from + n) long) all cs gone o a
+    c.requires.mended c.requires.group c.members.new.numbers.items split c.in_ok-bundles.bundles.items
+    c.in_ok-bundles.ensures.ranked same c.weaken.new.strands.items
+    (fresh c.in_ok-bundles.bundles.items) c.replace.new.strands.items (c.args.from + c.len.result) c.weaken.ensures refl
+    c.in_ok-replace.ensures (ap (λ (n : ℕ). c.args.from + n) size) all cs gone o a

@@ -1,11 +1,10 @@
-use Rattle.std.proofs.Common.{◌≡◌, length}
+use Rattle.std.proofs.Common.{◌≡◌}
 use Rattle.slice_sweep.specs.Strands.{bundles_of}
 use Rattle.slice_sweep.specs.Mending.{AreOrdered}
 use Rattle.slice_sweep.proofs.wake.wake_all.Given as goal
 
-abbrev pub invariant-strands : goal.invariant-strands
-invariant-strands l = record {
+abbrev pub invariant-changes : goal.invariant-changes
+invariant-changes l = record {
   ordered : AreOrdered l.step.edges.now l.step.lower.now l.step.upper.now l.strands.items;
   bundles : bundles_of l.strands.items ≡ bundles_of l.fn.strands.items;
-  len : length l.strands.items ≡ length l.fn.strands.items;
 }

@@ -1,0 +1,20 @@
+//! Memory that the groups of a height use one after another.
+
+use crate::ray::Ray;
+use std::alloc::Global;
+
+/// What is gathered of one group, kept for the next so that it takes no memory anew.
+#[derive(Drop)]
+pub(crate) struct Room {
+    pub(crate) numbers: Vec<u32>,
+    pub(crate) rays: Vec<Ray>,
+}
+
+impl Room {
+    pub(crate) fn new(alloc: Global) -> Room {
+        Room {
+            numbers: Vec::new(alloc),
+            rays: Vec::new(alloc),
+        }
+    }
+}
