@@ -200,16 +200,16 @@ module _ (h : Height) where
   are_ordered [] p a = tt
   are_ordered (b ∷ bs) p a = (one_ordered b bs p.0 p.1 a.0, are_ordered bs p.1 a.1)
 
--- ---- the last level
--- the marks below it meet it
-pub marks_all_pass : (es : List LeafEdge) (shape : Shape) (levels : List Level) (top : Level) (s : Sweep)
-    → HasSwept es shape levels (top ∷ []) s → AreLevels es levels → (ms : List Mark) → ms ≡ s.kept.marks.items
-    → AllPass es top ms
-marks_all_pass es shape levels top s swept are ms e =
+-- the marks below a level meet it
+pub marks_all_pass : (es : List LeafEdge) (shape : Shape) (levels : List Level) (top : Level) (later : List Level)
+    (s : Sweep) → HasSwept es shape levels (top ∷ later) s → AreLevels es levels → (ms : List Mark)
+    → ms ≡ s.kept.marks.items → AllPass es top ms
+marks_all_pass es shape levels top later s swept are ms e =
     all_pass es top ms (bundles_in s.front)
-    (subst (λ (us : List Mark). AreNamed us (bundles_in s.front)) (sym e) (swept_named es shape levels top [] s swept))
+    (subst (λ (us : List Mark). AreNamed us (bundles_in s.front)) (sym e) (swept_named es shape levels top later s
+    swept))
     (subst (AllByRecursion (HeadPasses es top)) swept.bundles
-    (front_heads es shape levels top [] are swept.front swept.below))
+    (front_heads es shape levels top later are swept.front swept.below))
 
 module _ (h : Height) (shape : Shape) (levels : List Level) (s : Sweep)
     (swept : HasSwept h.edges.now shape levels (h.at.now ∷ []) s) (are : AreLevels h.edges.now levels)

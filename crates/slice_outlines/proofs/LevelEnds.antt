@@ -93,7 +93,7 @@ module _ (h : Height) where
       (passing_within coordinate_limit (edge_at h.edges.now k) h.at.now
       (h.within k no_edge (passes_there h.edges.now k h.at.now p.0)) h.at_within p.0)
 
-  groups_left : (gs : List Group) → AllByRecursion (IsPlaced h) gs
+  pub groups_left : (gs : List Group) → AllByRecursion (IsPlaced h) gs
       → AllByRecursion (λ g. IsLeft (far_left h.at.now) (at_group h g)) gs
   groups_left [] p = tt
   groups_left (g ∷ gs) p = (bundle_left (all_at g) p.0.met.some p.0.passes, groups_left gs p.1)

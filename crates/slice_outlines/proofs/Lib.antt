@@ -36,6 +36,7 @@ mod StretchWays
 mod Levelling
 mod Stretching
 mod LevelEnds
+mod Asides
 mod FlatsOn
 mod Advancing
 mod Ended

@@ -90,7 +90,7 @@ pub joined_by : (right : ℤ) (fs : List Flat) → AreJoined fs right → AllByR
 joined_by right [] j = tt
 joined_by right (f ∷ fs) j = let r = join_most f.right right fs j in (r.0, r.1)
 
-whole_by : (l : Level) (a b : ℤ) → pos 0 <ℤ l.d → a ≤ℤ b → IsNotRightOf (whole_spot a l) (whole_spot b l)
+pub whole_by : (l : Level) (a b : ℤ) → pos 0 <ℤ l.d → a ≤ℤ b → IsNotRightOf (whole_spot a l) (whole_spot b l)
 whole_by l a b d o =
     let less : (a *ℤ l.d) ≤ℤ (b *ℤ l.d) = scaled_order a b l.d o d in
     omega (arith, ints, less)

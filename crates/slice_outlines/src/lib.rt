@@ -4,6 +4,7 @@
 #![tactic(auto, using(scad_geom::proofs::Casts::casts))]
 
 mod above;
+mod aside;
 mod changing;
 mod course;
 mod cursor;

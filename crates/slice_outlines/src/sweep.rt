@@ -1,5 +1,5 @@
 //! A sweep over the levels of an edge list.
-ghost use Rattle.std.specs.Prelude.{◌≡◌, ◌<◌, ◌≤◌, ◌^◌, true, false, List, [], ◌∷◌, length, IfOk, OnOk, All};
+ghost use Rattle.std.specs.Prelude.{◌≡◌, ◌<◌, ◌≤◌, ◌-◌, ◌^◌, List, [], ◌∷◌, length, take, drop, IfOk, OnOk, All};
 ghost use Rattle.std.specs.List.{AllZip};
 ghost use Rattle.scad_geom.specs.declared.level.Level.{Level};
 ghost use Rattle.scad_geom.specs.declared.shape.Shape.{Shape};
@@ -12,9 +12,10 @@ ghost use Rattle.slice_events.specs.Levels.{AreLevels};
 ghost use Rattle.slice_sweep.specs.Front.{bundles_in};
 ghost use Rattle.slice_bool.specs.Beside.{AreMembers};
 ghost use Rattle.sweep_laws.specs.Sweeps.{AreMergedEdges};
-ghost use Rattle.slice_outlines.specs.Sweep.{HasSwept, CanClimb, CanEnd, IsClear};
+ghost use Rattle.slice_outlines.specs.Sweep.{HasSwept, CanClimb, CanEnd};
 ghost use Rattle.slice_outlines.specs.Marks.{IsNamed};
-ghost use Rattle.slice_outlines.specs.Cursor.{Stands, StaysOn};
+ghost use Rattle.slice_outlines.specs.Cursor.{Stands, StaysOn, IsClearAt};
+ghost use Rattle.slice_outlines.specs.Stops.{AllPass};
 ghost use Rattle.slice_outlines.specs.Heights.{Onwards, IsOf};
 ghost use Rattle.slice_outlines.specs.Ahead.{HasComeTo};
 ghost use Rattle.slice_outlines.specs.Level.{IsAtLevel, IsValuedAt, AreSpotsOf};
@@ -107,21 +108,22 @@ impl Sweep {
         requires members { AreMembers edges.now (bundles_in self.old.front) }
         requires stands { Stands edges.now (bundles_in self.old.front) self.old.kept.cursor }
         requires named { AllZip (λ m b. IsNamed m.name b) self.old.kept.marks.items (bundles_in self.old.front) }
+        requires pass { AllPass edges.now at.now self.old.kept.marks.items }
+        requires from { self.old.passed ≤ flat_to }
+        requires to { flat_to ≤ length self.old.flats.items }
         ensures stands { StaysOn edges.now (bundles_in self.old.front) self.old.kept.cursor self.new.kept.cursor }
-        ensures clear { IsClear edges.now at.now self.new.kept flat_to self.new.passed }
+        ensures clear { IsClearAt edges.now at.now self.old.kept.marks.items
+            (take (flat_to - self.old.passed) (drop self.old.passed self.old.flats.items)) self.new.kept.cursor.at }
         ensures front { self.new.front ≡ self.old.front }
         ensures marks { self.new.kept.marks ≡ self.old.kept.marks }
         ensures given { self.new.kept.given ≡ self.old.kept.given }
         ensures flats { self.new.flats ≡ self.old.flats }
         ensures passed { self.new.passed ≡ self.old.passed }
     {
-        if has_flats(self.passed, flat_to) {
-            self.kept.cursor.rest(edges, &self.front);
-        } else {
-            self.kept
-                .cursor
-                .leave(edges, &self.front, &self.kept.marks, at);
-        }
+        let flats = &self.flats[self.passed..flat_to];
+        self.kept
+            .cursor
+            .leave(edges, &self.front, &self.kept.marks, at, flats);
     }
 
     /// Ends it with the last level, and gives the edges of all pieces.
@@ -153,14 +155,6 @@ impl Sweep {
         pass_places(self.alloc, &height, &mut kept, &run, flats)?;
         Ok(kept.given)
     }
-}
-
-// Whether flat edges lie from one place to another.
-fn has_flats(from: usize, to: usize) -> bool
-    ensures some { result ≡ true → from < to }
-    ensures none { result ≡ false → to ≤ from }
-{
-    from < to
 }
 
 // Beside a front without strands.

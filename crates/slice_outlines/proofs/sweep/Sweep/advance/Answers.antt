@@ -1,8 +1,8 @@
 -- The front is lifted, and what is kept beside it passes the level.
-use Rattle.std.proofs.Common.{◌≡◌, ◌≤◌, ◌-◌, ℕ, List, [], length, take, drop, refl, sym, ap, ◌∙◌, subst}
-use Rattle.std.specs.List.{AllByRecursion, AllZip}
+use Rattle.std.proofs.Common.{◌≡◌, ◌≤◌, ◌<◌, ◌-◌, ℕ, List, length, take, drop, refl, sym, ap, ◌∙◌, subst}
+use Rattle.std.specs.List.{All, AllByRecursion, AllZip}
 use Rattle.scad_geom.specs.Level.{level_of, IsLower, IsAtMost}
-use Rattle.slice_outlines.specs.Marks.{IsNamed}
+use Rattle.slice_outlines.specs.Marks.{IsNamed, mark_at, spot_at}
 use Rattle.std.proofs.lemmas.List.Elements.{recursion_from_All}
 use Rattle.slice_sweep.specs.declared.change.Change.{Change}
 use Rattle.slice_sweep.specs.declared.front.Front.{Front}
@@ -12,13 +12,14 @@ use Rattle.slice_outlines.specs.declared.mark.Mark.{Mark}
 use Rattle.slice_outlines.specs.declared.flat.Flat.{Flat}
 use Rattle.slice_outlines.specs.Above.{AreTaken}
 use Rattle.slice_outlines.specs.Cursor.{IsApartAt}
-use Rattle.slice_outlines.specs.Flats.{LiesOn, IsOff}
+use Rattle.slice_outlines.specs.Flats.{LiesOn, IsOff, LiesAside}
 use Rattle.slice_outlines.specs.Level.{AreFlatsOn}
 use Rattle.slice_outlines.proofs.Few.{bundles_few}
 use Rattle.slice_outlines.proofs.Fitting.{named_size, fits_apart}
 use Rattle.slice_outlines.proofs.Climbing.{swept_members, swept_named, swept_few, can_shift}
 use Rattle.slice_outlines.proofs.FlatsOn.{level_flats, next_lower, next_later}
-use Rattle.slice_outlines.proofs.Advancing.{changes_as, told_as, none_between, climbs, climbed}
+use Rattle.slice_outlines.proofs.Advancing.{changes_as, told_as, climbs, climbed}
+use Rattle.slice_outlines.proofs.Ended.{marks_all_pass}
 use Rattle.slice_outlines.proofs.sweep.Sweep.advance.Goals as goal
 
 pub clear_cursor-requires-clause-members : goal.clear_cursor-requires-clause-members
@@ -30,6 +31,11 @@ pub clear_cursor-requires-clause-named : goal.clear_cursor-requires-clause-named
 clear_cursor-requires-clause-named c =
     let w = c.requires.swept in
     swept_named c.args.edges.now w.shape w.levels c.args.at.now _ c.args.self.now w.swept
+
+pub clear_cursor-requires-clause-pass : goal.clear_cursor-requires-clause-pass
+clear_cursor-requires-clause-pass c =
+    let w = c.requires.swept in
+    marks_all_pass c.args.edges.now w.shape w.levels c.args.at.now _ c.args.self.now w.swept w.are_levels _ refl
 
 pub shift-requires : goal.shift-requires
 shift-requires c =
@@ -49,8 +55,7 @@ shift-requires c =
     (c.in_ok-changes.ensures.changes begun) in
     let named = swept_named es w.shape w.levels l _ s w.swept in
     let on = c.clear_cursor.ensures.stands w.shape w.swept.cursor in
-    let apart : IsApartAt es l s.kept.marks.items cc.kept.cursor.at =
-    subst (λ (ms : List Mark). IsApartAt es l ms cc.kept.cursor.at) marks c.clear_cursor.ensures.clear.apart in
+    let apart : IsApartAt es l s.kept.marks.items cc.kept.cursor.at = c.clear_cursor.ensures.clear.apart in
     let few = swept_few es w.shape w.levels l _ s w.swept c.requires.few in
     record {
       told = can_shift es l s.kept.marks.items (bundles_in s.front) up c.deref-2.result.now cc.kept.cursor.at
@@ -77,8 +82,7 @@ marks_above-requires c =
     (c.in_ok-changes.ensures.changes begun) in
     let named = swept_named es w.shape w.levels l _ s w.swept in
     let on = c.clear_cursor.ensures.stands w.shape w.swept.cursor in
-    let apart : IsApartAt es l s.kept.marks.items cc.kept.cursor.at =
-    subst (λ (ms : List Mark). IsApartAt es l ms cc.kept.cursor.at) marks c.clear_cursor.ensures.clear.apart in
+    let apart : IsApartAt es l s.kept.marks.items cc.kept.cursor.at = c.clear_cursor.ensures.clear.apart in
     let size : length s.kept.marks.items ≡ length (bundles_in s.front) =
     named_size s.kept.marks.items (bundles_in s.front) named in
     let seen : c.deref-3.result.now ≡ s.kept.marks.items = c.deref-3.ensures.value ∙ marks in
@@ -105,8 +109,7 @@ pass_level-requires c =
     (c.in_ok-changes.ensures.changes begun) in
     let named = swept_named es w.shape w.levels l _ s w.swept in
     let on = c.clear_cursor.ensures.stands w.shape w.swept.cursor in
-    let apart : IsApartAt es l s.kept.marks.items cc.kept.cursor.at =
-    subst (λ (ms : List Mark). IsApartAt es l ms cc.kept.cursor.at) marks c.clear_cursor.ensures.clear.apart in
+    let apart : IsApartAt es l s.kept.marks.items cc.kept.cursor.at = c.clear_cursor.ensures.clear.apart in
     let size : length s.kept.marks.items ≡ length (bundles_in s.front) =
     named_size s.kept.marks.items (bundles_in s.front) named in
     let seen : c.deref-3.result.now ≡ s.kept.marks.items = c.deref-3.ensures.value ∙ marks in
@@ -144,22 +147,24 @@ pass_level-requires c =
     (sym (c.deref-6.ensures.value ∙ ap (λ v. v.items) c.clear_cursor.ensures.flats)) in
     let flats : AreFlatsOn es l fs = subst (AreFlatsOn es l) flat_is
     (level_flats es l d all w.swept.flats s.passed to from b.passed b.later ons off) in
-    let clear = none_between fs cc.passed to c.deref-6.result.now cc.kept.cursor.at (length cc.kept.marks.items) refl
-    c.clear_cursor.ensures.clear.right in
     let place = c.shift.ensures.place ch.groups
     (changes_as es l (bundles_in s.front) up cs c.deref-2.result.now c.deref-2.ensures.value ch).told
     (fits_apart es l ch.groups s.kept.marks.items cc.kept.cursor.at
     (subst (AllZip (λ m k. IsNamed m.name k) s.kept.marks.items) (sym ch.below_is) named) ch.are_groups.together
     (subst (λ (bs : List (List ℕ)). cc.kept.cursor.at ≤ length bs) (sym ch.below_is) on.there) apart) in
-    let ended : (fs ≡ [] → ⊥) → cc.kept.cursor.at ≡ length (bundles_in s.front) =
-    λ n. clear n ∙ ap (λ (ms : List Mark). length ms) marks ∙ size in
+    let aside : cc.kept.cursor.at < length c.deref-5.result.now
+    → All (LiesAside l (spot_at es l (mark_at c.deref-5.result.now cc.kept.cursor.at))) fs =
+    subst (λ (ms : List Mark). cc.kept.cursor.at < length ms
+    → All (LiesAside l (spot_at es l (mark_at ms cc.kept.cursor.at))) fs) (sym swapped)
+    (λ o. subst (All (LiesAside l (spot_at es l (mark_at s.kept.marks.items cc.kept.cursor.at)))) flat_is
+    (c.clear_cursor.ensures.clear.aside o)) in
     let given = ap (λ v. v.items) c.clear_cursor.ensures.given in
     record {
       level = climbs _ c.args.upper.now w.shape w.levels w.later s ds w.swept w.are_levels c.requires.balanced
           c.requires.neighbours bundles dh swapped
           (record { marks = c.replace-below.new.dest; cursor = c.shift.new.self; given = cc.kept.given })
           (record { marks = c.replace-below.new.dest; cursor = c.shift.new.self; given = cc.kept.given }) taken fs flats
-          c.requires.few given cc.kept.cursor on c.shift.ensures.tally place ended;
+          c.requires.few given cc.kept.cursor on c.shift.ensures.tally place aside;
     }
 
 pub returns : goal.returns
@@ -179,8 +184,7 @@ returns c = λ w.
     (c.in_ok-changes.ensures.changes begun) in
     let named = swept_named es w.shape w.levels l _ s w.swept in
     let on = c.clear_cursor.ensures.stands w.shape w.swept.cursor in
-    let apart : IsApartAt es l s.kept.marks.items cc.kept.cursor.at =
-    subst (λ (ms : List Mark). IsApartAt es l ms cc.kept.cursor.at) marks c.clear_cursor.ensures.clear.apart in
+    let apart : IsApartAt es l s.kept.marks.items cc.kept.cursor.at = c.clear_cursor.ensures.clear.apart in
     let size : length s.kept.marks.items ≡ length (bundles_in s.front) =
     named_size s.kept.marks.items (bundles_in s.front) named in
     let seen : c.deref-3.result.now ≡ s.kept.marks.items = c.deref-3.ensures.value ∙ marks in
@@ -218,21 +222,23 @@ returns c = λ w.
     (sym (c.deref-6.ensures.value ∙ ap (λ v. v.items) c.clear_cursor.ensures.flats)) in
     let flats : AreFlatsOn es l fs = subst (AreFlatsOn es l) flat_is
     (level_flats es l d all w.swept.flats s.passed to from b.passed b.later ons off) in
-    let clear = none_between fs cc.passed to c.deref-6.result.now cc.kept.cursor.at (length cc.kept.marks.items) refl
-    c.clear_cursor.ensures.clear.right in
     let place = c.shift.ensures.place ch.groups
     (changes_as es l (bundles_in s.front) up cs c.deref-2.result.now c.deref-2.ensures.value ch).told
     (fits_apart es l ch.groups s.kept.marks.items cc.kept.cursor.at
     (subst (AllZip (λ m k. IsNamed m.name k) s.kept.marks.items) (sym ch.below_is) named) ch.are_groups.together
     (subst (λ (bs : List (List ℕ)). cc.kept.cursor.at ≤ length bs) (sym ch.below_is) on.there) apart) in
-    let ended : (fs ≡ [] → ⊥) → cc.kept.cursor.at ≡ length (bundles_in s.front) =
-    λ n. clear n ∙ ap (λ (ms : List Mark). length ms) marks ∙ size in
+    let aside : cc.kept.cursor.at < length c.deref-5.result.now
+    → All (LiesAside l (spot_at es l (mark_at c.deref-5.result.now cc.kept.cursor.at))) fs =
+    subst (λ (ms : List Mark). cc.kept.cursor.at < length ms
+    → All (LiesAside l (spot_at es l (mark_at ms cc.kept.cursor.at))) fs) (sym swapped)
+    (λ o. subst (All (LiesAside l (spot_at es l (mark_at s.kept.marks.items cc.kept.cursor.at)))) flat_is
+    (c.clear_cursor.ensures.clear.aside o)) in
     let given = ap (λ v. v.items) c.clear_cursor.ensures.given in
     climbed _ c.args.upper.now w.shape w.levels w.later s ds w.swept w.are_levels c.requires.balanced
     c.requires.neighbours bundles dh swapped
     (record { marks = c.replace-below.new.dest; cursor = c.shift.new.self; given = cc.kept.given })
     c.pass_level.new.kept
-    taken fs flats c.requires.few given cc.kept.cursor on c.shift.ensures.tally place ended
+    taken fs flats c.requires.few given cc.kept.cursor on c.shift.ensures.tally place aside
     c.in_ok-pass_level.ensures
     (record {
       alloc = cc.alloc;

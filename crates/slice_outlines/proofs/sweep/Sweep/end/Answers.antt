@@ -29,7 +29,7 @@ pub pass_places-requires-clause-below_pass : goal.pass_places-requires-clause-be
 pass_places-requires-clause-below_pass c =
     let w = c.requires.swept in
     let marks = c.deref.ensures.value ∙ ap (λ v. v.items) c.replace-below.ensures.value in
-    marks_all_pass c.args.edges.now w.shape w.levels c.args.top.now c.args.self w.swept w.are_levels c.deref.result.now
+    marks_all_pass c.args.edges.now w.shape w.levels c.args.top.now [] c.args.self w.swept w.are_levels c.deref.result.now
     marks
 
 pub returns : goal.returns
