@@ -48,6 +48,7 @@ use Rattle.slice_sweep.specs.declared.front.Front.{Front}
 use Rattle.slice_outlines.specs.declared.mark.Mark.{Mark}
 use Rattle.slice_outlines.specs.declared.flat.Flat.{Flat}
 use Rattle.slice_outlines.specs.declared.cursor.Cursor.{Cursor}
+use Rattle.slice_outlines.specs.declared.cursors.Cursors.{Cursors}
 use Rattle.slice_outlines.specs.declared.tally.Tally.{Tally}
 use Rattle.slice_outlines.specs.declared.height.Height.{Height}
 use Rattle.slice_outlines.specs.declared.height.Open.{Open}
@@ -57,6 +58,7 @@ use Rattle.slice_outlines.specs.Stops.{AllPass}
 use Rattle.slice_outlines.specs.Above.{name_of, new_mark, IsTold, AreTaken}
 use Rattle.slice_outlines.specs.Above.AreTaken.{none as taken_none, stays as taken_stays, changes as taken_changes}
 use Rattle.slice_outlines.specs.Cursor.{StandsOn, IsShifted, IsMetFromBelow}
+use Rattle.slice_outlines.specs.Cursors.{StandOn, AreAbove}
 use Rattle.slice_outlines.specs.Tallies.{Tells}
 use Rattle.slice_outlines.specs.Flats.{AreFlats, LiesAside}
 use Rattle.slice_outlines.specs.Heights.{Onwards, IsOf}
@@ -253,7 +255,7 @@ module _ (h : Height) (upper : Level) (shape : Shape) (levels later : List Level
       headings_beside es leaves at next.lower_divisor (all_below ch.groups) (all_above ch.groups) below_counts
       above_counts t e r (all_aside (point_of t) es a) leaf
 
-  -- ---- the cursor
+  -- ---- the cursors
   alike_behind : (left : List Group) (g : Group) (right : List Group) → ch.groups ≡ left ++ (g ∷ right)
       → AllByRecursion (LiesAside at (at_group h g)) fs → (leaf : ℕ)
       → headings es leaf (concat (all_below (g ∷ right))) ≡ headings es leaf (concat (all_above (g ∷ right)))
@@ -322,7 +324,7 @@ module _ (h : Height) (upper : Level) (shape : Shape) (levels later : List Level
           (recursion_from_All (LiesAside at (spot_at es at (mark_at h.below.now c.at))) fs (aside x.0))) leaf
 
   -- ---- what the level asks
-  pub at_level : length es < 2 ^ 32 → (c : Cursor) → StandsOn es shape up c → IsAtLevel h ms cs fs c
+  pub at_level : length es < 2 ^ 32 → (c : Cursors) → StandOn es shape up c → IsAtLevel h ms cs fs c
   at_level few c on = record {
     groups = ch.groups;
     are_groups = ch.are_groups;
@@ -358,7 +360,7 @@ module _ (h : Height) (upper : Level) (shape : Shape) (levels later : List Level
   }
 
   pub starts : (kept : Open) → kept.marks.items ≡ ms → kept.given.items ≡ s.kept.given.items
-      → StandsOn es shape up kept.cursor → HasComeTo (on_level h upper shape levels later s swept) [] 0 0 kept
+      → StandOn es shape up kept.cursors → HasComeTo (on_level h upper shape levels later s swept) [] 0 0 kept
   starts kept e g on = record {
     places = [];
     flat = [];
@@ -472,7 +474,7 @@ pub record IsOver (on : Onwards) (fs : List Flat) (new : Open) : Type 0 where
   pub kept : AreKept false new.marks.items (placed_above places)
   pub values : AreNewValued on.height.edges.now on.shape places
   pub edges : IsPermutation (on.given ++ rounded_edges (pieces_of (all_closed places))) new.given.items
-  pub stands : StandsOn on.height.edges.now on.shape (bundles_in on.height.front.now) new.cursor
+  pub stands : StandOn on.height.edges.now on.shape (bundles_in on.height.front.now) new.cursors
 
 pub over_by : (on : Onwards) (fs : List Flat) (new : Open) (n m : ℕ) → AreKept false on.height.below.now on.below
     → n ≡ length on.height.below.now → m ≡ length (bundles_in on.height.front.now)
@@ -569,8 +571,8 @@ module _ (h : Height) (upper : Level) (shape : Shape) (levels later : List Level
         (sym (ways_give_edges.more swept.closed (all_closed over.places))) over.edges);
     bundles = over.above ∙ ap bundles_in (sym ef);
     kept = subst (λ (k : Open). AreKept false k.marks.items (placed_above over.places)) (sym ek) over.kept;
-    cursor = subst (λ (k : Open). StandsOn h.edges.now shape (bundles_in t.front) k.cursor) (sym ek)
-        (subst (λ (f : Front). StandsOn h.edges.now shape (bundles_in f) new.cursor) (sym ef) over.stands);
+    cursors = subst (λ (k : Open). StandOn h.edges.now shape (bundles_in t.front) k.cursors) (sym ek)
+        (subst (λ (f : Front). StandOn h.edges.now shape (bundles_in f) new.cursors) (sym ef) over.stands);
     flats = subst (AreFlats h.edges.now) (sym el) swept.flats;
     passed = subst (λ (xs : List Flat). t.passed ≤ length xs) (sym el) o;
     flats_below = passed;
@@ -609,39 +611,46 @@ module _ (h : Height) (upper : Level) (shape : Shape) (levels later : List Level
     (taken : AreTaken 0 cs ch.groups h.below.now kept.marks.items) (fs : List Flat)
     (flats : AreFlatsOn h.edges.now h.at.now fs) (few : length h.edges.now < 2 ^ 32)
     (given_is : kept.given.items ≡ s.kept.given.items)
-    (cursor : Cursor) (on_low : StandsOn h.edges.now shape (bundles_in s.front) cursor)
-    (tally_is : kept.cursor.tally ≡ cursor.tally) (place : IsShifted ch.groups cursor.at kept.cursor.at)
-    (aside : cursor.at < length h.below.now
-    → All (LiesAside h.at.now (spot_at h.edges.now h.at.now (mark_at h.below.now cursor.at))) fs) where
-  on_front : StandsOn h.edges.now shape (bundles_in h.front.now) kept.cursor
-  on_front = shifted h upper shape levels later s cs swept are leaves next bundles ch below_is kept.marks.items taken
-      fs flats
-      cursor kept.cursor on_low tally_is place aside
+    (cursors : Cursors) (on_low : StandOn h.edges.now shape (bundles_in s.front) cursors)
+    (above : AreAbove ch.groups cursors kept.cursors)
+    (aside : (k : ℕ) (d : Cursor) → k < length cursors.all.items → (get_or cursors.all.items k d).at < length h.below.now
+    → All (LiesAside h.at.now (spot_at h.edges.now h.at.now (mark_at h.below.now (get_or cursors.all.items k d).at))) fs)
+  where
+    on_front : StandOn h.edges.now shape (bundles_in h.front.now) kept.cursors
+    on_front = record {
+      count = above.count ∙ on_low.count;
+      each = λ k d o.
+          let there : k < length cursors.all.items = let count = above.count in omega (arith, o, count) in
+          let moved = above.each k d d there in
+          shifted h upper shape levels later s cs swept are leaves next bundles ch below_is kept.marks.items taken fs flats
+          (get_or cursors.all.items k d) (get_or kept.cursors.all.items k d) (on_low.each k d there) moved.tally moved.place
+          (aside k d there);
+    }
 
-  pub climbs : IsAtLevel h kept.marks.items cs fs kept.cursor
-  climbs = at_level h upper shape levels later s cs swept are leaves next bundles ch below_is kept.marks.items taken fs
-      flats few kept.cursor on_front
+    pub climbs : IsAtLevel h kept.marks.items cs fs kept.cursors
+    climbs = at_level h upper shape levels later s cs swept are leaves next bundles ch below_is kept.marks.items taken fs
+        flats few kept.cursors on_front
 
-  pub climbed : ((w : IsAtLevel h kept.marks.items cs fs kept.cursor) (on : Onwards) → IsOf h on
-      → IsValuedAt on w.groups → HasComeTo on [] 0 0 kept → (spots : List Spot) × AreSpotsOf h fs spots
-      × HasComeTo on spots (length h.below.now) (length kept.marks.items) new) → (t : Sweep) → t.front ≡ h.front.now
-      → t.kept ≡ new → t.flats.items ≡ s.flats.items → t.passed ≤ length s.flats.items → ArePassedBelow upper t
-      → IsReadyFor h.edges.now upper t.front → IsBegunTo h.edges.now upper t.front
-      → HasSwept h.edges.now shape levels (upper ∷ later) t
-  unfolding climbs at_level
-  climbed pass t ef ek el o passed ready begun =
-      let on : Onwards = on_level h upper shape levels later s swept in
-      let start : HasComeTo on [] 0 0 kept = starts h upper shape levels later s cs swept are leaves next bundles ch
-      below_is kept.marks.items taken fs flats kept refl given_is on_front in
-      let valued : IsValuedAt on ch.groups = valued_level h upper shape levels later s cs swept are leaves next
-      bundles ch
-      below_is kept.marks.items taken fs flats in
-      let below : AreKept false h.below.now swept.front = kept_below h upper shape levels later s cs swept are leaves
-      next
-      bundles ch below_is kept.marks.items taken fs flats in
-      let r = pass climbs on (refl, below) valued start in
-      let size : length kept.marks.items ≡ length (bundles_in h.front.now) = named_size kept.marks.items
-      (bundles_in h.front.now) start.named in
-      lifted h upper shape levels later s swept are leaves next bundles fs new
-      (over_by on fs new (length h.below.now) (length kept.marks.items) below refl size flats r.0 r.1 r.2) t ef ek el o
-      passed ready begun
+    pub climbed : ((w : IsAtLevel h kept.marks.items cs fs kept.cursors) (on : Onwards) → IsOf h on
+        → IsValuedAt on w.groups → HasComeTo on [] 0 0 kept → (spots : List Spot) × AreSpotsOf h fs spots
+        × HasComeTo on spots (length h.below.now) (length kept.marks.items) new) → (t : Sweep) → t.front ≡ h.front.now
+        → t.kept ≡ new → t.flats.items ≡ s.flats.items → t.passed ≤ length s.flats.items → ArePassedBelow upper t
+        → IsReadyFor h.edges.now upper t.front → IsBegunTo h.edges.now upper t.front
+        → HasSwept h.edges.now shape levels (upper ∷ later) t
+    unfolding climbs at_level
+    climbed pass t ef ek el o passed ready begun =
+        let on : Onwards = on_level h upper shape levels later s swept in
+        let start : HasComeTo on [] 0 0 kept = starts h upper shape levels later s cs swept are leaves next bundles ch
+        below_is kept.marks.items taken fs flats kept refl given_is on_front in
+        let valued : IsValuedAt on ch.groups = valued_level h upper shape levels later s cs swept are leaves next
+        bundles ch
+        below_is kept.marks.items taken fs flats in
+        let below : AreKept false h.below.now swept.front = kept_below h upper shape levels later s cs swept are leaves
+        next
+        bundles ch below_is kept.marks.items taken fs flats in
+        let r = pass climbs on (refl, below) valued start in
+        let size : length kept.marks.items ≡ length (bundles_in h.front.now) = named_size kept.marks.items
+        (bundles_in h.front.now) start.named in
+        lifted h upper shape levels later s swept are leaves next bundles fs new
+        (over_by on fs new (length h.below.now) (length kept.marks.items) below refl size flats r.0 r.1 r.2) t ef ek el o
+        passed ready begun

@@ -4,6 +4,7 @@ mod Ending
 mod EndPoints
 mod Tallying
 mod Standing
+mod Several
 mod Joining
 mod Stopping
 mod Shifting

@@ -15,7 +15,7 @@ use Rattle.sweep_laws.specs.Fronts.{Strand, bundles_of, IsFront}
 use Rattle.sweep_laws.specs.Sweeps.{HasSweptTo}
 use Rattle.slice_outlines.specs.declared.sweep.Sweep.{Sweep}
 use Rattle.slice_outlines.specs.Marks.{AreKept}
-use Rattle.slice_outlines.specs.Cursor.{StandsOn}
+use Rattle.slice_outlines.specs.Cursors.{StandOn}
 use Rattle.slice_outlines.specs.Flats.{AreFlats}
 
 -- the front can be lifted to the first of these, below which all edges start that are on it
@@ -48,7 +48,7 @@ pub record HasSwept (es : List LeafEdge) (shape : Shape) (levels left : List Lev
   pub given : IsPermutation (rounded_edges (pieces_of closed)) s.kept.given.items
   pub bundles : bundles_of front ≡ bundles_in s.front
   pub kept : AreKept false s.kept.marks.items front
-  pub cursor : StandsOn es shape (bundles_in s.front) s.kept.cursor
+  pub cursors : StandOn es shape (bundles_in s.front) s.kept.cursors
   pub flats : AreFlats es s.flats.items
   pub passed : s.passed ≤ length s.flats.items
   pub flats_below : ArePassedBelowFirst left s

@@ -8,6 +8,7 @@ mod aside;
 mod changing;
 mod course;
 mod cursor;
+mod cursors;
 mod flat;
 mod flats;
 mod groups;
