@@ -1,15 +1,15 @@
 -- A sweep that is lifted over a level.
-use Rattle.std.proofs.Common.{◌≡◌, ◌⊎◌, inl, inr, ℕ, suc, ◌+◌, ◌-◌, ◌^◌, ◌<◌, ◌≤◌, Bool, true, false, List, [], ◌∷◌, ◌++◌, map, length, get_or, take, drop, refl, sym, ap, ◌∙◌, subst, arith, append_assoc, length-append}
+use Rattle.std.proofs.Common.{◌≡◌, ◌⊎◌, inl, inr, ℕ, suc, ◌+◌, ◌^◌, ◌<◌, ◌≤◌, Bool, true, false, List, [], ◌∷◌, ◌++◌, map, length, get_or, take, drop, refl, sym, ap, ◌∙◌, subst, arith, append_assoc, length-append}
 use mathlib.Core.Path.{fun_ext}
 use lib.IntN.{ℤ, pos, ◌*ℤ◌}
 use lib.Signed.{◌<ℤ◌}
 use Rattle.std.specs.Prelude.{int_lt, int_le}
-use Rattle.std.specs.List.{AllByRecursion, concat}
+use Rattle.std.specs.List.{All, AllByRecursion, concat}
 use Rattle.std.specs.List.Sorted.{IsPermutation}
 use Rattle.std.proofs.lemmas.Int.{ints}
-use Rattle.std.proofs.lemmas.Bool.{and_from, cases_lt}
+use Rattle.std.proofs.lemmas.Bool.{and_from}
 use Rattle.std.proofs.lemmas.List.{append-nil, drop_at, drop_all, get_or_default, take_all, map-append}
-use Rattle.std.proofs.lemmas.List.Elements.{All-from_recursion}
+use Rattle.std.proofs.lemmas.List.Elements.{All-from_recursion, recursion_from_All}
 use Rattle.scad_geom.specs.declared.point.Edge.{Edge}
 use Rattle.scad_geom.specs.declared.level.Level.{Level}
 use Rattle.scad_geom.specs.declared.level.LeafEdge.{LeafEdge}
@@ -48,17 +48,19 @@ use Rattle.slice_sweep.specs.declared.front.Front.{Front}
 use Rattle.slice_outlines.specs.declared.mark.Mark.{Mark}
 use Rattle.slice_outlines.specs.declared.flat.Flat.{Flat}
 use Rattle.slice_outlines.specs.declared.cursor.Cursor.{Cursor}
+use Rattle.slice_outlines.specs.declared.cursors.Cursors.{Cursors}
 use Rattle.slice_outlines.specs.declared.tally.Tally.{Tally}
 use Rattle.slice_outlines.specs.declared.height.Height.{Height}
 use Rattle.slice_outlines.specs.declared.height.Open.{Open}
 use Rattle.slice_outlines.specs.declared.sweep.Sweep.{Sweep}
-use Rattle.slice_outlines.specs.Marks.{mark_at, left_of_first, IsNamed, AreKept}
+use Rattle.slice_outlines.specs.Marks.{mark_at, spot_at, left_of_first, IsNamed, AreKept}
 use Rattle.slice_outlines.specs.Stops.{AllPass}
 use Rattle.slice_outlines.specs.Above.{name_of, new_mark, IsTold, AreTaken}
 use Rattle.slice_outlines.specs.Above.AreTaken.{none as taken_none, stays as taken_stays, changes as taken_changes}
 use Rattle.slice_outlines.specs.Cursor.{StandsOn, IsShifted, IsMetFromBelow}
+use Rattle.slice_outlines.specs.Cursors.{StandOn, AreAbove}
 use Rattle.slice_outlines.specs.Tallies.{Tells}
-use Rattle.slice_outlines.specs.Flats.{AreFlats}
+use Rattle.slice_outlines.specs.Flats.{AreFlats, LiesAside}
 use Rattle.slice_outlines.specs.Heights.{Onwards, IsOf}
 use Rattle.slice_outlines.specs.Along.{AreAtPlace, ArePlacesFrom, value_over}
 use Rattle.slice_outlines.specs.Ahead.{HasComeTo, between}
@@ -73,10 +75,9 @@ use Rattle.slice_outlines.proofs.Fitting.{named_size}
 use Rattle.slice_outlines.proofs.Few.{bundles_few}
 use Rattle.slice_outlines.proofs.Climbing.{swept_named, swept_few}
 use Rattle.slice_outlines.proofs.Sought.{by_places}
-use Rattle.slice_outlines.proofs.Apart.{IsPlaced, AreApart, groups_placed, groups_apart, below-append, above-append}
+use Rattle.slice_outlines.proofs.Apart.{IsPlaced, AreApart, at_group, groups_placed, groups_apart, below-append, above-append}
 use Rattle.slice_outlines.proofs.Cuts.{under_right, over_right, stays_aside, found}
-use Rattle.slice_outlines.proofs.Levelling.{cut_on}
-use Rattle.slice_outlines.proofs.LevelEnds.{far_left, far_cut}
+use Rattle.slice_outlines.proofs.Asides.{beside, cut_left, next_marked}
 
 -- ---- the marks above
 some_named : (b : List ℕ) → (b ≡ [] → ⊥) → IsNamed (name_of b) b
@@ -254,43 +255,25 @@ module _ (h : Height) (upper : Level) (shape : Shape) (levels later : List Level
       headings_beside es leaves at next.lower_divisor (all_below ch.groups) (all_above ch.groups) below_counts
       above_counts t e r (all_aside (point_of t) es a) leaf
 
-  -- ---- the cursor
-  all_fit : (left right : List Group) → ch.groups ≡ left ++ right
-      → length (all_below ch.groups) ≡ length (all_below left)
-      → IsMetFromBelow right → right ≡ []
-  all_fit left [] e q m = refl
-  all_fit left (g ∷ gs) e q m =
-      let size = ap length (ap all_below e ∙ below-append left (g ∷ gs))
-      ∙ length-append (all_below left) (all_below (g ∷ gs))
-      in
-      let none : length g.below ≡ 0 = omega (arith, size, q, length-append g.below (all_below gs)) in
-      absurd (m (nil_by g.below none))
-    where
-      nil_by : (bs : List (List ℕ)) → length bs ≡ 0 → bs ≡ []
-      nil_by [] o = refl
-      nil_by (b ∷ bs) o = absurd (omega (arith, o))
-
-  alike_between : (left right : List Group) → ch.groups ≡ left ++ right → fs ≡ [] → (leaf : ℕ)
-      → headings es leaf (concat (all_below right)) ≡ headings es leaf (concat (all_above right))
-  alike_between left right e nothing leaf =
+  -- ---- the cursors
+  alike_behind : (left : List Group) (g : Group) (right : List Group) → ch.groups ≡ left ++ (g ∷ right)
+      → AllByRecursion (LiesAside at (at_group h g)) fs → (leaf : ℕ)
+      → headings es leaf (concat (all_below (g ∷ right))) ≡ headings es leaf (concat (all_above (g ∷ right)))
+  alike_behind left g right e a leaf =
       let P = subst (AllByRecursion (IsPlaced h)) e placed in
-      let pl = front (IsPlaced h) left right P in
-      let pr = back (IsPlaced h) left right P in
-      let none : AreFlatsOn es at [] = subst (AreFlatsOn es at) nothing flats in
-      let c = cut_on h [] [] [] left right (far_left at) tt P (subst (AreApart h) e apart)
-      (far_cut h (left ++ right) P) (none_ahead left) in
+      let pl = front (IsPlaced h) left (g ∷ right) P in
+      let pr = back (IsPlaced h) left (g ∷ right) P in
+      let b = beside at next.lower_divisor (at_group h g) pr.0.at fs flats.rightwards a in
+      let c = cut_left h left g right b.before b.behind pl pr (subst (AreApart h) e apart) b.end b.begin in
       let runs : 0 < c.0.run = let r = c.1.at.runs in omega (arith, ints, r) in
-      let q = alike_beside c.0 c.1.at.at runs (stays_aside h [] [] left right c.0 c.1 none) leaf in
+      let split : AreFlatsOn es at (b.before ++ b.behind) = subst (AreFlatsOn es at) b.all flats in
+      let q = alike_beside c.0 c.1.at.at runs (stays_aside h b.before b.behind left (g ∷ right) c.0 c.1 split) leaf in
       ap (λ (bs : List (List ℕ)). headings es leaf (concat bs))
       (sym (ap (λ (gs : List Group). passing es true (point_of c.0) (all_below gs)) e
-      ∙ under_right h [] [] left right c.0 c.1 pl pr)) ∙ q
+      ∙ under_right h b.before b.behind left (g ∷ right) c.0 c.1 pl pr)) ∙ q
       ∙ ap (λ (bs : List (List ℕ)). headings es leaf (concat bs))
       (ap (λ (gs : List Group). passing es true (point_of c.0) (all_above gs)) e
-      ∙ over_right h [] [] left right c.0 c.1 pl pr)
-    where
-      none_ahead : (gs : List Group) → AllByRecursion (λ g. Unit {0}) gs
-      none_ahead [] = tt
-      none_ahead (g ∷ gs) = (tt, none_ahead gs)
+      ∙ over_right h b.before b.behind left (g ∷ right) c.0 c.1 pl pr)
 
   tells_as : (bs ds : List (List ℕ)) (c : Cursor) → ((leaf : ℕ)
       → headings es leaf (concat bs) ≡ headings es leaf (concat ds))
@@ -305,8 +288,9 @@ module _ (h : Height) (upper : Level) (shape : Shape) (levels later : List Level
 
   -- once it is clear of the level, it's shifted to the front above
   pub shifted : (c d : Cursor) → StandsOn es shape lows c → d.tally ≡ c.tally → IsShifted ch.groups c.at d.at
-      → (fs ≡ [] → ⊥) ⊎ (fs ≡ []) → ((fs ≡ [] → ⊥) → c.at ≡ length lows) → StandsOn es shape up d
-  shifted c d on same sh case clear =
+      → (c.at < length h.below.now → All (LiesAside at (spot_at es at (mark_at h.below.now c.at))) fs)
+      → StandsOn es shape up d
+  shifted c d on same sh aside =
       let left : List Group = sh.left in
       let right : List Group = sh.right in
       let lower : lows ≡ all_below left ++ all_below right =
@@ -325,21 +309,22 @@ module _ (h : Height) (upper : Level) (shape : Shape) (levels later : List Level
       record {
         there = omega (arith, size, place);
         tells = subst (λ (bs : List (List ℕ)). Tells es shape (concat bs) d.tally) (sym there)
-            (tells_as (all_below right) (all_above right) d (by_case left right sh.groups sh.lower sh.next case) tells);
+            (tells_as (all_below right) (all_above right) d (by_case left right sh.groups sh.lower sh.next) tells);
       }
     where
       by_case : (left right : List Group) → ch.groups ≡ left ++ right → length (all_below left) ≡ c.at
-          → IsMetFromBelow right → (fs ≡ [] → ⊥) ⊎ (fs ≡ []) → (leaf : ℕ)
+          → IsMetFromBelow right → (leaf : ℕ)
           → headings es leaf (concat (all_below right)) ≡ headings es leaf (concat (all_above right))
-      by_case left right e q m (inr n) leaf = alike_between left right e n leaf
-      by_case left right e q m (inl n) leaf =
-          let none : right ≡ [] = all_fit left right e (ap length ch.below_is ∙ sym (clear n) ∙ sym q) m in
-          subst (λ (gs : List Group). headings es leaf (concat (all_below gs)) ≡ headings es leaf (concat
-          (all_above gs)))
-          (sym none) refl
+      by_case left [] e q m leaf = refl
+      by_case left (g ∷ gs) e q m leaf =
+          let z : AreNamed h.below.now (all_below left ++ all_below (g ∷ gs)) =
+          subst (AreNamed h.below.now) (ap all_below e ∙ below-append left (g ∷ gs)) low_named in
+          let x = next_marked h h.below.now c.at (all_below left) g gs q z m in
+          alike_behind left g gs e (subst (λ (s : Spot). AllByRecursion (LiesAside at s) fs) x.1
+          (recursion_from_All (LiesAside at (spot_at es at (mark_at h.below.now c.at))) fs (aside x.0))) leaf
 
   -- ---- what the level asks
-  pub at_level : length es < 2 ^ 32 → (c : Cursor) → StandsOn es shape up c → IsAtLevel h ms cs fs c
+  pub at_level : length es < 2 ^ 32 → (c : Cursors) → StandOn es shape up c → IsAtLevel h ms cs fs c
   at_level few c on = record {
     groups = ch.groups;
     are_groups = ch.are_groups;
@@ -375,7 +360,7 @@ module _ (h : Height) (upper : Level) (shape : Shape) (levels later : List Level
   }
 
   pub starts : (kept : Open) → kept.marks.items ≡ ms → kept.given.items ≡ s.kept.given.items
-      → StandsOn es shape up kept.cursor → HasComeTo (on_level h upper shape levels later s swept) [] 0 0 kept
+      → StandOn es shape up kept.cursors → HasComeTo (on_level h upper shape levels later s swept) [] 0 0 kept
   starts kept e g on = record {
     places = [];
     flat = [];
@@ -489,7 +474,7 @@ pub record IsOver (on : Onwards) (fs : List Flat) (new : Open) : Type 0 where
   pub kept : AreKept false new.marks.items (placed_above places)
   pub values : AreNewValued on.height.edges.now on.shape places
   pub edges : IsPermutation (on.given ++ rounded_edges (pieces_of (all_closed places))) new.given.items
-  pub stands : StandsOn on.height.edges.now on.shape (bundles_in on.height.front.now) new.cursor
+  pub stands : StandOn on.height.edges.now on.shape (bundles_in on.height.front.now) new.cursors
 
 pub over_by : (on : Onwards) (fs : List Flat) (new : Open) (n m : ℕ) → AreKept false on.height.below.now on.below
     → n ≡ length on.height.below.now → m ≡ length (bundles_in on.height.front.now)
@@ -586,8 +571,8 @@ module _ (h : Height) (upper : Level) (shape : Shape) (levels later : List Level
         (sym (ways_give_edges.more swept.closed (all_closed over.places))) over.edges);
     bundles = over.above ∙ ap bundles_in (sym ef);
     kept = subst (λ (k : Open). AreKept false k.marks.items (placed_above over.places)) (sym ek) over.kept;
-    cursor = subst (λ (k : Open). StandsOn h.edges.now shape (bundles_in t.front) k.cursor) (sym ek)
-        (subst (λ (f : Front). StandsOn h.edges.now shape (bundles_in f) new.cursor) (sym ef) over.stands);
+    cursors = subst (λ (k : Open). StandOn h.edges.now shape (bundles_in t.front) k.cursors) (sym ek)
+        (subst (λ (f : Front). StandOn h.edges.now shape (bundles_in f) new.cursors) (sym ef) over.stands);
     flats = subst (AreFlats h.edges.now) (sym el) swept.flats;
     passed = subst (λ (xs : List Flat). t.passed ≤ length xs) (sym el) o;
     flats_below = passed;
@@ -617,20 +602,6 @@ told_as edges l ms below above cs ch e = record {
   upper = ch.above_is;
 }
 
-pub empty_or_not : (fs : List Flat) → (fs ≡ [] → ⊥) ⊎ (fs ≡ [])
-empty_or_not [] = inr refl
-empty_or_not (f ∷ fs) = inl (λ e. absurd (omega (arith, ap length e)))
-
--- where there are flat edges, what holds where some are passed holds
-pub none_between : (fs : List Flat) (from to : ℕ) (all : List Flat) (i j : ℕ) → fs ≡ take (to - from) (drop from all)
-    → (from < to → i ≡ j) → (fs ≡ [] → ⊥) → i ≡ j
-none_between fs from to all i j e h n = elim (cases_lt from to) [
-  | inl o ↦ h o
-  | inr o ↦
-      let none : to - from ≡ 0 = omega (arith, o) in
-      absurd (n (e ∙ ap (λ (k : ℕ). take k (drop from all)) none))
-]
-
 module _ (h : Height) (upper : Level) (shape : Shape) (levels later : List Level) (s : Sweep) (cs : List Change)
     (swept : HasSwept h.edges.now shape levels (h.at.now ∷ (upper ∷ later)) s) (are : AreLevels h.edges.now levels)
     (leaves : AreLeavesBalanced h.edges.now) (next : AreNeighbours h.edges.now h.at.now upper)
@@ -640,38 +611,46 @@ module _ (h : Height) (upper : Level) (shape : Shape) (levels later : List Level
     (taken : AreTaken 0 cs ch.groups h.below.now kept.marks.items) (fs : List Flat)
     (flats : AreFlatsOn h.edges.now h.at.now fs) (few : length h.edges.now < 2 ^ 32)
     (given_is : kept.given.items ≡ s.kept.given.items)
-    (cursor : Cursor) (on_low : StandsOn h.edges.now shape (bundles_in s.front) cursor)
-    (tally_is : kept.cursor.tally ≡ cursor.tally) (place : IsShifted ch.groups cursor.at kept.cursor.at)
-    (clear : (fs ≡ [] → ⊥) → cursor.at ≡ length (bundles_in s.front)) where
-  on_front : StandsOn h.edges.now shape (bundles_in h.front.now) kept.cursor
-  on_front = shifted h upper shape levels later s cs swept are leaves next bundles ch below_is kept.marks.items taken
-      fs flats
-      cursor kept.cursor on_low tally_is place (empty_or_not fs) clear
+    (cursors : Cursors) (on_low : StandOn h.edges.now shape (bundles_in s.front) cursors)
+    (above : AreAbove ch.groups cursors kept.cursors)
+    (aside : (k : ℕ) (d : Cursor) → k < length cursors.all.items → (get_or cursors.all.items k d).at < length h.below.now
+    → All (LiesAside h.at.now (spot_at h.edges.now h.at.now (mark_at h.below.now (get_or cursors.all.items k d).at))) fs)
+  where
+    on_front : StandOn h.edges.now shape (bundles_in h.front.now) kept.cursors
+    on_front = record {
+      count = above.count ∙ on_low.count;
+      each = λ k d o.
+          let there : k < length cursors.all.items = let count = above.count in omega (arith, o, count) in
+          let moved = above.each k d d there in
+          shifted h upper shape levels later s cs swept are leaves next bundles ch below_is kept.marks.items taken fs flats
+          (get_or cursors.all.items k d) (get_or kept.cursors.all.items k d) (on_low.each k d there) moved.tally moved.place
+          (aside k d there);
+    }
 
-  pub climbs : IsAtLevel h kept.marks.items cs fs kept.cursor
-  climbs = at_level h upper shape levels later s cs swept are leaves next bundles ch below_is kept.marks.items taken fs
-      flats few kept.cursor on_front
+    pub climbs : IsAtLevel h kept.marks.items cs fs kept.cursors
+    climbs = at_level h upper shape levels later s cs swept are leaves next bundles ch below_is kept.marks.items taken fs
+        flats few kept.cursors on_front
 
-  pub climbed : ((w : IsAtLevel h kept.marks.items cs fs kept.cursor) (on : Onwards) → IsOf h on
-      → IsValuedAt on w.groups → HasComeTo on [] 0 0 kept → (spots : List Spot) × AreSpotsOf h fs spots
-      × HasComeTo on spots (length h.below.now) (length kept.marks.items) new) → (t : Sweep) → t.front ≡ h.front.now
-      → t.kept ≡ new → t.flats.items ≡ s.flats.items → t.passed ≤ length s.flats.items → ArePassedBelow upper t
-      → IsReadyFor h.edges.now upper t.front → IsBegunTo h.edges.now upper t.front
-      → HasSwept h.edges.now shape levels (upper ∷ later) t
-  unfolding climbs at_level
-  climbed pass t ef ek el o passed ready begun =
-      let on : Onwards = on_level h upper shape levels later s swept in
-      let start : HasComeTo on [] 0 0 kept = starts h upper shape levels later s cs swept are leaves next bundles ch
-      below_is kept.marks.items taken fs flats kept refl given_is on_front in
-      let valued : IsValuedAt on ch.groups = valued_level h upper shape levels later s cs swept are leaves next
-      bundles ch
-      below_is kept.marks.items taken fs flats in
-      let below : AreKept false h.below.now swept.front = kept_below h upper shape levels later s cs swept are leaves
-      next
-      bundles ch below_is kept.marks.items taken fs flats in
-      let r = pass climbs on (refl, below) valued start in
-      let size : length kept.marks.items ≡ length (bundles_in h.front.now) = named_size kept.marks.items
-      (bundles_in h.front.now) start.named in
-      lifted h upper shape levels later s swept are leaves next bundles fs new
-      (over_by on fs new (length h.below.now) (length kept.marks.items) below refl size flats r.0 r.1 r.2) t ef ek el o
-      passed ready begun
+    pub climbed : ((w : IsAtLevel h kept.marks.items cs fs kept.cursors) (on : Onwards) → IsOf h on
+        → IsValuedAt on w.groups → HasComeTo on [] 0 0 kept → (spots : List Spot) × AreSpotsOf h fs spots
+        × HasComeTo on spots (length h.below.now) (length kept.marks.items) new) → (t : Sweep) → t.front ≡ h.front.now
+        → t.kept ≡ new → t.flats.items ≡ s.flats.items → t.passed ≤ length s.flats.items → ArePassedBelow upper t
+        → IsReadyFor h.edges.now upper t.front → IsBegunTo h.edges.now upper t.front
+        → HasSwept h.edges.now shape levels (upper ∷ later) t
+    unfolding climbs at_level
+    climbed pass t ef ek el o passed ready begun =
+        let on : Onwards = on_level h upper shape levels later s swept in
+        let start : HasComeTo on [] 0 0 kept = starts h upper shape levels later s cs swept are leaves next bundles ch
+        below_is kept.marks.items taken fs flats kept refl given_is on_front in
+        let valued : IsValuedAt on ch.groups = valued_level h upper shape levels later s cs swept are leaves next
+        bundles ch
+        below_is kept.marks.items taken fs flats in
+        let below : AreKept false h.below.now swept.front = kept_below h upper shape levels later s cs swept are leaves
+        next
+        bundles ch below_is kept.marks.items taken fs flats in
+        let r = pass climbs on (refl, below) valued start in
+        let size : length kept.marks.items ≡ length (bundles_in h.front.now) = named_size kept.marks.items
+        (bundles_in h.front.now) start.named in
+        lifted h upper shape levels later s swept are leaves next bundles fs new
+        (over_by on fs new (length h.below.now) (length kept.marks.items) below refl size flats r.0 r.1 r.2) t ef ek el o
+        passed ready begun

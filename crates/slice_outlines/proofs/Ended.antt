@@ -50,7 +50,7 @@ use Rattle.slice_outlines.specs.declared.sweep.Sweep.{Sweep}
 use Rattle.slice_outlines.specs.Marks.{AreKept}
 use Rattle.slice_outlines.specs.Stops.{spots_in, mark_spots, flat_spots, AllPass, AreStopsOf}
 use Rattle.slice_outlines.specs.Flats.{IsFlatOf, LiesOn}
-use Rattle.slice_outlines.specs.Cursor.{StandsOn}
+use Rattle.slice_outlines.specs.Cursors.{StandOn}
 use Rattle.slice_outlines.specs.Heights.{Onwards, IsOf, IsNotRightOf, AreInOrder}
 use Rattle.slice_outlines.specs.Along.{HasComeOver, LeadTo}
 use Rattle.slice_outlines.specs.Stretch.{AreStopsAt, TellWays, stretch_spots}
@@ -200,16 +200,16 @@ module _ (h : Height) where
   are_ordered [] p a = tt
   are_ordered (b ∷ bs) p a = (one_ordered b bs p.0 p.1 a.0, are_ordered bs p.1 a.1)
 
--- ---- the last level
--- the marks below it meet it
-pub marks_all_pass : (es : List LeafEdge) (shape : Shape) (levels : List Level) (top : Level) (s : Sweep)
-    → HasSwept es shape levels (top ∷ []) s → AreLevels es levels → (ms : List Mark) → ms ≡ s.kept.marks.items
-    → AllPass es top ms
-marks_all_pass es shape levels top s swept are ms e =
+-- the marks below a level meet it
+pub marks_all_pass : (es : List LeafEdge) (shape : Shape) (levels : List Level) (top : Level) (later : List Level)
+    (s : Sweep) → HasSwept es shape levels (top ∷ later) s → AreLevels es levels → (ms : List Mark)
+    → ms ≡ s.kept.marks.items → AllPass es top ms
+marks_all_pass es shape levels top later s swept are ms e =
     all_pass es top ms (bundles_in s.front)
-    (subst (λ (us : List Mark). AreNamed us (bundles_in s.front)) (sym e) (swept_named es shape levels top [] s swept))
+    (subst (λ (us : List Mark). AreNamed us (bundles_in s.front)) (sym e) (swept_named es shape levels top later s
+    swept))
     (subst (AllByRecursion (HeadPasses es top)) swept.bundles
-    (front_heads es shape levels top [] are swept.front swept.below))
+    (front_heads es shape levels top later are swept.front swept.below))
 
 module _ (h : Height) (shape : Shape) (levels : List Level) (s : Sweep)
     (swept : HasSwept h.edges.now shape levels (h.at.now ∷ []) s) (are : AreLevels h.edges.now levels)
@@ -310,8 +310,8 @@ module _ (h : Height) (shape : Shape) (levels : List Level) (s : Sweep)
   last_kept = subst (λ (ms : List Mark). AreKept false ms swept.front) (sym below_is) swept.kept
 
   pub last_starts : (spots : List Spot) (kept : Open) → kept.marks.items ≡ [] → kept.given.items ≡ s.kept.given.items
-      → StandsOn h.edges.now shape [] kept.cursor
-      → HasComeOver on_last [] spots whole 0 0 None kept.marks.items kept.given.items kept.cursor
+      → StandOn h.edges.now shape [] kept.cursors
+      → HasComeOver on_last [] spots whole 0 0 None kept.marks.items kept.given.items kept.cursors
   last_starts spots kept e g on = record {
     places = [];
     flat = [];
@@ -330,7 +330,7 @@ module _ (h : Height) (shape : Shape) (levels : List Level) (s : Sweep)
         (sym (ap (λ (xs : List Edge). rounded_edges (pieces_of swept.closed) ++ xs) ways_give_edges.none
         ∙ append-nil (rounded_edges (pieces_of swept.closed))))
         (subst (IsPermutation (rounded_edges (pieces_of swept.closed))) (sym g) swept.given);
-    stands = subst (λ (bs : List (List ℕ)). StandsOn h.edges.now shape bs kept.cursor) (sym none) on;
+    stands = subst (λ (bs : List (List ℕ)). StandOn h.edges.now shape bs kept.cursors) (sym none) on;
   }
     where
       leads : (ss : List Spot) → LeadTo ss []
@@ -379,12 +379,12 @@ module _ (h : Height) (shape : Shape) (levels : List Level) (s : Sweep)
       × AreStopsOf (stretch_spots h kept.marks.items
       (record { below = 0; below_to = n; above = 0; above_to = 0 }) fs) spots
       × (HasComeOver on passed spots (record { below = 0; below_to = n; above = 0; above_to = 0 }) 0 0 None
-      kept.marks.items kept.given.items kept.cursor → (course : Option Course)
+      kept.marks.items kept.given.items kept.cursors → (course : Option Course)
       × HasComeOver on (passed ++ spots) [] (record { below = 0; below_to = n; above = 0; above_to = 0 }) n 0 course
-      new.marks.items new.given.items new.cursor)
+      new.marks.items new.given.items new.cursors)
 
   pub all_merged : (kept new : Open) (n : ℕ) (fs : List Flat) → n ≡ length h.below.now → fs ≡ lasts
-      → kept.marks.items ≡ [] → kept.given.items ≡ s.kept.given.items → StandsOn h.edges.now shape [] kept.cursor
+      → kept.marks.items ≡ [] → kept.given.items ≡ s.kept.given.items → StandOn h.edges.now shape [] kept.cursors
       → PassesAll kept new n fs → AreMergedEdges h.edges.now shape new.given.items
   all_merged kept new n fs en ef e g stands passes =
       let pass : PassesAll kept new (length h.below.now) lasts =
@@ -397,7 +397,7 @@ module _ (h : Height) (shape : Shape) (levels : List Level) (s : Sweep)
       let end = r.2 (last_starts r.0 kept e g stands) in
       let come : HasComeTo on_last r.0 (length h.below.now) 0 new = group_past on_last r.0 whole new
       (without_course on_last r.0 whole
-      (length h.below.now) 0 end.0 new.marks.items new.given.items new.cursor end.1) in
+      (length h.below.now) 0 end.0 new.marks.items new.given.items new.cursors end.1) in
       let spots : AreSpotsOf h lasts r.0 = record {
         rightwards = stops.rightwards;
         sound = of_stops (IsOneOf (spots_at h.edges.now h.at.now)) (stretch_spots h [] whole lasts) r.0

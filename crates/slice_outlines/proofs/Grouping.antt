@@ -15,11 +15,11 @@ use Rattle.slice_bool.specs.Pieces.{spot_on, IsSameAcross}
 use Rattle.slice_outlines.specs.declared.course.Course.{Course}
 use Rattle.slice_outlines.specs.declared.mark.Mark.{Mark}
 use Rattle.slice_outlines.specs.declared.run.Run.{Run}
-use Rattle.slice_outlines.specs.declared.cursor.Cursor.{Cursor}
+use Rattle.slice_outlines.specs.declared.cursors.Cursors.{Cursors}
 use Rattle.slice_outlines.specs.declared.height.Height.{Height}
 use Rattle.slice_outlines.specs.Marks.{AreThere, mark_at, no_mark, spot_at, left_of_first, AreKept, begun, begun_in, names_in}
 use Rattle.slice_outlines.specs.Stops.{AllPass}
-use Rattle.slice_outlines.specs.Cursor.{StandsOn}
+use Rattle.slice_outlines.specs.Cursors.{StandOn}
 use Rattle.slice_outlines.specs.Passing.{courses, or_none, start_of, ended_at}
 use Rattle.slice_outlines.specs.Heights.{Onwards, IsRunOf, IsGroupAt, IsNameOf, MeetAt, MeetAcross, KeepsMarks}
 use Rattle.slice_outlines.specs.Along.{value_over, HasComeOver}
@@ -144,10 +144,10 @@ value_end h run ms = by_test (nat_lt run.above_to run.above_to) (not_less run.ab
     by_test false e = refl
 
 module _ (on : Onwards) (passed : List Spot) (s : Spot) (run : Run) (old mid : List Mark) (given : List Edge)
-    (cursor : Cursor) (p : Pt) (kept : AreKept false on.height.below.now on.below) (keeps : KeepsMarks run old mid)
+    (cursors : Cursors) (p : Pt) (kept : AreKept false on.height.below.now on.below) (keeps : KeepsMarks run old mid)
     (r : IsRunOf on.height.below.now old run) (at : rounded (point_of s) ≡ p) (meet : MeetAt on.height old run p)
     (across : MeetAcross on.height old run s)
-    (come : HasComeOver on passed (s ∷ []) run run.below run.above None mid given cursor) where
+    (come : HasComeOver on passed (s ∷ []) run run.below run.above None mid given cursors) where
   abbrev v : Bool
   v = left_of_first (drop run.below_to on.height.below.now) false
 
@@ -159,7 +159,7 @@ module _ (on : Onwards) (passed : List Spot) (s : Spot) (run : Run) (old mid : L
 
   all_passed : HasComeOver on (passed ++ (s ∷ [])) [] run run.below_to run.above_to None
       (begun_in run.above run.above_to (start_of p ins (outs (value_over on.height run mid run.above_to))) mid)
-      (given ++ ended_at p ins (outs (value_over on.height run mid run.above_to))) cursor
+      (given ++ ended_at p ins (outs (value_over on.height run mid run.above_to))) cursors
   all_passed =
       let size = keeps.size in
       let to = r.above_to in
@@ -167,7 +167,7 @@ module _ (on : Onwards) (passed : List Spot) (s : Spot) (run : Run) (old mid : L
       let R : ℕ → Type 0 = λ k. IsSameAcross (spot_on (edge_at on.height.edges.now k) on.height.at.now) s in
       let lower : List Mark = take (run.below_to - run.below) (drop run.below on.height.below.now) in
       let upper : List Mark = take (run.above_to - run.above) (drop run.above old) in
-      stop_passed on passed s [] run run.below run.below_to run.above run.above_to None [] mid given cursor p
+      stop_passed on passed s [] run run.below run.below_to run.above run.above_to None [] mid given cursors p
       (record {
         below = kept;
         below_order = r.below;
@@ -187,23 +187,23 @@ module _ (on : Onwards) (passed : List Spot) (s : Spot) (run : Run) (old mid : L
   -- as the code passes it
   pub group_passed : (new : List Mark) (more : List Edge) (from : Pt) → from ≡ start_of p ins (outs v)
       → new ≡ begun_in run.above run.above_to from mid → more ≡ given ++ ended_at p ins (outs v)
-      → HasComeOver on (passed ++ (s ∷ [])) [] run run.below_to run.above_to None new more cursor
+      → HasComeOver on (passed ++ (s ∷ [])) [] run run.below_to run.above_to None new more cursors
   group_passed new more from f e g =
       let w = value_end on.height run mid in
       subst (λ (xs : List Edge). HasComeOver on (passed ++
-      (s ∷ [])) [] run run.below_to run.above_to None new xs cursor)
+      (s ∷ [])) [] run run.below_to run.above_to None new xs cursors)
       (sym (g ∙ ap (λ (b : Bool). given ++ ended_at p ins (outs b)) (sym w)))
       (subst (λ (xs : List Mark). HasComeOver on (passed ++ (s ∷ [])) [] run run.below_to run.above_to None xs
-      (given ++ ended_at p ins (outs (value_over on.height run mid run.above_to))) cursor)
+      (given ++ ended_at p ins (outs (value_over on.height run mid run.above_to))) cursors)
       (sym (e ∙ ap (λ (q : Pt). begun_in run.above run.above_to q mid)
       (f ∙ ap (λ (b : Bool). start_of p ins (outs b)) (sym w)))) all_passed)
 
--- another cursor
-pub other_cursor : (on : Onwards) (passed spots : List Spot) (run : Run) (n m : ℕ) (ms : List Mark)
-    (given : List Edge) (c d : Cursor)
-    → StandsOn on.height.edges.now on.shape (bundles_in on.height.front.now) d
+-- other cursors
+pub other_cursors : (on : Onwards) (passed spots : List Spot) (run : Run) (n m : ℕ) (ms : List Mark)
+    (given : List Edge) (c d : Cursors)
+    → StandOn on.height.edges.now on.shape (bundles_in on.height.front.now) d
     → HasComeOver on passed spots run n m None ms given c → HasComeOver on passed spots run n m None ms given d
-other_cursor on passed spots run n m ms given c d s h = record {
+other_cursors on passed spots run n m ms given c d s h = record {
   places = h.places;
   flat = h.flat;
   at = h.at;
@@ -222,10 +222,10 @@ other_cursor on passed spots run n m ms given c d s h = record {
 
 -- as the code finds it, of its height
 pub group_by : (on : Onwards) (h : Height) → on.height ≡ h → (passed : List Spot) (s : Spot) (run : Run)
-    (old mid new : List Mark) (given more : List Edge) (c d : Cursor) (p from : Pt) (right : Bool)
+    (old mid new : List Mark) (given more : List Edge) (c d : Cursors) (p from : Pt) (right : Bool)
     → AreKept false h.below.now on.below → KeepsMarks run old mid → IsRunOf h.below.now old run
     → rounded (point_of s) ≡ p → MeetAt h old run p → MeetAcross h old run s
-    → StandsOn h.edges.now on.shape (bundles_in h.front.now) d
+    → StandOn h.edges.now on.shape (bundles_in h.front.now) d
     → HasComeOver on passed (s ∷ []) run run.below run.above None mid given c
     → right ≡ left_of_first (drop run.below_to h.below.now) false
     → from ≡ start_of p (courses right (take (run.below_to - run.below) (drop run.below h.below.now)) ++ or_none None)
@@ -238,7 +238,7 @@ pub group_by : (on : Onwards) (h : Height) → on.height ≡ h → (passed : Lis
 group_by on h e passed s run old mid new given more c d p from right =
     subst (λ (x : Height). AreKept false x.below.now on.below → KeepsMarks run old mid → IsRunOf x.below.now old run
     → rounded (point_of s) ≡ p → MeetAt x old run p → MeetAcross x old run s
-    → StandsOn x.edges.now on.shape (bundles_in x.front.now) d
+    → StandOn x.edges.now on.shape (bundles_in x.front.now) d
     → HasComeOver on passed (s ∷ []) run run.below run.above None mid given c
     → right ≡ left_of_first (drop run.below_to x.below.now) false
     → from ≡ start_of p (courses right (take (run.below_to - run.below) (drop run.below x.below.now)) ++ or_none None)
@@ -251,7 +251,7 @@ group_by on h e passed s run old mid new given more c d p from right =
     (λ k keeps r at m a st come v f n g.
     let low : List Mark = take (run.below_to - run.below) (drop run.below on.height.below.now) in
     let up : List Mark = take (run.above_to - run.above) (drop run.above mid) in
-    other_cursor on (passed ++ (s ∷ [])) [] run run.below_to run.above_to new more c d st
+    other_cursors on (passed ++ (s ∷ [])) [] run run.below_to run.above_to new more c d st
     (group_passed on passed s run old mid given c p k keeps r at m a come new more from
     (f ∙ ap (λ (b : Bool). start_of p (courses b low ++ or_none None) (courses b up ++ or_none None)) v) n
     (g ∙ ap (λ (b : Bool). given ++ ended_at p (courses b low ++ or_none None) (courses b up ++ or_none None)) v)))

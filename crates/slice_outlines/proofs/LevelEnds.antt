@@ -28,7 +28,7 @@ use Rattle.slice_outlines.specs.Runs.{first}
 use Rattle.slice_outlines.specs.Marks.{AreThere}
 use Rattle.slice_outlines.specs.Stops.{AllPass}
 use Rattle.slice_outlines.specs.Flats.{IsFlatOf, AreJoined, StartsBehind}
-use Rattle.slice_outlines.specs.Cursor.{Stands}
+use Rattle.slice_outlines.specs.Cursors.{StandForSome}
 use Rattle.slice_outlines.specs.Along.{LieBetween}
 use Rattle.slice_sweep.specs.Front.{bundles_in}
 use Rattle.slice_outlines.specs.Heights.{Onwards, IsOf, IsRunOf, AreInOrder}
@@ -93,7 +93,7 @@ module _ (h : Height) where
       (passing_within coordinate_limit (edge_at h.edges.now k) h.at.now
       (h.within k no_edge (passes_there h.edges.now k h.at.now p.0)) h.at_within p.0)
 
-  groups_left : (gs : List Group) → AllByRecursion (IsPlaced h) gs
+  pub groups_left : (gs : List Group) → AllByRecursion (IsPlaced h) gs
       → AllByRecursion (λ g. IsLeft (far_left h.at.now) (at_group h g)) gs
   groups_left [] p = tt
   groups_left (g ∷ gs) p = (bundle_left (all_at g) p.0.met.some p.0.passes, groups_left gs p.1)
@@ -114,7 +114,7 @@ far_cut h gs p = record {
 }
 
 module _ (h : Height) (cs : List Change) (fs : List Flat) (old : Open)
-    (w : IsAtLevel h old.marks.items cs fs old.cursor) where
+    (w : IsAtLevel h old.marks.items cs fs old.cursors) where
   -- nothing is passed
   pub at_first : IsSoFar h cs fs old w 0 (record { count = 0; last = first }) old
   at_first = record {
@@ -241,7 +241,7 @@ there_by : (es : List LeafEdge) (l : Level) (ms : List Mark) → AllPass es l ms
 there_by es l ms p k d o = passes_there es (get_or ms k d).name l (p k d o)
 
 module _ (h : Height) (cs : List Change) (fs : List Flat) (old : Open)
-    (w : IsAtLevel h old.marks.items cs fs old.cursor) where
+    (w : IsAtLevel h old.marks.items cs fs old.cursors) where
   pub below_order : AreInOrder h h.below.now
   below_order = below_in_order h h.below.now w.groups w.named_below (all_placed h cs fs old w) (all_apart h cs fs old w)
 
@@ -265,5 +265,5 @@ module _ (h : Height) (cs : List Change) (fs : List Flat) (old : Open)
     now_size = named_size now.marks.items (all_above w.groups) (named_now h cs fs old w from p now f)
         ∙ ap length w.above
 
-    pub now_stands : Stands h.edges.now (bundles_in h.front.now) now.cursor
+    pub now_stands : StandForSome h.edges.now (bundles_in h.front.now) now.cursors
     now_stands = record { shape = w.stands.shape; on = f.stands w.stands.shape w.stands.on }

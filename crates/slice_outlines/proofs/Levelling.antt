@@ -23,7 +23,7 @@ use Rattle.slice_outlines.specs.declared.height.Open.{Open}
 use Rattle.slice_outlines.specs.declared.groups.Passed.{Passed}
 use Rattle.slice_outlines.specs.Above.{AreTaken}
 use Rattle.slice_outlines.specs.Marks.{names_in, IsNamed, AreKept}
-use Rattle.slice_outlines.specs.Cursor.{StaysOn}
+use Rattle.slice_outlines.specs.Cursors.{StayOn}
 use Rattle.slice_outlines.specs.Heights.{Onwards, IsOf, IsNotRightOf, IsBalancedBefore, IsCountOf}
 use Rattle.slice_outlines.specs.Ahead.{group_spots, between, AreBetween, AreStrandsAhead, HasComeTo, HasPassed}
 use Rattle.slice_outlines.specs.Level.{AreFlatsOn, IsAtLevel, IsValuedAt, AreSpotsOf}
@@ -165,7 +165,7 @@ pub record IsReached (on : Onwards) (h : Height) (n m : ℕ) (cut : Spot) (fb : 
   pub come : HasComeTo on spots n m now
 
 pub record IsSoFar (h : Height) (cs : List Change) (fs : List Flat) (old : Open)
-    (w : IsAtLevel h old.marks.items cs fs old.cursor) (from : ℕ) (p : Passed) (now : Open) : Type 0 where
+    (w : IsAtLevel h old.marks.items cs fs old.cursors) (from : ℕ) (p : Passed) (now : Open) : Type 0 where
   pub left : List Group
   pub right : List Group
   pub groups : w.groups ≡ left ++ right
@@ -177,7 +177,7 @@ pub record IsSoFar (h : Height) (cs : List Change) (fs : List Flat) (old : Open)
   pub alike : length (all_below left) + p.last.above_to ≡ length (all_above left) + p.last.below_to
   pub names : names_in now.marks.items ≡ names_in old.marks.items
   pub count : IsCountOf cs p
-  pub stands : StaysOn h.edges.now (bundles_in h.front.now) old.cursor now.cursor
+  pub stands : StayOn h.edges.now (bundles_in h.front.now) old.cursors now.cursors
   pub cut : Spot
   pub is_cut : IsCutAt h (take from fs) (drop from fs) left right cut
   pub come : (on : Onwards) → IsOf h on → IsValuedAt on w.groups → HasComeTo on [] 0 0 old
@@ -237,7 +237,7 @@ beside_as on h e gs left right fb fa s v =
     (λ kept above flats q p r c. balanced_at on gs v kept above fb fa flats left right s q p r c)
 
 module _ (h : Height) (cs : List Change) (fs : List Flat) (old : Open)
-    (w : IsAtLevel h old.marks.items cs fs old.cursor) where
+    (w : IsAtLevel h old.marks.items cs fs old.cursors) where
   abbrev es : List LeafEdge
   es = h.edges.now
 

@@ -4,6 +4,7 @@ mod Ending
 mod EndPoints
 mod Tallying
 mod Standing
+mod Several
 mod Joining
 mod Stopping
 mod Shifting
@@ -36,6 +37,7 @@ mod StretchWays
 mod Levelling
 mod Stretching
 mod LevelEnds
+mod Asides
 mod FlatsOn
 mod Advancing
 mod Ended

@@ -27,7 +27,7 @@ use Rattle.slice_outlines.specs.declared.course.Course.{Course}
 use Rattle.slice_outlines.specs.declared.mark.Mark.{Mark}
 use Rattle.slice_outlines.specs.declared.run.Run.{Run}
 use Rattle.slice_outlines.specs.declared.flat.Flat.{Flat}
-use Rattle.slice_outlines.specs.declared.cursor.Cursor.{Cursor}
+use Rattle.slice_outlines.specs.declared.cursors.Cursors.{Cursors}
 use Rattle.slice_outlines.specs.declared.height.Height.{Height}
 use Rattle.slice_outlines.specs.declared.passing.Beside.{Beside}
 use Rattle.slice_outlines.specs.declared.stretch.Along.{Along}
@@ -408,9 +408,9 @@ pub record IsStop (on : Onwards) (s : Spot) (ts : List Spot) (run : Run) (i j n 
       (left_of_first (drop j on.height.below.now) false)
 
 module _ (on : Onwards) (passed : List Spot) (s : Spot) (ts : List Spot) (run : Run) (i j n m : ℕ)
-    (course : Option Course) (live : List Flat) (marks : List Mark) (given : List Edge) (cursor : Cursor) (p : Pt)
+    (course : Option Course) (live : List Flat) (marks : List Mark) (given : List Edge) (cursors : Cursors) (p : Pt)
     (stop : IsStop on s ts run i j n m live marks p)
-    (come : HasComeOver on passed (s ∷ ts) run i n course marks given cursor) where
+    (come : HasComeOver on passed (s ∷ ts) run i n course marks given cursors) where
   pub stop_passed : HasComeOver on (passed ++ (s ∷ [])) ts run j m
       (begun_at (start_of p (courses (left_of_first (drop j on.height.below.now) false)
       (take (j - i) (drop i on.height.below.now)) ++ or_none course)
@@ -428,7 +428,7 @@ module _ (on : Onwards) (passed : List Spot) (s : Spot) (ts : List Spot) (run : 
       (take (j - i) (drop i on.height.below.now)) ++ or_none course)
       (courses (value_over on.height run marks m) (take (m - n) (drop n marks))
       ++ or_none (course_along (least live) (value_over on.height run marks m)
-      (left_of_first (drop j on.height.below.now) false) p))) cursor
+      (left_of_first (drop j on.height.below.now) false) p))) cursors
   stop_passed =
       let h : Height = on.height in
       let es : List LeafEdge = h.edges.now in
@@ -574,11 +574,11 @@ pub record IsRunPassed (h : Height) (below : List Strand) (s : Spot) (later : Li
       (left_of_first (drop run.below_to h.below.now) false)
 
 module _ (on : Onwards) (passed : List Spot) (s : Spot) (later : List Spot) (a : Along) (run : Run) (b : Beside)
-    (marks : List Mark) (given : List Edge) (cursor : Cursor) (from : Pt) (edges : List Edge)
-    (come : HasComeOver on passed (s ∷ later) a.run a.below a.above a.flat marks given cursor) where
+    (marks : List Mark) (given : List Edge) (cursors : Cursors) (from : Pt) (edges : List Edge)
+    (come : HasComeOver on passed (s ∷ later) a.run a.below a.above a.flat marks given cursors) where
   abbrev Gone : Type 0
   Gone = HasComeOver on (passed ++ (s ∷ [])) later a.run run.below_to run.above_to (begun_at from b.flat_out)
-      (begun_in run.above run.above_to from marks) edges cursor
+      (begun_in run.above run.above_to from marks) edges cursors
 
   here : IsRunPassed on.height on.below s later a run b marks given from edges → Gone
   here r =
@@ -593,13 +593,13 @@ module _ (on : Onwards) (passed : List Spot) (s : Spot) (later : List Spot) (a :
       let A : Mark → Type 0 = λ m. IsSameAcross (spot_at h.edges.now h.at.now m) s in
       let lows : List Mark = take (run.below_to - run.below) (drop run.below h.below.now) in
       let ups : List Mark = take (run.above_to - run.above) (drop run.above marks) in
-      let old : HasComeOver on passed (s ∷ later) a.run run.below run.above a.flat marks given cursor =
-      subst (λ (i : ℕ). HasComeOver on passed (s ∷ later) a.run i run.above a.flat marks given cursor)
+      let old : HasComeOver on passed (s ∷ later) a.run run.below run.above a.flat marks given cursors =
+      subst (λ (i : ℕ). HasComeOver on passed (s ∷ later) a.run i run.above a.flat marks given cursors)
       (sym r.from_below)
-      (subst (λ (n : ℕ). HasComeOver on passed (s ∷ later) a.run a.below n a.flat marks given cursor)
+      (subst (λ (n : ℕ). HasComeOver on passed (s ∷ later) a.run a.below n a.flat marks given cursors)
       (sym r.from_above) come) in
       let new = stop_passed on passed s later a.run run.below run.below_to run.above run.above_to a.flat a.live.items
-      marks given cursor p (record {
+      marks given cursors p (record {
         below = r.kept;
         below_order = r.run_of.below;
         above_order = r.run_of.above;
@@ -617,29 +617,29 @@ module _ (on : Onwards) (passed : List Spot) (s : Spot) (later : List Spot) (a :
       let all : edges ≡ given ++ ended_at p (ins_in h.below.now run c) (outs_in marks run c) = r.ended
       ∙ ap (λ (d : Beside). given ++ ended_at d.at (ins_in h.below.now run d) (outs_in marks run d)) same in
       subst (λ (es : List Edge). HasComeOver on (passed ++ (s ∷ [])) later a.run run.below_to run.above_to
-      (begun_at from b.flat_out) (begun_in run.above run.above_to from marks) es cursor) (sym all)
+      (begun_at from b.flat_out) (begun_in run.above run.above_to from marks) es cursors) (sym all)
       (subst (λ (o : Option Course). HasComeOver on (passed ++ (s ∷ [])) later a.run run.below_to run.above_to
       (begun_at from o) (begun_in run.above run.above_to from marks)
-      (given ++ ended_at p (ins_in h.below.now run c) (outs_in marks run c)) cursor) (sym r.flat_out)
+      (given ++ ended_at p (ins_in h.below.now run c) (outs_in marks run c)) cursors) (sym r.flat_out)
       (subst (λ (q : Pt). HasComeOver on (passed ++ (s ∷ [])) later a.run run.below_to run.above_to (begun_at q out)
       (begun_in run.above run.above_to q marks)
-      (given ++ ended_at p (ins_in h.below.now run c) (outs_in marks run c)) cursor) (sym start) new))
+      (given ++ ended_at p (ins_in h.below.now run c) (outs_in marks run c)) cursors) (sym start) new))
 
   pub run_passed : (h : Height) → on.height ≡ h → IsRunPassed h on.below s later a run b marks given from edges → Gone
   run_passed h e = subst (λ (g : Height). IsRunPassed g on.below s later a run b marks given from edges → Gone) e here
 
 -- with other names for what is equal
 pub come_as : (on : Onwards) (passed later : List Spot) (run run' : Run) (n n' m m' : ℕ) (c c' : Option Course)
-    (ms ms' : List Mark) (es es' : List Edge) (cursor : Cursor) → run ≡ run' → n ≡ n' → m ≡ m' → c ≡ c' → ms ≡ ms'
-    → es ≡ es' → HasComeOver on passed later run n m c ms es cursor
-    → HasComeOver on passed later run' n' m' c' ms' es' cursor
-come_as on passed later run run' n n' m m' c c' ms ms' es es' cursor a b d e f g h =
-    subst (λ (r : Run). HasComeOver on passed later r n' m' c' ms' es' cursor) a
-    (subst (λ (k : ℕ). HasComeOver on passed later run k m' c' ms' es' cursor) b
-    (subst (λ (k : ℕ). HasComeOver on passed later run n k c' ms' es' cursor) d
-    (subst (λ (o : Option Course). HasComeOver on passed later run n m o ms' es' cursor) e
-    (subst (λ (xs : List Mark). HasComeOver on passed later run n m c xs es' cursor) f
-    (subst (λ (xs : List Edge). HasComeOver on passed later run n m c ms xs cursor) g h)))))
+    (ms ms' : List Mark) (es es' : List Edge) (cursors : Cursors) → run ≡ run' → n ≡ n' → m ≡ m' → c ≡ c' → ms ≡ ms'
+    → es ≡ es' → HasComeOver on passed later run n m c ms es cursors
+    → HasComeOver on passed later run' n' m' c' ms' es' cursors
+come_as on passed later run run' n n' m m' c c' ms ms' es es' cursors a b d e f g h =
+    subst (λ (r : Run). HasComeOver on passed later r n' m' c' ms' es' cursors) a
+    (subst (λ (k : ℕ). HasComeOver on passed later run k m' c' ms' es' cursors) b
+    (subst (λ (k : ℕ). HasComeOver on passed later run n k c' ms' es' cursors) d
+    (subst (λ (o : Option Course). HasComeOver on passed later run n m o ms' es' cursors) e
+    (subst (λ (xs : List Mark). HasComeOver on passed later run n m c xs es' cursors) f
+    (subst (λ (xs : List Edge). HasComeOver on passed later run n m c ms xs cursors) g h)))))
 
 pub name_as : (es : List LeafEdge) (s : Spot) (later : List Spot) (f f' : List Flat) (a a' b b' : Bool) → f ≡ f'
     → a ≡ a'

@@ -21,12 +21,12 @@ use Rattle.sweep_laws.specs.Crossing.{ArePassed, all_above as placed_above}
 use Rattle.sweep_laws.specs.Staying.{spot_of}
 use Rattle.slice_outlines.specs.declared.mark.Mark.{Mark}
 use Rattle.slice_outlines.specs.declared.run.Run.{Run}
-use Rattle.slice_outlines.specs.declared.cursor.Cursor.{Cursor}
+use Rattle.slice_outlines.specs.declared.cursors.Cursors.{Cursors}
 use Rattle.slice_outlines.specs.declared.height.Height.{Height}
 use Rattle.slice_outlines.specs.declared.height.Open.{Open}
 use Rattle.slice_outlines.specs.declared.groups.Passed.{Passed}
 use Rattle.slice_outlines.specs.Runs.{after}
-use Rattle.slice_outlines.specs.Cursor.{StandsOn, StaysOn}
+use Rattle.slice_outlines.specs.Cursors.{StandOn, StayOn}
 use Rattle.winding_laws.specs.Edges.{rounded}
 use Rattle.slice_snap.specs.Spots.{point_of}
 use Rattle.slice_outlines.specs.Marks.{mark_at, no_mark, spot_at, names_in, left_of_first, IsNamed, IsKept, AreKept}
@@ -244,7 +244,7 @@ named_as (m ∷ ms) (n ∷ ns) (b ∷ bs) s h z = (
 )
 
 turned : (on : Onwards) (passed spots : List Spot) (run next : Run) (n m : ℕ) (ms ns : List Mark)
-    (given : List Edge) (c : Cursor) → value_over on.height next ns m ≡ value_over on.height run ms m
+    (given : List Edge) (c : Cursors) → value_over on.height next ns m ≡ value_over on.height run ms m
     → take m ns ≡ take m ms → length ns ≡ length ms → ((i : ℕ) → (mark_at ns i).name ≡ (mark_at ms i).name)
     → AreValuedTo on.height on.shape next.above_to ns
     → HasComeOver on passed [] run n m None ms given c → HasComeOver on passed spots next n m None ns given c
@@ -339,9 +339,9 @@ module _ (on : Onwards) (o : Open) (kept : AreKept false on.height.below.now on.
             let right : value_over on.height run ms (m + 1) ≡ value_before ts false =
             value_end on.height run ms ∙ ap (λ (xs : List Mark). left_of_first xs false) low
             ∙ first_kept false lower ts a.1 in
-            turned on (passed ++ (s ∷ [])) [] run (between (n + 1) (m + 1)) (n + 1) (m + 1) ms ms o.given.items o.cursor
+            turned on (passed ++ (s ∷ [])) [] run (between (n + 1) (m + 1)) (n + 1) (m + 1) ms ms o.given.items o.cursors
             (left_here on.height (n + 1) (m + 1) ms ∙ sym (value_end on.height run ms)) refl refl (λ i. refl) valued
-            (stay_passed on passed s run n m ms o.given.items o.cursor t (record {
+            (stay_passed on passed s run n m ms o.given.items o.cursors t (record {
               at = ap (spot_of on.height.edges.now on.height.at.now) name;
               lower = d ∙ ap (λ (us : List Strand). t ∷ us) (sym later);
               upper = k ∙ ap₂ (λ (c : List ℕ) (ds : List (List ℕ)). c ∷ ds) (sym name) (sym (tail_of bundles m b cs k));
@@ -350,7 +350,7 @@ module _ (on : Onwards) (o : Open) (kept : AreKept false on.height.below.now on.
               there = there_of ms m x upper f;
               to = omega arith;
               value = right ∙ ap (λ (us : List Strand). value_before us false) (sym later);
-            }) (turned on passed (s ∷ []) (between n m) run n m ms ms o.given.items o.cursor here refl refl (λ i. refl)
+            }) (turned on passed (s ∷ []) (between n m) run n m ms ms o.given.items o.cursors here refl refl (λ i. refl)
             valued come))
 
   -- all that stay
@@ -412,7 +412,7 @@ pub part_reached : (on : Onwards) (passed spots : List Spot) (r : Run) (o : Open
     → IsBalancedBefore on.height on.shape (between r.below_to r.above_to) → HasComeTo on passed r.below r.above o
     → HasReachedStops on passed spots r o
 part_reached on passed spots r o a before behind come = λ ns keeps valued.
-    turned on passed spots (between r.below r.above) r r.below r.above o.marks.items ns o.given.items o.cursor
+    turned on passed spots (between r.below r.above) r r.below r.above o.marks.items ns o.given.items o.cursors
     (group_left on.height on.shape r ns a before behind valued
     ∙ sym (left_here on.height r.below r.above o.marks.items))
     keeps.left keeps.size keeps.names (λ i to. elim (cases_lt i r.above) [
@@ -431,12 +431,12 @@ pub group_reached : (on : Onwards) (passed : List Spot) (s : Spot) (r : Run) (o 
 group_reached on passed s r o a before behind come = part_reached on passed (s ∷ []) r o a before behind come
 
 pub group_past : (on : Onwards) (passed : List Spot) (r : Run) (o : Open)
-    → HasComeOver on passed [] r r.below_to r.above_to None o.marks.items o.given.items o.cursor
+    → HasComeOver on passed [] r r.below_to r.above_to None o.marks.items o.given.items o.cursors
     → HasComeTo on passed r.below_to r.above_to o
 group_past on passed r o come =
     turned on passed [] r (between r.below_to r.above_to) r.below_to r.above_to o.marks.items o.marks.items
     o.given.items
-    o.cursor (left_here on.height r.below_to r.above_to o.marks.items ∙ sym (value_end on.height r o.marks.items)) refl
+    o.cursors (left_here on.height r.below_to r.above_to o.marks.items ∙ sym (value_end on.height r o.marks.items)) refl
     refl (λ i. refl) come.valued come
 
 -- ---- names of marks
@@ -786,7 +786,7 @@ pub record IsPast (h : Height) (cs : List Change) (limit : Run) (old : Open) (st
   pub rest : ahead.rest ≡ w.rest
   pub names : names_in now.marks.items ≡ names_in old.marks.items
   pub right : drop limit.above now.marks.items ≡ drop limit.above old.marks.items
-  pub stands : StaysOn h.edges.now (bundles_in h.front.now) old.cursor now.cursor
+  pub stands : StayOn h.edges.now (bundles_in h.front.now) old.cursors now.cursors
   pub count : IsCountOf cs p
   pub come : (on : Onwards) (before : List Spot) → IsOf h on → AreStrandsAhead on w.below w.above w.groups
       → HasComeTo on before w.below w.above old → (done : List Spot)
@@ -810,8 +810,8 @@ abbrev pub Passes : Height → Run → Open → Open → Type 0
 Passes h r now new = (on : Onwards) (passed : List Spot) (s : Spot) → IsOf h on
     → MeetAt h now.marks.items r (rounded (point_of s)) → MeetAcross h now.marks.items r s
     → IsBalancedBefore h on.shape r
-    → StandsOn h.edges.now on.shape (bundles_in h.front.now) now.cursor → HasReached on passed s r now
-    → HasComeOver on (passed ++ s ∷ []) [] r r.below_to r.above_to None new.marks.items new.given.items new.cursor
+    → StandOn h.edges.now on.shape (bundles_in h.front.now) now.cursors → HasReached on passed s r now
+    → HasComeOver on (passed ++ s ∷ []) [] r r.below_to r.above_to None new.marks.items new.given.items new.cursors
 
 module _ (h : Height) (cs : List Change) (limit : Run) (old : Open) (start : Passed)
     (w : AreBetween h old.marks.items cs start limit) (p : Passed) (now : Open)
@@ -825,7 +825,7 @@ module _ (h : Height) (cs : List Change) (limit : Run) (old : Open) (start : Pas
   pub past_more : (x : NextChanges h b.rest b.above (drop p.count cs) b.groups (drop b.below h.below.now)
       (drop b.above now.marks.items)) (r : Run) → r ≡ after p.last x.change → (new : Open) → (q : Passed)
       → q.last ≡ r → x.later ≡ drop q.count cs → IsCountOf cs q → KeepsRight r now.marks.items new.marks.items
-      → StaysOn h.edges.now (bundles_in h.front.now) now.cursor new.cursor → Passes h r now new
+      → StayOn h.edges.now (bundles_in h.front.now) now.cursors new.cursors → Passes h r now new
       → IsPast h cs limit old start w q new
   unfolding between_past
   past_more x r is new q last later count keeps stands passes =
@@ -862,11 +862,11 @@ module _ (h : Height) (cs : List Change) (limit : Run) (old : Open) (start : Pas
             let s : Spot = first_spot es h.at.now (all_at x.group) in
             let us : List Spot = map (spot_of es h.at.now) x.bundles in
             let passed : HasComeOver on ((done ++ us) ++ s ∷ []) [] r r.below_to r.above_to None new.marks.items
-            new.given.items new.cursor =
+            new.given.items new.cursors =
             passes on (done ++ us) s of (group_meets h now.marks.items cs p limit b x r is)
             (group_across h now.marks.items cs p limit b x r is)
             (subst (λ (y : Height). IsBalancedBefore y on.shape r) of.0 next.balanced)
-            (subst (λ (y : Height). StandsOn y.edges.now on.shape (bundles_in y.front.now) now.cursor) of.0
+            (subst (λ (y : Height). StandOn y.edges.now on.shape (bundles_in y.front.now) now.cursors) of.0
             here.3.stands)
             (subst (λ (y : Height). HasReached on (done ++ map (spot_of y.edges.now y.at.now) x.bundles)
             (first_spot y.edges.now y.at.now (all_at x.group)) r now) of.0 next.reached) in

@@ -20,7 +20,7 @@ use Rattle.sweep_laws.specs.Crossing.{Place, all_below, all_above, all_closed, w
 use Rattle.sweep_laws.specs.Staying.{spot_of, staying}
 use Rattle.slice_outlines.specs.declared.mark.Mark.{Mark}
 use Rattle.slice_outlines.specs.declared.run.Run.{Run}
-use Rattle.slice_outlines.specs.declared.cursor.Cursor.{Cursor}
+use Rattle.slice_outlines.specs.declared.cursors.Cursors.{Cursors}
 use Rattle.slice_outlines.specs.declared.height.Height.{Height}
 use Rattle.slice_outlines.specs.Marks.{mark_at, no_mark, left_of_first, IsNamed, IsKept, AreKept}
 use Rattle.slice_outlines.specs.Passing.{IsCourseOf}
@@ -137,7 +137,7 @@ meets_own es l k [] n = absurd n
 meets_own es l k (j ∷ js) n = refl
 
 pub stay_passed : (on : Onwards) (passed : List Spot) (s : Spot) (run : Run) (n m : ℕ) (ms : List Mark)
-    (given : List Edge) (c : Cursor) (t : Strand) → Stays on s run n m ms t
+    (given : List Edge) (c : Cursors) (t : Strand) → Stays on s run n m ms t
     → HasComeOver on passed (s ∷ []) run n m None ms given c
     → HasComeOver on (passed ++ (s ∷ [])) [] run (n + 1) (m + 1) None ms given c
 stay_passed on passed s run n m ms given c t h come =

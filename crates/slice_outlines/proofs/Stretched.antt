@@ -20,7 +20,7 @@ use Rattle.sweep_laws.specs.Crossing.{all_closed}
 use Rattle.slice_bool.specs.Pieces.{spot_on, whole_spot, passes_at, HasSpot}
 use Rattle.slice_bool.proofs.Winding.{of_stops}
 use Rattle.slice_outlines.specs.declared.course.Course.{Course}
-use Rattle.slice_outlines.specs.declared.cursor.Cursor.{Cursor}
+use Rattle.slice_outlines.specs.declared.cursors.Cursors.{Cursors}
 use Rattle.slice_outlines.specs.declared.mark.Mark.{Mark}
 use Rattle.slice_outlines.specs.declared.run.Run.{Run}
 use Rattle.slice_outlines.specs.declared.spot.Stop.{Stop}
@@ -28,7 +28,7 @@ use Rattle.slice_outlines.specs.declared.flat.Flat.{Flat}
 use Rattle.slice_outlines.specs.declared.height.Height.{Height}
 use Rattle.slice_outlines.specs.Marks.{spot_at, names_in}
 use Rattle.slice_outlines.specs.Stops.{spots_in, mark_spots, flat_spots, AllPass, AreStopsOf}
-use Rattle.slice_outlines.specs.Cursor.{StandsOn}
+use Rattle.slice_outlines.specs.Cursors.{StandOn}
 use Rattle.slice_outlines.specs.Along.{HasComeOver}
 use Rattle.slice_outlines.specs.Heights.{Onwards, IsRunOf, marks_of}
 use Rattle.slice_outlines.specs.Stretch.{AreStopsAt, stretch_spots}
@@ -159,13 +159,13 @@ same_stretch h ms ns run fs e =
     (drop run.above ns))
     (part_names ms ns run.above (run.above_to - run.above) e))
 
--- with another cursor that stands there, and the same edges
-pub with_cursor : (on : Onwards) (passed spots : List Spot) (run : Run) (n m : ℕ) (course : Option Course)
+-- with other cursors that stand there, and the same edges
+pub with_cursors : (on : Onwards) (passed spots : List Spot) (run : Run) (n m : ℕ) (course : Option Course)
     (ms : List Mark)
-    (given given' : List Edge) (c d : Cursor) → given' ≡ given
-    → StandsOn on.height.edges.now on.shape (bundles_in on.height.front.now) d
+    (given given' : List Edge) (c d : Cursors) → given' ≡ given
+    → StandOn on.height.edges.now on.shape (bundles_in on.height.front.now) d
     → HasComeOver on passed spots run n m course ms given c → HasComeOver on passed spots run n m course ms given' d
-with_cursor on passed spots run n m course ms given given' c d e s h = record {
+with_cursors on passed spots run n m course ms given given' c d e s h = record {
   places = h.places;
   flat = h.flat;
   at = h.at;

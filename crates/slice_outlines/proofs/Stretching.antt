@@ -24,7 +24,7 @@ use Rattle.slice_sweep.specs.Changes.{Group, all_below, all_above}
 use Rattle.slice_sweep.specs.Front.{bundles_in}
 use Rattle.sweep_laws.specs.Ways.{Way}
 use Rattle.slice_outlines.specs.declared.course.Course.{Course}
-use Rattle.slice_outlines.specs.declared.cursor.Cursor.{Cursor}
+use Rattle.slice_outlines.specs.declared.cursors.Cursors.{Cursors}
 use Rattle.slice_outlines.specs.declared.mark.Mark.{Mark}
 use Rattle.slice_outlines.specs.declared.flat.Flat.{Flat}
 use Rattle.slice_outlines.specs.declared.run.Run.{Run}
@@ -33,7 +33,7 @@ use Rattle.slice_outlines.specs.declared.height.Height.{Height}
 use Rattle.slice_outlines.specs.declared.height.Open.{Open}
 use Rattle.slice_outlines.specs.declared.groups.Passed.{Passed}
 use Rattle.slice_outlines.specs.Marks.{spot_at, names_in}
-use Rattle.slice_outlines.specs.Cursor.{StandsOn, StaysOn}
+use Rattle.slice_outlines.specs.Cursors.{StandOn, StayOn}
 use Rattle.slice_outlines.specs.Flats.{IsFlatOf, LiesOn, AreJoined, JoinOn, StartsBehind}
 use Rattle.slice_outlines.specs.Passing.{IsCourseOf, or_none}
 use Rattle.slice_outlines.specs.Stops.{spots_in, AllPass, AreStopsOf}
@@ -90,7 +90,7 @@ pub joined_by : (right : ℤ) (fs : List Flat) → AreJoined fs right → AllByR
 joined_by right [] j = tt
 joined_by right (f ∷ fs) j = let r = join_most f.right right fs j in (r.0, r.1)
 
-whole_by : (l : Level) (a b : ℤ) → pos 0 <ℤ l.d → a ≤ℤ b → IsNotRightOf (whole_spot a l) (whole_spot b l)
+pub whole_by : (l : Level) (a b : ℤ) → pos 0 <ℤ l.d → a ≤ℤ b → IsNotRightOf (whole_spot a l) (whole_spot b l)
 whole_by l a b d o =
     let less : (a *ℤ l.d) ≤ℤ (b *ℤ l.d) = scaled_order a b l.d o d in
     omega (arith, ints, less)
@@ -244,10 +244,10 @@ no_course ws None e z = refl
 no_course ws (Some c) e z = absurd (subst (λ (vs : List Way). AllZip IsCourseOf vs (c ∷ [])) e z)
 
 pub without_course : (on : Onwards) (passed : List Spot) (run : Run) (n m : ℕ) (c : Option Course) (ms : List Mark)
-    (given : List Edge) (cursor : Cursor) → HasComeOver on passed [] run n m c ms given cursor
-    → HasComeOver on passed [] run n m None ms given cursor
-without_course on passed run n m c ms given cursor come =
-    subst (λ (d : Option Course). HasComeOver on passed [] run n m d ms given cursor)
+    (given : List Edge) (cursors : Cursors) → HasComeOver on passed [] run n m c ms given cursors
+    → HasComeOver on passed [] run n m None ms given cursors
+without_course on passed run n m c ms given cursors come =
+    subst (λ (d : Option Course). HasComeOver on passed [] run n m d ms given cursors)
     (no_course come.flat c come.leads come.along) come
 
 all_at_marks : (es : List LeafEdge) (l : Level) (ms : List Mark)
@@ -263,7 +263,7 @@ marks_at h ms p = all_at_marks h.edges.now h.at.now ms
     (recursion_from_All (λ m. passes_at (edge_at h.edges.now m.name) h.at.now ≡ true) ms p)
 
 module _ (h : Height) (cs : List Change) (fs : List Flat) (old : Open)
-    (w : IsAtLevel h old.marks.items cs fs old.cursor) (from to : ℕ) (first : Flat) (right : ℤ) (run : Run)
+    (w : IsAtLevel h old.marks.items cs fs old.cursors) (from to : ℕ) (first : Flat) (right : ℤ) (run : Run)
     (ms : List Mark) (st : IsStretch h fs from to first right run ms) (pm : AllPass h.edges.now h.at.now ms) where
   abbrev es : List LeafEdge
   es = h.edges.now
@@ -547,13 +547,13 @@ module _ (h : Height) (cs : List Change) (fs : List Flat) (old : Open)
     -- as the code passes it
     abbrev pub PassesStretch : Open → Type 0
     PassesStretch new = (on : Onwards) (passed : List Spot) → IsOf h on → IsBalancedBefore h on.shape run
-        → StandsOn es on.shape (bundles_in h.front.now) mid.cursor
+        → StandOn es on.shape (bundles_in h.front.now) mid.cursors
         → ((stops : List Stop) → AreStopsAt h stops
         → AreStopsOf (stretch_spots h mid.marks.items run fl) (spots_in stops) → TellWays es fl stops)
         → (spots : List Spot) × AreStopsOf (stretch_spots h mid.marks.items run fl) spots
         × (HasReachedStops on passed spots run mid → (course : Option Course)
         × HasComeOver on (passed ++ spots) [] run run.below_to run.above_to course new.marks.items new.given.items
-        new.cursor)
+        new.cursors)
 
     come_past : (new : Open) → PassesStretch new → (on : Onwards) → IsOf h on → IsValuedAt on w.groups
         → HasComeTo on [] 0 0 old → IsReached on h run.below_to run.above_to B (take to fs) new
@@ -580,17 +580,17 @@ module _ (h : Height) (cs : List Change) (fs : List Flat) (old : Open)
         ∙ sym (append_assoc f.left t.xs t.ys))
         (all_append (IsPlaced h) f.left t.xs (placed_left h cs fs old w from p mid f)
         (met_xs h cs fs old w from p mid f end t)) (met_ys h cs fs old w from p mid f end t) new_cut)) in
-        let stand : StandsOn es on.shape (bundles_in h.front.now) mid.cursor = f.stands on.shape
-        (subst (λ (y : Height). StandsOn y.edges.now on.shape (bundles_in y.front.now) old.cursor) of.0 start.stands) in
+        let stand : StandOn es on.shape (bundles_in h.front.now) mid.cursors = f.stands on.shape
+        (subst (λ (y : Height). StandOn y.edges.now on.shape (bundles_in y.front.now) old.cursors) of.0 start.stands) in
         let e = passes on r.spots of (subst (λ (y : Height). IsBalancedBefore y on.shape run) of.0 one) stand tells in
         let over = e.2 (part_reached on r.spots e.0 run mid st.run_of.above one two here) in
         more_spots on new n m r e.0 e.1 (group_past on (r.spots ++ e.0) run new
         (without_course on (r.spots ++ e.0) run run.below_to run.above_to over.0 new.marks.items new.given.items
-        new.cursor
+        new.cursors
         over.1))
 
     pub stretch_passed : (q : Passed) (new : Open) → PassesStretch new → KeepsRight run mid.marks.items new.marks.items
-        → StaysOn es (bundles_in h.front.now) mid.cursor new.cursor
+        → StayOn es (bundles_in h.front.now) mid.cursors new.cursors
         → AreSkipped cs (between_at h cs fs old w from p mid f end t).rest run q → IsCountOf cs q
         → IsSoFar h cs fs old w to q new
     stretch_passed q new passes keeps stays skipped count =

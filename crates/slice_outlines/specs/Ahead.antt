@@ -20,7 +20,7 @@ use Rattle.slice_outlines.specs.declared.height.Open.{Open}
 use Rattle.slice_outlines.specs.declared.groups.Passed.{Passed}
 use Rattle.slice_outlines.specs.Marks.{spot_at, names_in}
 use Rattle.slice_outlines.specs.Heights.{Onwards, IsBalancedBefore, IsCountOf}
-use Rattle.slice_outlines.specs.Cursor.{StaysOn}
+use Rattle.slice_outlines.specs.Cursors.{StayOn}
 use Rattle.slice_outlines.specs.Along.{HasComeOver}
 
 -- ---- where groups are
@@ -81,7 +81,7 @@ abbrev pub between : ℕ → ℕ → Run
 between n m = record { below = n; below_to = n; above = m; above_to = m }
 
 abbrev pub HasComeTo : Onwards → List Spot → ℕ → ℕ → Open → Type 0
-HasComeTo on passed n m o = HasComeOver on passed [] (between n m) n m None o.marks.items o.given.items o.cursor
+HasComeTo on passed n m o = HasComeOver on passed [] (between n m) n m None o.marks.items o.given.items o.cursors
 
 -- beside each of these groups there is one value below the height and above it
 abbrev pub AreBalancedFrom : Height → Shape → ℕ → ℕ → List Group → Type 0
@@ -106,7 +106,7 @@ pub record KeepsRight (run : Run) (old new : List Mark) : Type 0 where
 pub record HasPassed (h : Height) (cs rest : List Change) (limit : Run) (p : Passed) (old new : Open) : Type 0 where
   pub names : names_in new.marks.items ≡ names_in old.marks.items
   pub right : drop limit.above new.marks.items ≡ drop limit.above old.marks.items
-  pub stands : StaysOn h.edges.now (bundles_in h.front.now) old.cursor new.cursor
+  pub stands : StayOn h.edges.now (bundles_in h.front.now) old.cursors new.cursors
   pub count : IsCountOf cs p
   pub later : drop p.count cs ≡ rest
   pub from_below : p.last.below_to ≤ limit.below

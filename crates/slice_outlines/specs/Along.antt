@@ -21,13 +21,13 @@ use Rattle.slice_outlines.specs.declared.run.Run.{Run}
 use Rattle.slice_outlines.specs.declared.spot.Stop.{Stop}
 use Rattle.slice_outlines.specs.declared.flat.Flat.{Flat}
 use Rattle.slice_outlines.specs.declared.course.Course.{Course}
-use Rattle.slice_outlines.specs.declared.cursor.Cursor.{Cursor}
+use Rattle.slice_outlines.specs.declared.cursors.Cursors.{Cursors}
 use Rattle.slice_outlines.specs.declared.stretch.Along.{Along}
 use Rattle.slice_outlines.specs.declared.height.Height.{Height}
 use Rattle.slice_outlines.specs.declared.height.Open.{Open}
 use Rattle.slice_outlines.specs.Marks.{spot_at, mark_at, left_of_first, IsNamed, AreKept}
 use Rattle.slice_outlines.specs.Passing.{IsCourseOf, or_none}
-use Rattle.slice_outlines.specs.Cursor.{StandsOn}
+use Rattle.slice_outlines.specs.Cursors.{StandOn}
 use Rattle.slice_outlines.specs.Heights.{Onwards, IsRunOf, AreValuedTo, marks_of}
 
 -- ---- beside a stop
@@ -110,7 +110,7 @@ pub record AreAtPlace (es : List LeafEdge) (l : Level) (p : Place) : Type 0 wher
 -- the places that are passed have some spots, and so many strands below the height and above it; a way along the height
 -- may lead to the first of the spots to come
 pub record HasComeOver (on : Onwards) (passed spots : List Spot) (run : Run) (n m : ℕ) (course : Option Course)
-    (marks : List Mark) (given : List Edge) (cursor : Cursor) : Type 0 where
+    (marks : List Mark) (given : List Edge) (cursors : Cursors) : Type 0 where
   pub places : List Place
   pub flat : List Way
   pub at : spots_of places ≡ passed
@@ -126,11 +126,11 @@ pub record HasComeOver (on : Onwards) (passed spots : List Spot) (run : Run) (n 
   pub named : AllZip (λ x b. IsNamed x.name b) marks (bundles_in on.height.front.now)
   pub valued : AreValuedTo on.height on.shape run.above_to marks
   pub edges : IsPermutation (on.given ++ rounded_edges (pieces_of (all_closed places))) given
-  pub stands : StandsOn on.height.edges.now on.shape (bundles_in on.height.front.now) cursor
+  pub stands : StandOn on.height.edges.now on.shape (bundles_in on.height.front.now) cursors
 
 abbrev pub HasComeAlong : Onwards → List Spot → List Spot → Along → Open → Type 0
 HasComeAlong on passed spots a o = HasComeOver on passed spots a.run a.below a.above a.flat o.marks.items o.given.items
-    o.cursor
+    o.cursors
 
 -- the flat edges that go on from a stop are told by the least that covers the way to the next; behind the last stop
 -- there is one value below the height and above it

@@ -1,5 +1,5 @@
 -- A cursor: the headings of the strands from its place on, leaf by leaf.
-use Rattle.std.specs.Prelude.{Bool, ◌≡◌, ◌≤◌, ◌<◌, ◌+◌, ◌^◌, ◌*ℤ◌, ⊤, List, [], ◌∷◌, ◌++◌, ℕ, length, drop}
+use Rattle.std.specs.Prelude.{Bool, ◌≡◌, ◌≤◌, ◌<◌, ◌+◌, ◌^◌, ◌*ℤ◌, ⊤, List, [], ◌∷◌, ◌++◌, ℕ, length, drop, All}
 use Rattle.std.specs.List.{concat}
 use Rattle.std.specs.Ordering.{int_eq}
 use Rattle.scad_geom.specs.declared.point.Edge.{Edge}
@@ -13,7 +13,9 @@ use Rattle.slice_sweep.specs.declared.change.Change.{Change}
 use Rattle.slice_sweep.specs.Changes.{Group, Tell, all_below, all_above}
 use Rattle.slice_outlines.specs.declared.mark.Mark.{Mark}
 use Rattle.slice_outlines.specs.declared.cursor.Cursor.{Cursor}
-use Rattle.slice_outlines.specs.Marks.{mark_at}
+use Rattle.slice_outlines.specs.declared.flat.Flat.{Flat}
+use Rattle.slice_outlines.specs.Marks.{mark_at, spot_at}
+use Rattle.slice_outlines.specs.Flats.{LiesAside}
 use Rattle.slice_outlines.specs.Tallies.{Tells}
 
 -- a cursor on these bundles
@@ -38,6 +40,11 @@ is_same_place at e f = int_eq (x_at e at.n at.d *ℤ rise f) (x_at f at.n at.d *
 abbrev pub IsApartAt : List LeafEdge → Level → List Mark → ℕ → Type 0
 IsApartAt es l ms n = (i : ℕ) → i + 1 ≡ n → n < length ms
     → IsSamePlaceAt l (edge_at es (mark_at ms i).name) (edge_at es (mark_at ms n).name) → ⊥
+
+-- so it is, and these flat edges of the height lie aside of the next strand
+pub record IsClearAt (es : List LeafEdge) (l : Level) (ms : List Mark) (fs : List Flat) (n : ℕ) : Type 0 where
+  pub apart : IsApartAt es l ms n
+  pub aside : n < length ms → All (LiesAside l (spot_at es l (mark_at ms n))) fs
 
 -- strands come to the first of these groups from below
 abbrev pub IsMetFromBelow : List Group → Type 0

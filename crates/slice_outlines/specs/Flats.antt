@@ -8,6 +8,8 @@ use Rattle.std.specs.List.Sorted.{IsPermutation, IsSorted}
 use Rattle.scad_geom.specs.declared.level.Level.{Level}
 use Rattle.scad_geom.specs.declared.level.LeafEdge.{LeafEdge}
 use Rattle.slice_slab.specs.Bundles.{edge_at}
+use Rattle.slice_snap.specs.declared.piece.Spot.{Spot}
+use Rattle.slice_bool.specs.Pieces.{whole_spot, IsLeft}
 use Rattle.slice_outlines.specs.declared.flat.Flat.{Flat}
 
 -- the flat edge of its number, its ends from left to right
@@ -45,6 +47,10 @@ pub record AreFlats (es : List LeafEdge) (fs : List Flat) : Type 0 where
 abbrev pub IsOff : Level → List Flat → Type 0
 IsOff l [] = ⊤
 IsOff l (f ∷ fs) = LiesOn l f → ⊥
+
+-- one that lies to the right of a spot of its height, or to the left
+abbrev pub LiesAside : Level → Spot → Flat → Type 0
+LiesAside l s f = IsLeft s (whole_spot f.left l) ⊎ IsLeft (whole_spot f.right l) s
 
 -- flat edges that are joined: each starts no farther to the right than the greatest end of those before it; the
 -- greatest end of all is given

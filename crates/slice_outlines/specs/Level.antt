@@ -15,13 +15,13 @@ use Rattle.sweep_laws.specs.Fronts.{bundles_of, AreValued}
 use Rattle.sweep_laws.specs.Balance.{StaysAside}
 use Rattle.slice_outlines.specs.declared.mark.Mark.{Mark}
 use Rattle.slice_outlines.specs.declared.flat.Flat.{Flat}
-use Rattle.slice_outlines.specs.declared.cursor.Cursor.{Cursor}
+use Rattle.slice_outlines.specs.declared.cursors.Cursors.{Cursors}
 use Rattle.slice_outlines.specs.declared.height.Height.{Height}
 use Rattle.slice_outlines.specs.Above.{AreTaken}
 use Rattle.slice_outlines.specs.Marks.{IsNamed}
 use Rattle.slice_outlines.specs.Stops.{AllPass}
 use Rattle.slice_outlines.specs.Flats.{IsFlatOf, LiesOn}
-use Rattle.slice_outlines.specs.Cursor.{Stands}
+use Rattle.slice_outlines.specs.Cursors.{StandForSome}
 use Rattle.slice_outlines.specs.Heights.{Onwards}
 
 -- the flat edge of a number is among these
@@ -42,8 +42,8 @@ pub record AreFlatsOn (es : List LeafEdge) (l : Level) (fs : List Flat) : Type 0
   pub all : (k : ℕ) → k < length es → is_flat_at (edge_at es k) l ≡ true → HasNumber fs k
 
 -- changes tell of the groups of a height: those of the strands below it, of whose marks these above it are taken, and
--- of the front above, on which a cursor stands; and all its flat edges are at hand
-pub record IsAtLevel (h : Height) (ms : List Mark) (cs : List Change) (fs : List Flat) (c : Cursor) : Type 0 where
+-- of the front above, on which cursors stand; and all its flat edges are at hand
+pub record IsAtLevel (h : Height) (ms : List Mark) (cs : List Change) (fs : List Flat) (c : Cursors) : Type 0 where
   pub groups : List Group
   pub are_groups : AreGroups h.edges.now h.at.now groups
   pub told : Tell 0 cs groups
@@ -54,7 +54,7 @@ pub record IsAtLevel (h : Height) (ms : List Mark) (cs : List Change) (fs : List
   pub few_below : length (all_below groups) < 2 ^ 32
   pub few_above : length (all_above groups) < 2 ^ 32
   pub members : AreMembers h.edges.now (bundles_in h.front.now)
-  pub stands : Stands h.edges.now (bundles_in h.front.now) c
+  pub stands : StandForSome h.edges.now (bundles_in h.front.now) c
   pub pass_below : AllPass h.edges.now h.at.now h.below.now
   pub pass_above : AllPass h.edges.now h.at.now ms
   pub flats : AreFlatsOn h.edges.now h.at.now fs

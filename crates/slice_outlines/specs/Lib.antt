@@ -5,6 +5,7 @@ pub mod Runs
 pub mod Above
 pub mod Tallies
 pub mod Cursor
+pub mod Cursors
 pub mod Flats
 pub mod Stops
 pub mod Heights

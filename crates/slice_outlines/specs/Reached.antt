@@ -13,7 +13,7 @@ use Rattle.slice_outlines.specs.Along.{HasComeOver}
 abbrev pub HasReached : Onwards → List Spot → Spot → Run → Open → Type 0
 HasReached on passed s run o = (ms : List Mark) → KeepsMarks run o.marks.items ms
     → AreValuedIn on.height on.shape run ms
-    → HasComeOver on passed (s ∷ []) run run.below run.above None ms o.given.items o.cursor
+    → HasComeOver on passed (s ∷ []) run run.below run.above None ms o.given.items o.cursors
 
 -- changes that tell of groups, not too many to be counted
 pub record CanCount (cs : List Change) : Type 0 where

@@ -60,4 +60,4 @@ stretch_spots h ms run fs = mark_spots h.edges.now h.at.now (take (run.below_to 
 abbrev pub HasReachedStops : Onwards → List Spot → List Spot → Run → Open → Type 0
 HasReachedStops on passed spots run o = (ms : List Mark) → KeepsMarks run o.marks.items ms
     → AreValuedIn on.height on.shape run ms
-    → HasComeOver on passed spots run run.below run.above None ms o.given.items o.cursor
+    → HasComeOver on passed spots run run.below run.above None ms o.given.items o.cursors

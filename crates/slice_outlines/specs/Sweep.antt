@@ -1,5 +1,5 @@
 -- What is known of a sweep between two of its levels.
-use Rattle.std.specs.Prelude.{false, ◌≡◌, ◌≤◌, ◌<◌, ◌⊎◌, ⊤, ℕ, List, [], ◌∷◌, ◌++◌, length, take, drop}
+use Rattle.std.specs.Prelude.{false, ◌≡◌, ◌≤◌, ◌⊎◌, ⊤, List, [], ◌∷◌, ◌++◌, length, take, drop}
 use Rattle.std.specs.List.{AllByRecursion}
 use Rattle.std.specs.List.Sorted.{IsPermutation}
 use Rattle.scad_geom.specs.declared.level.Level.{Level}
@@ -15,8 +15,7 @@ use Rattle.sweep_laws.specs.Fronts.{Strand, bundles_of, IsFront}
 use Rattle.sweep_laws.specs.Sweeps.{HasSweptTo}
 use Rattle.slice_outlines.specs.declared.sweep.Sweep.{Sweep}
 use Rattle.slice_outlines.specs.Marks.{AreKept}
-use Rattle.slice_outlines.specs.declared.height.Open.{Open}
-use Rattle.slice_outlines.specs.Cursor.{StandsOn, IsApartAt}
+use Rattle.slice_outlines.specs.Cursors.{StandOn}
 use Rattle.slice_outlines.specs.Flats.{AreFlats}
 
 -- the front can be lifted to the first of these, below which all edges start that are on it
@@ -49,7 +48,7 @@ pub record HasSwept (es : List LeafEdge) (shape : Shape) (levels left : List Lev
   pub given : IsPermutation (rounded_edges (pieces_of closed)) s.kept.given.items
   pub bundles : bundles_of front ≡ bundles_in s.front
   pub kept : AreKept false s.kept.marks.items front
-  pub cursor : StandsOn es shape (bundles_in s.front) s.kept.cursor
+  pub cursors : StandOn es shape (bundles_in s.front) s.kept.cursors
   pub flats : AreFlats es s.flats.items
   pub passed : s.passed ≤ length s.flats.items
   pub flats_below : ArePassedBelowFirst left s
@@ -70,8 +69,3 @@ pub record CanEnd (es : List LeafEdge) (top : Level) (s : Sweep) : Type 0 where
   pub levels : List Level
   pub are_levels : AreLevels es levels
   pub swept : HasSwept es shape levels (top ∷ []) s
-
--- where flat edges lie on a height, the cursor stands at the right end; else not between strands that meet at it
-pub record IsClear (es : List LeafEdge) (l : Level) (o : Open) (flat_to passed : ℕ) : Type 0 where
-  pub right : passed < flat_to → o.cursor.at ≡ length o.marks.items
-  pub apart : IsApartAt es l o.marks.items o.cursor.at

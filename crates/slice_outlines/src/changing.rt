@@ -3,7 +3,7 @@ ghost use Rattle.std.specs.Prelude.{◌≡◌, ◌<◌, ◌≤◌, ◌+◌, true
 ghost use Rattle.scad_geom.specs.declared.shape.Shape.{Shape};
 ghost use Rattle.slice_sweep.specs.Front.{bundles_in};
 ghost use Rattle.slice_bool.specs.Beside.{AreMembers, left_value};
-ghost use Rattle.slice_outlines.specs.Cursor.{StandsOn, Stands, StaysOn};
+ghost use Rattle.slice_outlines.specs.Cursors.{StandOn, StandForSome, StayOn};
 ghost use Rattle.slice_outlines.specs.Valued.{valued};
 ghost use Rattle.slice_outlines.specs.Heights.{IsRunOf, IsBalancedBefore, AreValuedIn, KeepsMarks};
 
@@ -14,13 +14,13 @@ use crate::run::Run;
 /// Finds the values to the left of the strands above a run. To the left of the first it's that below the height.
 pub(crate) fn find_values(height: &Height<'_>, kept: &mut Open, run: &Run)
     requires members { AreMembers height.now.edges.now (bundles_in height.now.front.now) }
-    requires stands { Stands height.now.edges.now (bundles_in height.now.front.now) kept.old.cursor }
+    requires stands { StandForSome height.now.edges.now (bundles_in height.now.front.now) kept.old.cursors }
     requires size { length kept.old.marks.items ≡ length (bundles_in height.now.front.now) }
     requires there { IsRunOf height.now.below.now kept.old.marks.items run.now }
     ensures values { (shape : Shape) → IsBalancedBefore height.now shape run.now
-        → StandsOn height.now.edges.now shape (bundles_in height.now.front.now) kept.old.cursor
+        → StandOn height.now.edges.now shape (bundles_in height.now.front.now) kept.old.cursors
         → AreValuedIn height.now shape run.now kept.new.marks.items }
-    ensures stands { StaysOn height.now.edges.now (bundles_in height.now.front.now) kept.old.cursor kept.new.cursor }
+    ensures stands { StayOn height.now.edges.now (bundles_in height.now.front.now) kept.old.cursors kept.new.cursors }
     ensures rest { KeepsMarks run.now kept.old.marks.items kept.new.marks.items }
     ensures given { kept.new.given ≡ kept.old.given }
 {
@@ -52,13 +52,13 @@ fn set_value(marks: &mut Vec<Mark>, i: usize, left: bool)
 
 fn ask_cursor(height: &Height<'_>, kept: &mut Open, run: &Run)
     requires members { AreMembers height.now.edges.now (bundles_in height.now.front.now) }
-    requires stands { Stands height.now.edges.now (bundles_in height.now.front.now) kept.old.cursor }
+    requires stands { StandForSome height.now.edges.now (bundles_in height.now.front.now) kept.old.cursors }
     requires size { length kept.old.marks.items ≡ length (bundles_in height.now.front.now) }
     requires there { IsRunOf height.now.below.now kept.old.marks.items run.now }
     ensures values { (shape : Shape)
-        → StandsOn height.now.edges.now shape (bundles_in height.now.front.now) kept.old.cursor
+        → StandOn height.now.edges.now shape (bundles_in height.now.front.now) kept.old.cursors
         → AreValuedIn height.now shape run.now kept.new.marks.items }
-    ensures stands { StaysOn height.now.edges.now (bundles_in height.now.front.now) kept.old.cursor kept.new.cursor }
+    ensures stands { StayOn height.now.edges.now (bundles_in height.now.front.now) kept.old.cursors kept.new.cursors }
     ensures rest { KeepsMarks run.now kept.old.marks.items kept.new.marks.items }
     ensures given { kept.new.given ≡ kept.old.given }
 {
@@ -70,16 +70,16 @@ fn ask_cursor(height: &Height<'_>, kept: &mut Open, run: &Run)
 // Finds the value to the left of the strand at a place.
 fn ask_at(height: &Height<'_>, kept: &mut Open, i: usize)
     requires members { AreMembers height.now.edges.now (bundles_in height.now.front.now) }
-    requires stands { Stands height.now.edges.now (bundles_in height.now.front.now) kept.old.cursor }
+    requires stands { StandForSome height.now.edges.now (bundles_in height.now.front.now) kept.old.cursors }
     requires size { length kept.old.marks.items ≡ length (bundles_in height.now.front.now) }
     requires there { i < length kept.old.marks.items }
     ensures value { (shape : Shape)
-        → StandsOn height.now.edges.now shape (bundles_in height.now.front.now) kept.old.cursor
+        → StandOn height.now.edges.now shape (bundles_in height.now.front.now) kept.old.cursors
         → kept.new.marks.items ≡ valued i
         (left_value height.now.edges.now shape (drop i (bundles_in height.now.front.now))) kept.old.marks.items }
-    ensures stands { StaysOn height.now.edges.now (bundles_in height.now.front.now) kept.old.cursor kept.new.cursor }
+    ensures stands { StayOn height.now.edges.now (bundles_in height.now.front.now) kept.old.cursors kept.new.cursors }
     ensures given { kept.new.given ≡ kept.old.given }
 {
-    let left = kept.cursor.value_at(height.edges, height.front, i);
+    let left = kept.cursors.value_at(height.edges, height.front, i);
     set_value(&mut kept.marks, i, left);
 }

@@ -10,10 +10,14 @@ ghost use Rattle.slice_sweep.specs.Front.{bundles_in};
 ghost use Rattle.slice_sweep.specs.Changes.{Group, Tell};
 ghost use Rattle.slice_bool.specs.Beside.{AreMembers, left_value};
 ghost use Rattle.slice_outlines.specs.Marks.{AreThere, IsNamed};
-ghost use Rattle.slice_outlines.specs.Cursor.{is_same_place, StandsOn, Stands, StaysOn, IsApartAt, CanShift, IsShifted, Fit};
+ghost use Rattle.slice_outlines.specs.Stops.{AllPass};
+ghost use Rattle.slice_outlines.specs.Cursor.{is_same_place, StandsOn, Stands, StaysOn, IsApartAt, IsClearAt, CanShift, IsShifted, Fit};
 
+use crate::aside::are_aside;
+use crate::flat::Flat;
 use crate::mark::Mark;
 use crate::run::{Run, after, first};
+use crate::stops::stop_of;
 use crate::tally::{Tally, no_turns};
 use scad_geom::{LeafEdge, Level, Shape, cmp_x_at};
 use slice_sweep::{Change, Front};
@@ -107,32 +111,29 @@ impl Cursor {
         }
     }
 
-    /// Goes to the right until it doesn't stand between strands that meet at a height.
-    pub(crate) fn leave(&mut self, edges: &[LeafEdge], front: &Front, marks: &[Mark], at: &Level)
+    /// Goes to the right until it doesn't stand between strands that meet at a height, and the flat edges of the height
+    /// lie aside of the next strand.
+    pub(crate) fn leave(
+        &mut self,
+        edges: &[LeafEdge],
+        front: &Front,
+        marks: &[Mark],
+        at: &Level,
+        flats: &[Flat],
+    )
         requires within { All (λ e. IsEdgeWithin coordinate_limit e.edge) edges.now }
         requires at { IsLevelWithin coordinate_limit at.now }
         requires few { length edges.now < 2 ^ 32 }
         requires members { AreMembers edges.now (bundles_in front.now) }
         requires stands { Stands edges.now (bundles_in front.now) self.old }
         requires named { AllZip (λ m b. IsNamed m.name b) marks.now (bundles_in front.now) }
+        requires pass { AllPass edges.now at.now marks.now }
         ensures stands { StaysOn edges.now (bundles_in front.now) self.old self.new }
-        ensures apart { IsApartAt edges.now at.now marks.now self.new.at }
+        ensures clear { IsClearAt edges.now at.now marks.now flats.now self.new.at }
     {
-        'strands: while self.is_within(edges, marks, at) {
+        'strands: while !is_clear(edges, marks, at, flats, self.at) {
             self.go_right(edges, front, self.at + 1);
         }
-    }
-
-    fn is_within(&self, edges: &[LeafEdge], marks: &[Mark], at: &Level) -> bool
-        requires within { All (λ e. IsEdgeWithin coordinate_limit e.edge) edges.now }
-        requires at { IsLevelWithin coordinate_limit at.now }
-        requires there { AreThere edges.now marks.now }
-        ensures within { result ≡ true → self.now.at < length marks.now }
-        ensures apart { result ≡ false → IsApartAt edges.now at.now marks.now self.now.at }
-    {
-        0 < self.at
-            && self.at < marks.len()
-            && are_together(edges, &marks[self.at - 1], &marks[self.at], at)
     }
 
     /// Its place among the strands above a height, where it stands between places of that height.
@@ -145,6 +146,30 @@ impl Cursor {
         let done = run_before(changes, self.at);
         self.at = done.above_to + (self.at - done.below_to);
     }
+}
+
+// Whether strands on both sides of a place don't meet at a height, and its flat edges lie aside of the next.
+fn is_clear(edges: &[LeafEdge], marks: &[Mark], at: &Level, flats: &[Flat], place: usize) -> bool
+    requires within { All (λ e. IsEdgeWithin coordinate_limit e.edge) edges.now }
+    requires at { IsLevelWithin coordinate_limit at.now }
+    requires there { AreThere edges.now marks.now }
+    requires pass { AllPass edges.now at.now marks.now }
+    ensures within { result ≡ false → place < length marks.now }
+    ensures clear { result ≡ true → IsClearAt edges.now at.now marks.now flats.now place }
+{
+    place >= marks.len()
+        || (is_apart(edges, marks, at, place)
+            && are_aside(flats, &stop_of(edges, &marks[place], at)))
+}
+
+fn is_apart(edges: &[LeafEdge], marks: &[Mark], at: &Level, place: usize) -> bool
+    requires within { All (λ e. IsEdgeWithin coordinate_limit e.edge) edges.now }
+    requires at { IsLevelWithin coordinate_limit at.now }
+    requires there { AreThere edges.now marks.now }
+    requires place { place < length marks.now }
+    ensures { result ≡ true → IsApartAt edges.now at.now marks.now place }
+{
+    place == 0 || !are_together(edges, &marks[place - 1], &marks[place], at)
 }
 
 // The strands of the last change to the left of a place below the height.

@@ -8,7 +8,7 @@ ghost use Rattle.slice_sweep.specs.Front.{bundles_in};
 ghost use Rattle.slice_bool.specs.Beside.{AreMembers};
 ghost use Rattle.slice_outlines.specs.Marks.{AreThere, mark_at};
 ghost use Rattle.slice_outlines.specs.Stops.{AllPass};
-ghost use Rattle.slice_outlines.specs.Cursor.{StandsOn, Stands, StaysOn};
+ghost use Rattle.slice_outlines.specs.Cursors.{StandOn, StandForSome, StayOn};
 ghost use Rattle.slice_outlines.specs.Heights.{Onwards, IsOf, IsBalancedBefore, IsGroupAt, IsNameOf, MeetAt, MeetAcross, IsCountOf};
 ghost use Rattle.slice_outlines.specs.Along.{HasComeOver};
 ghost use Rattle.slice_outlines.specs.Reached.{HasReached, CanCount};
@@ -42,7 +42,7 @@ pub(crate) fn pass_groups(
     limit: &Run,
 ) -> Result<Passed, AllocError>
     requires members { AreMembers height.now.edges.now (bundles_in height.now.front.now) }
-    requires stands { Stands height.now.edges.now (bundles_in height.now.front.now) kept.old.cursor }
+    requires stands { StandForSome height.now.edges.now (bundles_in height.now.front.now) kept.old.cursors }
     requires size { length kept.old.marks.items ≡ length (bundles_in height.now.front.now) }
     requires pass_below { AllPass height.now.edges.now height.now.at.now height.now.below.now }
     requires pass_above { AllPass height.now.edges.now height.now.at.now kept.old.marks.items }
@@ -106,7 +106,7 @@ fn is_right(run: &Run, other: &Run) -> bool
 
 fn pass_group(height: &Height<'_>, kept: &mut Open, run: &Run) -> Result<(), AllocError>
     requires members { AreMembers height.now.edges.now (bundles_in height.now.front.now) }
-    requires stands { Stands height.now.edges.now (bundles_in height.now.front.now) kept.old.cursor }
+    requires stands { StandForSome height.now.edges.now (bundles_in height.now.front.now) kept.old.cursors }
     requires size { length kept.old.marks.items ≡ length (bundles_in height.now.front.now) }
     requires group { IsGroupAt height.now kept.old.marks.items run.now }
     requires pass_below { AllPass height.now.edges.now height.now.at.now height.now.below.now }
@@ -117,13 +117,13 @@ fn pass_group(height: &Height<'_>, kept: &mut Open, run: &Run) -> Result<(), All
         → MeetAt height.now kept.old.marks.items run.now (rounded (point_of s))
         → MeetAcross height.now kept.old.marks.items run.now s
         → IsBalancedBefore height.now on.shape run.now
-        → StandsOn height.now.edges.now on.shape (bundles_in height.now.front.now) kept.old.cursor
+        → StandOn height.now.edges.now on.shape (bundles_in height.now.front.now) kept.old.cursors
         → HasReached on passed s run.now kept.old
         → OnOk result (HasComeOver on (passed ++ s ∷ []) [] run.now run.now.below_to run.now.above_to None
-        kept.new.marks.items kept.new.given.items kept.new.cursor) }
+        kept.new.marks.items kept.new.given.items kept.new.cursors) }
     ensures right { OnOk result (KeepsRight run.now kept.old.marks.items kept.new.marks.items) }
-    ensures stands { OnOk result (StaysOn height.now.edges.now (bundles_in height.now.front.now) kept.old.cursor
-        kept.new.cursor) }
+    ensures stands { OnOk result (StayOn height.now.edges.now (bundles_in height.now.front.now) kept.old.cursors
+        kept.new.cursors) }
 {
     let at = point_of(height, kept, run);
     find_values(height, kept, run);

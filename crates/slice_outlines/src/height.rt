@@ -4,7 +4,7 @@ ghost use Rattle.scad_geom.specs.Limits.{coordinate_limit};
 ghost use Rattle.scad_geom.specs.Within.{IsEdgeWithin};
 ghost use Rattle.scad_geom.specs.Level.{IsLevelWithin};
 
-use crate::cursor::Cursor;
+use crate::cursors::Cursors;
 use crate::mark::Mark;
 use scad_geom::{Edge, LeafEdge, Level};
 use slice_sweep::Front;
@@ -21,10 +21,10 @@ pub(crate) struct Height<'a> {
     ghost at_within: { IsLevelWithin coordinate_limit at.now },
 }
 
-/// The marks of the strands above a height, a cursor on their front, and the edges that ended pieces gave.
+/// The marks of the strands above a height, cursors on their front, and the edges that ended pieces gave.
 #[derive(Drop)]
 pub(crate) struct Open {
     pub(crate) marks: Vec<Mark>,
-    pub(crate) cursor: Cursor,
+    pub(crate) cursors: Cursors,
     pub(crate) given: Vec<Edge>,
 }

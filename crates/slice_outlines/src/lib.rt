@@ -4,9 +4,11 @@
 #![tactic(auto, using(scad_geom::proofs::Casts::casts))]
 
 mod above;
+mod aside;
 mod changing;
 mod course;
 mod cursor;
+mod cursors;
 mod flat;
 mod flats;
 mod groups;

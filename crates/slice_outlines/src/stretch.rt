@@ -14,7 +14,7 @@ ghost use Rattle.slice_outlines.specs.declared.course.Course.{Course};
 ghost use Rattle.slice_outlines.specs.declared.spot.Stop.{Stop};
 ghost use Rattle.slice_sweep.specs.Front.{bundles_in};
 ghost use Rattle.slice_bool.specs.Beside.{AreMembers};
-ghost use Rattle.slice_outlines.specs.Cursor.{Stands, StandsOn, StaysOn};
+ghost use Rattle.slice_outlines.specs.Cursors.{StandForSome, StandOn, StayOn};
 ghost use Rattle.slice_outlines.specs.Stops.{AllPass, AreStopsOf, spots_in};
 ghost use Rattle.slice_outlines.specs.Stretch.{AreStopsAt, TellWays, stretch_spots, HasReachedStops};
 ghost use Rattle.slice_outlines.specs.Heights.{Onwards, IsOf, IsRunOf, AreInOrder, IsBalancedBefore, MeetAcross, marks_of};
@@ -123,7 +123,7 @@ pub(crate) fn pass_stretch(
     flats: &[Flat],
 ) -> Result<(), AllocError>
     requires members { AreMembers height.now.edges.now (bundles_in height.now.front.now) }
-    requires stands { Stands height.now.edges.now (bundles_in height.now.front.now) kept.old.cursor }
+    requires stands { StandForSome height.now.edges.now (bundles_in height.now.front.now) kept.old.cursors }
     requires size { length kept.old.marks.items ≡ length (bundles_in height.now.front.now) }
     requires run { IsRunOf height.now.below.now kept.old.marks.items run.now }
     requires below_order { AreInOrder height.now height.now.below.now }
@@ -132,7 +132,7 @@ pub(crate) fn pass_stretch(
     requires above_pass { AllPass height.now.edges.now height.now.at.now kept.old.marks.items }
     ensures passed { (on : Onwards) (passed : List Spot) → IsOf height.now on
         → IsBalancedBefore height.now on.shape run.now
-        → StandsOn height.now.edges.now on.shape (bundles_in height.now.front.now) kept.old.cursor
+        → StandOn height.now.edges.now on.shape (bundles_in height.now.front.now) kept.old.cursors
         → ((stops : List Stop) → AreStopsAt height.now stops
         → AreStopsOf (stretch_spots height.now kept.old.marks.items run.now flats.now) (spots_in stops)
         → TellWays height.now.edges.now flats.now stops)
@@ -140,10 +140,10 @@ pub(crate) fn pass_stretch(
         × AreStopsOf (stretch_spots height.now kept.old.marks.items run.now flats.now) spots
         × (HasReachedStops on passed spots run.now kept.old → (course : Option Course)
         × HasComeOver on (passed ++ spots) [] run.now run.now.below_to run.now.above_to course
-        kept.new.marks.items kept.new.given.items kept.new.cursor)) }
+        kept.new.marks.items kept.new.given.items kept.new.cursors)) }
     ensures right { OnOk result (KeepsRight run.now kept.old.marks.items kept.new.marks.items) }
-    ensures stands { OnOk result (StaysOn height.now.edges.now (bundles_in height.now.front.now) kept.old.cursor
-        kept.new.cursor) }
+    ensures stands { OnOk result (StayOn height.now.edges.now (bundles_in height.now.front.now) kept.old.cursors
+        kept.new.cursors) }
 {
     find_values(height, kept, run);
     pass_places(alloc, height, kept, run, flats)?;
@@ -170,11 +170,11 @@ pub(crate) fn pass_places(
         → OnOk result ((spots : List Spot)
         × AreStopsOf (stretch_spots height.now kept.old.marks.items run.now flats.now) spots
         × (HasComeOver on passed spots run.now run.now.below run.now.above None kept.old.marks.items
-        kept.old.given.items kept.old.cursor → (course : Option Course)
+        kept.old.given.items kept.old.cursors → (course : Option Course)
         × HasComeOver on (passed ++ spots) [] run.now run.now.below_to run.now.above_to course
-        kept.new.marks.items kept.new.given.items kept.new.cursor)) }
+        kept.new.marks.items kept.new.given.items kept.new.cursors)) }
     ensures right { OnOk result (KeepsRight run.now kept.old.marks.items kept.new.marks.items) }
-    ensures cursor { kept.new.cursor ≡ kept.old.cursor }
+    ensures cursors { kept.new.cursors ≡ kept.old.cursors }
 {
     let stops = stops_of(alloc, height, kept, run, flats)?;
     pass_stops(alloc, height, kept, run, flats, &stops)?;
@@ -220,13 +220,13 @@ fn pass_stops(
     requires strands { AllByRecursion (λ m. HasSpot (spots_in stops.now)
         (spot_at height.now.edges.now height.now.at.now m)) (marks_of height.now kept.old.marks.items run.now) }
     ensures right { OnOk result (KeepsRight run.now kept.old.marks.items kept.new.marks.items) }
-    ensures cursor { kept.new.cursor ≡ kept.old.cursor }
+    ensures cursors { kept.new.cursors ≡ kept.old.cursors }
     ensures passed { (on : Onwards) (passed : List Spot) → IsOf height.now on
         → TellWays height.now.edges.now flats.now stops.now → OnOk result
         (HasComeOver on passed (spots_in stops.now) run.now run.now.below run.now.above None kept.old.marks.items
-        kept.old.given.items kept.old.cursor → (course : Option Course)
+        kept.old.given.items kept.old.cursors → (course : Option Course)
         × HasComeOver on (passed ++ spots_in stops.now) [] run.now run.now.below_to run.now.above_to course
-        kept.new.marks.items kept.new.given.items kept.new.cursor) }
+        kept.new.marks.items kept.new.given.items kept.new.cursors) }
 {
     let mut along = Along {
         run: *run,
@@ -274,7 +274,7 @@ fn pass_stop(
     ensures names { OnOk result (names_in kept.new.marks.items ≡ names_in kept.old.marks.items) }
     ensures right { OnOk result (drop along.old.run.above_to kept.new.marks.items
         ≡ drop along.old.run.above_to kept.old.marks.items) }
-    ensures cursor { kept.new.cursor ≡ kept.old.cursor }
+    ensures cursors { kept.new.cursors ≡ kept.old.cursors }
     ensures behind { OnOk result (IsBehindStop height.now kept.old.marks.items along.new s.now) }
     ensures below { OnOk result (along.old.below ≤ along.new.below) }
     ensures above { OnOk result (along.old.above ≤ along.new.above) }
@@ -355,7 +355,7 @@ fn pass_run(
     ensures names { OnOk result (names_in kept.new.marks.items ≡ names_in kept.old.marks.items) }
     ensures right { OnOk result (drop along.old.run.above_to kept.new.marks.items
         ≡ drop along.old.run.above_to kept.old.marks.items) }
-    ensures cursor { kept.new.cursor ≡ kept.old.cursor }
+    ensures cursors { kept.new.cursors ≡ kept.old.cursors }
     ensures passed { (on : Onwards) (passed later : List Spot) → IsOf height.now on
         → RoundAlike height.now kept.old.marks.items run.now s.now.spot
         → MeetAcross height.now kept.old.marks.items run.now s.now.spot

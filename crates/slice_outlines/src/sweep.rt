@@ -1,5 +1,5 @@
 //! A sweep over the levels of an edge list.
-ghost use Rattle.std.specs.Prelude.{◌≡◌, ◌<◌, ◌≤◌, ◌^◌, true, false, List, [], ◌∷◌, length, IfOk, OnOk, All};
+ghost use Rattle.std.specs.Prelude.{◌≡◌, ◌<◌, ◌≤◌, ◌-◌, ◌^◌, List, [], ◌∷◌, length, take, drop, IfOk, OnOk, All};
 ghost use Rattle.std.specs.List.{AllZip};
 ghost use Rattle.scad_geom.specs.declared.level.Level.{Level};
 ghost use Rattle.scad_geom.specs.declared.shape.Shape.{Shape};
@@ -12,16 +12,17 @@ ghost use Rattle.slice_events.specs.Levels.{AreLevels};
 ghost use Rattle.slice_sweep.specs.Front.{bundles_in};
 ghost use Rattle.slice_bool.specs.Beside.{AreMembers};
 ghost use Rattle.sweep_laws.specs.Sweeps.{AreMergedEdges};
-ghost use Rattle.slice_outlines.specs.Sweep.{HasSwept, CanClimb, CanEnd, IsClear};
+ghost use Rattle.slice_outlines.specs.Sweep.{HasSwept, CanClimb, CanEnd};
 ghost use Rattle.slice_outlines.specs.Marks.{IsNamed};
-ghost use Rattle.slice_outlines.specs.Cursor.{Stands, StaysOn};
+ghost use Rattle.slice_outlines.specs.Cursors.{StandForSome, StayOn, AreClearAt};
+ghost use Rattle.slice_outlines.specs.Stops.{AllPass};
 ghost use Rattle.slice_outlines.specs.Heights.{Onwards, IsOf};
 ghost use Rattle.slice_outlines.specs.Ahead.{HasComeTo};
 ghost use Rattle.slice_outlines.specs.Level.{IsAtLevel, IsValuedAt, AreSpotsOf};
 ghost use Rattle.slice_snap.specs.declared.piece.Spot.{Spot};
 
 use crate::above::marks_above;
-use crate::cursor::Cursor;
+use crate::cursors::Cursors;
 use crate::flat::Flat;
 use crate::flats::{flats, flats_to, joined_from};
 use crate::groups::{Passed, pass_groups, skip_groups};
@@ -53,12 +54,12 @@ impl Sweep {
             → HasSwept edges.now shape.now levels levels s) }
     {
         let front = Front::new(alloc, edges)?;
-        let cursor = Cursor::new(alloc, edges, shape)?;
+        let cursors = Cursors::new(alloc, edges, shape)?;
         let flats = flats(alloc, edges)?;
         Ok(Sweep {
             alloc,
             front,
-            kept: nothing(alloc, cursor),
+            kept: nothing(alloc, cursors),
             flats,
             passed: 0,
         })
@@ -82,9 +83,9 @@ impl Sweep {
             → OnOk result (HasSwept edges.now w.shape w.levels (upper.now ∷ w.later) self.new) }
     {
         let flat_to = flats_to(&self.flats, self.passed, at);
-        self.clear_cursor(edges, at, flat_to);
+        self.clear_cursors(edges, at, flat_to);
         let changes = self.front.advance(edges, at, upper)?;
-        self.kept.cursor.shift(&changes);
+        self.kept.cursors.shift(&changes);
         let above = marks_above(self.alloc, &self.kept.marks, &self.front, &changes)?;
         let below = mem::replace(&mut self.kept.marks, above);
         let height = Height {
@@ -99,29 +100,30 @@ impl Sweep {
         Ok(())
     }
 
-    // Moves the cursor to where the level leaves it.
-    fn clear_cursor(&mut self, edges: &[LeafEdge], at: &Level, flat_to: usize)
+    // Moves the cursors to where the level leaves them.
+    fn clear_cursors(&mut self, edges: &[LeafEdge], at: &Level, flat_to: usize)
         requires within { All (λ e. IsEdgeWithin coordinate_limit e.edge) edges.now }
         requires few { length edges.now < 2 ^ 32 }
         requires at { IsLevelWithin coordinate_limit at.now }
         requires members { AreMembers edges.now (bundles_in self.old.front) }
-        requires stands { Stands edges.now (bundles_in self.old.front) self.old.kept.cursor }
+        requires stands { StandForSome edges.now (bundles_in self.old.front) self.old.kept.cursors }
         requires named { AllZip (λ m b. IsNamed m.name b) self.old.kept.marks.items (bundles_in self.old.front) }
-        ensures stands { StaysOn edges.now (bundles_in self.old.front) self.old.kept.cursor self.new.kept.cursor }
-        ensures clear { IsClear edges.now at.now self.new.kept flat_to self.new.passed }
+        requires pass { AllPass edges.now at.now self.old.kept.marks.items }
+        requires from { self.old.passed ≤ flat_to }
+        requires to { flat_to ≤ length self.old.flats.items }
+        ensures stands { StayOn edges.now (bundles_in self.old.front) self.old.kept.cursors self.new.kept.cursors }
+        ensures clear { AreClearAt edges.now at.now self.old.kept.marks.items
+            (take (flat_to - self.old.passed) (drop self.old.passed self.old.flats.items)) self.new.kept.cursors }
         ensures front { self.new.front ≡ self.old.front }
         ensures marks { self.new.kept.marks ≡ self.old.kept.marks }
         ensures given { self.new.kept.given ≡ self.old.kept.given }
         ensures flats { self.new.flats ≡ self.old.flats }
         ensures passed { self.new.passed ≡ self.old.passed }
     {
-        if has_flats(self.passed, flat_to) {
-            self.kept.cursor.rest(edges, &self.front);
-        } else {
-            self.kept
-                .cursor
-                .leave(edges, &self.front, &self.kept.marks, at);
-        }
+        let flats = &self.flats[self.passed..flat_to];
+        self.kept
+            .cursors
+            .leave(edges, &self.front, &self.kept.marks, at, flats);
     }
 
     /// Ends it with the last level, and gives the edges of all pieces.
@@ -134,7 +136,7 @@ impl Sweep {
         ensures { (w : CanEnd edges.now top.now self) → IfOk result (λ v. AreMergedEdges edges.now w.shape v.items) }
     {
         let mut kept = self.kept;
-        kept.cursor.clear(edges, &self.front);
+        kept.cursors.clear(edges, &self.front);
         let below = mem::replace(&mut kept.marks, Vec::new(self.alloc));
         let front = Front::new(self.alloc, &[])?;
         let height = Height {
@@ -155,23 +157,15 @@ impl Sweep {
     }
 }
 
-// Whether flat edges lie from one place to another.
-fn has_flats(from: usize, to: usize) -> bool
-    ensures some { result ≡ true → from < to }
-    ensures none { result ≡ false → to ≤ from }
-{
-    from < to
-}
-
 // Beside a front without strands.
-fn nothing(alloc: Global, cursor: Cursor) -> Open
+fn nothing(alloc: Global, cursors: Cursors) -> Open
     ensures marks { result.marks.items ≡ [] }
-    ensures cursor { result.cursor ≡ cursor }
+    ensures cursors { result.cursors ≡ cursors }
     ensures given { result.given.items ≡ [] }
 {
     Open {
         marks: Vec::new(alloc),
-        cursor,
+        cursors,
         given: Vec::new(alloc),
     }
 }
@@ -184,8 +178,8 @@ fn pass_level(
     changes: &[Change],
     flats: &[Flat],
 ) -> Result<(), AllocError>
-    requires level { IsAtLevel height.now kept.old.marks.items changes.now flats.now kept.old.cursor }
-    ensures { (w : IsAtLevel height.now kept.old.marks.items changes.now flats.now kept.old.cursor) (on : Onwards)
+    requires level { IsAtLevel height.now kept.old.marks.items changes.now flats.now kept.old.cursors }
+    ensures { (w : IsAtLevel height.now kept.old.marks.items changes.now flats.now kept.old.cursors) (on : Onwards)
         → IsOf height.now on → IsValuedAt on w.groups → HasComeTo on [] 0 0 kept.old
         → OnOk result ((spots : List Spot) × AreSpotsOf height.now flats.now spots
         × HasComeTo on spots (length height.now.below.now) (length kept.old.marks.items) kept.new) }

@@ -1,4 +1,4 @@
--- One strand alone has the value below the height to its left; for more the cursor is asked.
+-- One strand alone has the value below the height to its left; for more the cursors are asked.
 use Rattle.std.proofs.Common.{ℕ, drop, ap, ◌∙◌, arith}
 use Rattle.std.specs.Prelude.{Bool}
 use Rattle.slice_sweep.specs.Front.{bundles_in}

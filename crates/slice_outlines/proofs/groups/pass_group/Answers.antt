@@ -35,7 +35,7 @@ returns c = record {
       ∙ ap (λ (ms : List Mark). c.args.kept.now.given.items ++ ended_at p (courses right low ++ or_none None)
       (courses right (take (run.above_to - run.above) (drop run.above ms)) ++ or_none None)) seen in
       group_by on h is.0 passed s run old mid c.begin.new.marks.items c.args.kept.now.given.items
-      c.pass_strands.new.given.items c.args.kept.now.cursor c.find_values.new.kept.cursor p c.in_ok-from.from right is.1
+      c.pass_strands.new.given.items c.args.kept.now.cursors c.find_values.new.kept.cursors p c.in_ok-from.from right is.1
       c.find_values.ensures.rest c.requires.group.run (sym point) (subst (MeetAt h old run) (sym point) meet) across
       (c.find_values.ensures.stands on.shape stands) (reached mid c.find_values.ensures.rest valued)
       c.value_at-right.ensures from c.begin.ensures more;

@@ -41,10 +41,10 @@ returns-clause-passed c = λ on passed of tells.
       c.in_ok-stops.ensures.stops,
       λ come.
           let here = subst (λ (ts : List Stop). HasComeOver on passed (spots_in ts) run run.below run.above None ms
-          old.given.items old.cursor) (sym c.deref.ensures.value) come in
+          old.given.items old.cursors) (sym c.deref.ensures.value) come in
           let end = c.in_ok-pass_stops.ensures.passed on passed of tell here in (
             end.0,
             subst (λ (ts : List Stop). HasComeOver on (passed ++ spots_in ts) [] run run.below_to run.above_to end.0
-                new.marks.items new.given.items new.cursor) c.deref.ensures.value end.1,
+                new.marks.items new.given.items new.cursors) c.deref.ensures.value end.1,
           ),
     )

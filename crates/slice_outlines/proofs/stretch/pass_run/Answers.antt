@@ -34,10 +34,10 @@ returns-clause-passed c = λ on passed later of round across name come.
     let s = c.args.s.now.spot in
     come_as on (passed ++ (s ∷ [])) later a.run c.go_on.new.along.run run.below_to c.go_on.new.along.below run.above_to
     c.go_on.new.along.above (begun_at from b.flat_out) c.go_on.new.along.flat
-    (begun_in run.above run.above_to from marks) c.begin.new.marks.items edges edges c.args.kept.now.cursor
+    (begun_in run.above run.above_to from marks) c.begin.new.marks.items edges edges c.args.kept.now.cursors
     (sym c.go_on.ensures.run) (sym c.go_on.ensures.below) (sym c.go_on.ensures.above) (sym c.go_on.ensures.flat)
     (sym c.begin.ensures) refl
-    (run_passed on passed s later a run b marks given c.args.kept.now.cursor from edges come h of.0 (record {
+    (run_passed on passed s later a run b marks given c.args.kept.now.cursors from edges come h of.0 (record {
       kept = of.1;
       run_of = c.requires.run;
       above_to = c.requires.above_to;

@@ -34,5 +34,5 @@ returns-clause-passed c = λ on passed later of name come.
     (ap₂ (λ (r : Run) (k : ℕ). value_over h r marks k) (sym c.mend_live.ensures.run) c.in_ok-pass_run.ensures.above)
     (ap (λ (k : ℕ). left_of_first (drop k h.below.now) false) c.in_ok-pass_run.ensures.below) name)
     (come_as on passed (s ∷ later) a.run mid.run a.below mid.below a.above mid.above a.flat mid.flat marks marks
-    c.args.kept.now.given.items c.args.kept.now.given.items c.args.kept.now.cursor (sym c.mend_live.ensures.run)
+    c.args.kept.now.given.items c.args.kept.now.given.items c.args.kept.now.cursors (sym c.mend_live.ensures.run)
     (sym c.mend_live.ensures.below) (sym c.mend_live.ensures.above) (sym c.mend_live.ensures.flat) refl refl come)

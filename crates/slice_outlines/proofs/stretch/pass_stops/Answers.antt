@@ -21,13 +21,13 @@ stops-init c =
     record {
       names = refl;
       right = refl;
-      cursor = refl;
+      cursors = refl;
       waits = first_waits c.args.height.now kept.marks.items run c.args.flats.now ss _ c.requires.run
           c.requires.above_order
           c.requires.above_pass c.requires.strands refl refl refl refl c.new.ensures.items;
       passed = λ on passed of tell come. subst (λ (ps : List Spot). HasComeOver on ps
           (spots_in ss) run run.below run.above None
-          kept.marks.items kept.given.items kept.cursor) (sym (append-nil passed)) come;
+          kept.marks.items kept.given.items kept.cursors) (sym (append-nil passed)) come;
     }
 
 pub pass_stop-requires-clause-at : goal.pass_stop-requires-clause-at
@@ -104,7 +104,7 @@ stops-preserved c =
       names = c.in_ok-pass_stop.ensures.names ∙ c.stops.invariant.names;
       right = subst (λ (r : Run). drop r.above_to ns ≡ drop r.above_to ms) waits.run_is c.in_ok-pass_stop.ensures.right
           ∙ c.stops.invariant.right;
-      cursor = c.in_ok-pass_stop.ensures.cursor ∙ c.stops.invariant.cursor;
+      cursors = c.in_ok-pass_stop.ensures.cursors ∙ c.stops.invariant.cursors;
       waits = later;
       passed = λ on passed of tell come.
           let done : List Spot = passed ++ spots_in (take i ss) in
@@ -120,7 +120,7 @@ stops-preserved c =
 pub returns : goal.returns
 returns c = record {
   right = record { names = c.stops.invariant.names; right = c.stops.invariant.right };
-  cursor = c.stops.invariant.cursor;
+  cursors = c.stops.invariant.cursors;
   passed = λ on passed of tell come.
       let h = c.args.height.now in
       let run = c.args.run.now in
@@ -140,6 +140,6 @@ returns c = record {
       (c.stops.invariant.passed on passed of tell come)) in (
         a.flat,
         come_as on (passed ++ spots_in ss) [] a.run run a.below run.below_to a.above run.above_to a.flat a.flat ms ms
-            kept.given.items kept.given.items kept.cursor w.run_is all.0 all.1 refl refl refl end,
+            kept.given.items kept.given.items kept.cursors w.run_is all.0 all.1 refl refl refl end,
       );
 }

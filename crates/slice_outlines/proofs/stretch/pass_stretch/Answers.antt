@@ -7,12 +7,12 @@ use Rattle.slice_outlines.specs.declared.mark.Mark.{Mark}
 use Rattle.slice_outlines.specs.declared.flat.Flat.{Flat}
 use Rattle.slice_outlines.specs.declared.height.Height.{Height}
 use Rattle.slice_outlines.specs.Stops.{spots_in, AreStopsOf}
-use Rattle.slice_outlines.specs.Cursor.{StandsOn}
+use Rattle.slice_outlines.specs.Cursors.{StandOn}
 use Rattle.slice_outlines.specs.Heights.{AreValuedIn}
 use Rattle.slice_outlines.specs.Stretch.{stretch_spots}
 use Rattle.slice_outlines.proofs.Grouping.{same_names}
 use Rattle.slice_outlines.proofs.Waiting.{order_by_names, pass_by_names}
-use Rattle.slice_outlines.proofs.Stretched.{same_stretch, with_cursor, run_there}
+use Rattle.slice_outlines.proofs.Stretched.{same_stretch, with_cursors, run_there}
 use Rattle.slice_outlines.proofs.stretch.pass_stretch.Goals as goal
 
 pub pass_places-requires-clause-run : goal.pass_places-requires-clause-run
@@ -45,8 +45,8 @@ returns c = record {
     right = c.in_ok-pass_places.ensures.right.right ∙ c.find_values.ensures.rest.right;
   };
   stands = λ shape s.
-      subst (StandsOn c.args.height.now.edges.now shape (bundles_in c.args.height.now.front.now))
-      (sym c.in_ok-pass_places.ensures.cursor) (c.find_values.ensures.stands shape s);
+      subst (StandOn c.args.height.now.edges.now shape (bundles_in c.args.height.now.front.now))
+      (sym c.in_ok-pass_places.ensures.cursors) (c.find_values.ensures.stands shape s);
   passed = λ on passed of balanced stands tells.
       let h = c.args.height.now in
       let old : List Mark = c.args.kept.now.marks.items in
@@ -58,17 +58,17 @@ returns c = record {
       let alike : stretch_spots h old run fs ≡ stretch_spots h mid run fs = same_stretch h old mid run fs names in
       let valued = subst (λ (x : Height). AreValuedIn x on.shape run mid) (sym of.0)
       (c.find_values.ensures.values on.shape balanced stands) in
-      let stand = subst (λ (x : Height). StandsOn x.edges.now on.shape
-      (bundles_in x.front.now) c.find_values.new.kept.cursor)
+      let stand = subst (λ (x : Height). StandOn x.edges.now on.shape
+      (bundles_in x.front.now) c.find_values.new.kept.cursors)
       (sym of.0) (c.find_values.ensures.stands on.shape stands) in
       let same : c.find_values.new.kept.given.items ≡ given = rw c.find_values.ensures.given refl in
       let e = c.in_ok-pass_places.ensures.passed on passed of (λ stops at all.
       tells stops at (subst (λ (ts : List Spot). AreStopsOf ts (spots_in stops)) (sym alike) all)) in (
         e.0,
         subst (λ (ts : List Spot). AreStopsOf ts e.0) (sym alike) e.1,
-        λ reached. e.2 (with_cursor on passed e.0 run run.below run.above None mid given
+        λ reached. e.2 (with_cursors on passed e.0 run run.below run.above None mid given
             c.find_values.new.kept.given.items
-            c.args.kept.now.cursor c.find_values.new.kept.cursor same stand
+            c.args.kept.now.cursors c.find_values.new.kept.cursors same stand
             (reached mid c.find_values.ensures.rest valued)),
       );
 }

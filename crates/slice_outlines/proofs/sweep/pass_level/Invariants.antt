@@ -4,7 +4,7 @@ use Rattle.slice_outlines.proofs.Levelling.{IsSoFar}
 use Rattle.slice_outlines.proofs.sweep.pass_level.Given as goal
 
 abbrev pub invariant-stretches : goal.invariant-stretches
-invariant-stretches l = (w : IsAtLevel l.height l.fn.kept.marks.items l.changes l.flats l.fn.kept.cursor)
+invariant-stretches l = (w : IsAtLevel l.height l.fn.kept.marks.items l.changes l.flats l.fn.kept.cursors)
     → IsSoFar l.height l.changes l.flats l.fn.kept w l.from l.passed l.kept
 
 abbrev pub decreases-stretches : goal.decreases-stretches

@@ -1,11 +1,11 @@
--- As long as it stands between strands that meet, it goes on to the right.
+-- As long as it stands in the way, it goes on to the right.
 use Rattle.std.proofs.Common.{arith}
 use Rattle.slice_sweep.specs.Front.{bundles_in}
 use Rattle.slice_outlines.proofs.Standing.{names_there, named_size}
 use Rattle.slice_outlines.proofs.cursor.Cursor.leave.Goals as goal
 
-pub is_within-requires-clause-there : goal.is_within-requires-clause-there
-is_within-requires-clause-there c =
+pub is_clear-requires-clause-there : goal.is_clear-requires-clause-there
+is_clear-requires-clause-there c =
     names_there c.args.edges.now c.args.marks.now (bundles_in c.args.front.now) c.requires.named c.requires.members
 
 pub go_right-requires-clause-stands : goal.go_right-requires-clause-stands
@@ -17,7 +17,7 @@ go_right-requires-clause-stands c = record {
 pub go_right-requires-clause-there : goal.go_right-requires-clause-there
 go_right-requires-clause-there c =
     let size = named_size c.args.marks.now (bundles_in c.args.front.now) c.requires.named in
-    omega (arith, size, c.is_within.ensures.within c.strands-test.true)
+    omega (arith, size, c.is_clear.ensures.within c.strands-test.true)
 
 pub strands-smaller : goal.strands-smaller
-strands-smaller c = omega (arith, c.is_within.ensures.within c.strands-test.true)
+strands-smaller c = omega (arith, c.is_clear.ensures.within c.strands-test.true)

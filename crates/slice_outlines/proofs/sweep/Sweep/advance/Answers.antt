@@ -1,8 +1,8 @@
 -- The front is lifted, and what is kept beside it passes the level.
-use Rattle.std.proofs.Common.{◌≡◌, ◌≤◌, ◌-◌, ℕ, List, [], length, take, drop, refl, sym, ap, ◌∙◌, subst}
-use Rattle.std.specs.List.{AllByRecursion, AllZip}
+use Rattle.std.proofs.Common.{◌≡◌, ◌≤◌, ◌<◌, ◌-◌, ℕ, List, length, get_or, take, drop, refl, sym, ap, ◌∙◌, subst}
+use Rattle.std.specs.List.{All, AllByRecursion, AllZip}
 use Rattle.scad_geom.specs.Level.{level_of, IsLower, IsAtMost}
-use Rattle.slice_outlines.specs.Marks.{IsNamed}
+use Rattle.slice_outlines.specs.Marks.{IsNamed, mark_at, spot_at}
 use Rattle.std.proofs.lemmas.List.Elements.{recursion_from_All}
 use Rattle.slice_sweep.specs.declared.change.Change.{Change}
 use Rattle.slice_sweep.specs.declared.front.Front.{Front}
@@ -11,25 +11,31 @@ use Rattle.slice_sweep.specs.Front.{bundles_in, IsBegunTo}
 use Rattle.slice_outlines.specs.declared.mark.Mark.{Mark}
 use Rattle.slice_outlines.specs.declared.flat.Flat.{Flat}
 use Rattle.slice_outlines.specs.Above.{AreTaken}
-use Rattle.slice_outlines.specs.Cursor.{IsApartAt}
-use Rattle.slice_outlines.specs.Flats.{LiesOn, IsOff}
+use Rattle.slice_outlines.specs.declared.cursor.Cursor.{Cursor}
+use Rattle.slice_outlines.specs.Flats.{LiesOn, IsOff, LiesAside}
 use Rattle.slice_outlines.specs.Level.{AreFlatsOn}
 use Rattle.slice_outlines.proofs.Few.{bundles_few}
 use Rattle.slice_outlines.proofs.Fitting.{named_size, fits_apart}
 use Rattle.slice_outlines.proofs.Climbing.{swept_members, swept_named, swept_few, can_shift}
 use Rattle.slice_outlines.proofs.FlatsOn.{level_flats, next_lower, next_later}
-use Rattle.slice_outlines.proofs.Advancing.{changes_as, told_as, none_between, climbs, climbed}
+use Rattle.slice_outlines.proofs.Advancing.{changes_as, told_as, climbs, climbed}
+use Rattle.slice_outlines.proofs.Ended.{marks_all_pass}
 use Rattle.slice_outlines.proofs.sweep.Sweep.advance.Goals as goal
 
-pub clear_cursor-requires-clause-members : goal.clear_cursor-requires-clause-members
-clear_cursor-requires-clause-members c =
+pub clear_cursors-requires-clause-members : goal.clear_cursors-requires-clause-members
+clear_cursors-requires-clause-members c =
     let w = c.requires.swept in
     swept_members c.args.edges.now w.shape w.levels c.args.at.now _ c.args.self.now w.swept
 
-pub clear_cursor-requires-clause-named : goal.clear_cursor-requires-clause-named
-clear_cursor-requires-clause-named c =
+pub clear_cursors-requires-clause-named : goal.clear_cursors-requires-clause-named
+clear_cursors-requires-clause-named c =
     let w = c.requires.swept in
     swept_named c.args.edges.now w.shape w.levels c.args.at.now _ c.args.self.now w.swept
+
+pub clear_cursors-requires-clause-pass : goal.clear_cursors-requires-clause-pass
+clear_cursors-requires-clause-pass c =
+    let w = c.requires.swept in
+    marks_all_pass c.args.edges.now w.shape w.levels c.args.at.now _ c.args.self.now w.swept w.are_levels _ refl
 
 pub shift-requires : goal.shift-requires
 shift-requires c =
@@ -37,25 +43,24 @@ shift-requires c =
     let es = c.args.edges.now in
     let l = c.args.at.now in
     let s = c.args.self.now in
-    let cc = c.clear_cursor.new.self in
+    let cc = c.clear_cursors.new.self in
     let up = bundles_in c.advance.new.self in
     let cs : List Change = c.in_ok-changes.changes.items in
     let bundles = c.in_ok-changes.ensures.bundles in
-    let front : cc.front ≡ s.front = c.clear_cursor.ensures.front in
-    let marks : cc.kept.marks.items ≡ s.kept.marks.items = ap (λ v. v.items) c.clear_cursor.ensures.marks in
+    let front : cc.front ≡ s.front = c.clear_cursors.ensures.front in
+    let marks : cc.kept.marks.items ≡ s.kept.marks.items = ap (λ v. v.items) c.clear_cursors.ensures.marks in
     let begun : IsBegunTo es l cc.front = subst (IsBegunTo es l) (sym front) w.swept.ready.1 in
     let ch : AreChanges es l (bundles_in s.front) up cs = subst (λ (f : Front). AreChanges es l
     (bundles_in f) up cs) front
     (c.in_ok-changes.ensures.changes begun) in
     let named = swept_named es w.shape w.levels l _ s w.swept in
-    let on = c.clear_cursor.ensures.stands w.shape w.swept.cursor in
-    let apart : IsApartAt es l s.kept.marks.items cc.kept.cursor.at =
-    subst (λ (ms : List Mark). IsApartAt es l ms cc.kept.cursor.at) marks c.clear_cursor.ensures.clear.apart in
+    let on = c.clear_cursors.ensures.stands w.shape w.swept.cursors in
     let few = swept_few es w.shape w.levels l _ s w.swept c.requires.few in
     record {
-      told = can_shift es l s.kept.marks.items (bundles_in s.front) up c.deref-2.result.now cc.kept.cursor.at
-          (changes_as es l (bundles_in s.front) up cs c.deref-2.result.now c.deref-2.ensures.value ch) named apart
-          on.there
+      told = λ k d o. can_shift es l s.kept.marks.items (bundles_in s.front) up c.deref-2.result.now
+          (get_or cc.kept.cursors.all.items k d).at
+          (changes_as es l (bundles_in s.front) up cs c.deref-2.result.now c.deref-2.ensures.value ch) named
+          (c.clear_cursors.ensures.clear k d o).apart (on.each k d o).there
           few (bundles_few es l c.args.upper.now up bundles c.requires.few);
     }
 
@@ -65,20 +70,18 @@ marks_above-requires c =
     let es = c.args.edges.now in
     let l = c.args.at.now in
     let s = c.args.self.now in
-    let cc = c.clear_cursor.new.self in
+    let cc = c.clear_cursors.new.self in
     let up = bundles_in c.advance.new.self in
     let cs : List Change = c.in_ok-changes.changes.items in
     let bundles = c.in_ok-changes.ensures.bundles in
-    let front : cc.front ≡ s.front = c.clear_cursor.ensures.front in
-    let marks : cc.kept.marks.items ≡ s.kept.marks.items = ap (λ v. v.items) c.clear_cursor.ensures.marks in
+    let front : cc.front ≡ s.front = c.clear_cursors.ensures.front in
+    let marks : cc.kept.marks.items ≡ s.kept.marks.items = ap (λ v. v.items) c.clear_cursors.ensures.marks in
     let begun : IsBegunTo es l cc.front = subst (IsBegunTo es l) (sym front) w.swept.ready.1 in
     let ch : AreChanges es l (bundles_in s.front) up cs = subst (λ (f : Front). AreChanges es l
     (bundles_in f) up cs) front
     (c.in_ok-changes.ensures.changes begun) in
     let named = swept_named es w.shape w.levels l _ s w.swept in
-    let on = c.clear_cursor.ensures.stands w.shape w.swept.cursor in
-    let apart : IsApartAt es l s.kept.marks.items cc.kept.cursor.at =
-    subst (λ (ms : List Mark). IsApartAt es l ms cc.kept.cursor.at) marks c.clear_cursor.ensures.clear.apart in
+    let on = c.clear_cursors.ensures.stands w.shape w.swept.cursors in
     let size : length s.kept.marks.items ≡ length (bundles_in s.front) =
     named_size s.kept.marks.items (bundles_in s.front) named in
     let seen : c.deref-3.result.now ≡ s.kept.marks.items = c.deref-3.ensures.value ∙ marks in
@@ -93,20 +96,18 @@ pass_level-requires c =
     let es = c.args.edges.now in
     let l = c.args.at.now in
     let s = c.args.self.now in
-    let cc = c.clear_cursor.new.self in
+    let cc = c.clear_cursors.new.self in
     let up = bundles_in c.advance.new.self in
     let cs : List Change = c.in_ok-changes.changes.items in
     let bundles = c.in_ok-changes.ensures.bundles in
-    let front : cc.front ≡ s.front = c.clear_cursor.ensures.front in
-    let marks : cc.kept.marks.items ≡ s.kept.marks.items = ap (λ v. v.items) c.clear_cursor.ensures.marks in
+    let front : cc.front ≡ s.front = c.clear_cursors.ensures.front in
+    let marks : cc.kept.marks.items ≡ s.kept.marks.items = ap (λ v. v.items) c.clear_cursors.ensures.marks in
     let begun : IsBegunTo es l cc.front = subst (IsBegunTo es l) (sym front) w.swept.ready.1 in
     let ch : AreChanges es l (bundles_in s.front) up cs = subst (λ (f : Front). AreChanges es l
     (bundles_in f) up cs) front
     (c.in_ok-changes.ensures.changes begun) in
     let named = swept_named es w.shape w.levels l _ s w.swept in
-    let on = c.clear_cursor.ensures.stands w.shape w.swept.cursor in
-    let apart : IsApartAt es l s.kept.marks.items cc.kept.cursor.at =
-    subst (λ (ms : List Mark). IsApartAt es l ms cc.kept.cursor.at) marks c.clear_cursor.ensures.clear.apart in
+    let on = c.clear_cursors.ensures.stands w.shape w.swept.cursors in
     let size : length s.kept.marks.items ≡ length (bundles_in s.front) =
     named_size s.kept.marks.items (bundles_in s.front) named in
     let seen : c.deref-3.result.now ≡ s.kept.marks.items = c.deref-3.ensures.value ∙ marks in
@@ -139,27 +140,33 @@ pass_level-requires c =
     let b = w.swept.flats_below in
     let fs : List Flat = take (to - cc.passed) (drop cc.passed c.deref-6.result.now) in
     let flat_is : take (to - s.passed) (drop s.passed all) ≡ fs =
-    ap (λ (n : ℕ). take (to - n) (drop n all)) (sym c.clear_cursor.ensures.passed)
+    ap (λ (n : ℕ). take (to - n) (drop n all)) (sym c.clear_cursors.ensures.passed)
     ∙ ap (λ (gs : List Flat). take (to - cc.passed) (drop cc.passed gs))
-    (sym (c.deref-6.ensures.value ∙ ap (λ v. v.items) c.clear_cursor.ensures.flats)) in
+    (sym (c.deref-6.ensures.value ∙ ap (λ v. v.items) c.clear_cursors.ensures.flats)) in
     let flats : AreFlatsOn es l fs = subst (AreFlatsOn es l) flat_is
     (level_flats es l d all w.swept.flats s.passed to from b.passed b.later ons off) in
-    let clear = none_between fs cc.passed to c.deref-6.result.now cc.kept.cursor.at (length cc.kept.marks.items) refl
-    c.clear_cursor.ensures.clear.right in
-    let place = c.shift.ensures.place ch.groups
+    let place = c.shift.ensures ch.groups
     (changes_as es l (bundles_in s.front) up cs c.deref-2.result.now c.deref-2.ensures.value ch).told
-    (fits_apart es l ch.groups s.kept.marks.items cc.kept.cursor.at
+    (λ k d o.
+    fits_apart es l ch.groups s.kept.marks.items (get_or cc.kept.cursors.all.items k d).at
     (subst (AllZip (λ m k. IsNamed m.name k) s.kept.marks.items) (sym ch.below_is) named) ch.are_groups.together
-    (subst (λ (bs : List (List ℕ)). cc.kept.cursor.at ≤ length bs) (sym ch.below_is) on.there) apart) in
-    let ended : (fs ≡ [] → ⊥) → cc.kept.cursor.at ≡ length (bundles_in s.front) =
-    λ n. clear n ∙ ap (λ (ms : List Mark). length ms) marks ∙ size in
-    let given = ap (λ v. v.items) c.clear_cursor.ensures.given in
+    (subst (λ (bs : List (List ℕ)). (get_or cc.kept.cursors.all.items k d).at ≤ length bs) (sym ch.below_is)
+    (on.each k d o).there) (c.clear_cursors.ensures.clear k d o).apart) in
+    let aside : (k : ℕ) (d : Cursor) → k < length cc.kept.cursors.all.items
+    → (get_or cc.kept.cursors.all.items k d).at < length c.deref-5.result.now → All (LiesAside l (spot_at es l
+    (mark_at c.deref-5.result.now (get_or cc.kept.cursors.all.items k d).at))) fs =
+    λ k d o.
+    let n : ℕ = (get_or cc.kept.cursors.all.items k d).at in
+    subst (λ (ms : List Mark). n < length ms → All (LiesAside l (spot_at es l (mark_at ms n))) fs) (sym swapped)
+    (λ p. subst (All (LiesAside l (spot_at es l (mark_at s.kept.marks.items n)))) flat_is
+    ((c.clear_cursors.ensures.clear k d o).aside p)) in
+    let given = ap (λ v. v.items) c.clear_cursors.ensures.given in
     record {
       level = climbs _ c.args.upper.now w.shape w.levels w.later s ds w.swept w.are_levels c.requires.balanced
           c.requires.neighbours bundles dh swapped
-          (record { marks = c.replace-below.new.dest; cursor = c.shift.new.self; given = cc.kept.given })
-          (record { marks = c.replace-below.new.dest; cursor = c.shift.new.self; given = cc.kept.given }) taken fs flats
-          c.requires.few given cc.kept.cursor on c.shift.ensures.tally place ended;
+          (record { marks = c.replace-below.new.dest; cursors = c.shift.new.self; given = cc.kept.given })
+          (record { marks = c.replace-below.new.dest; cursors = c.shift.new.self; given = cc.kept.given }) taken fs flats
+          c.requires.few given cc.kept.cursors on place aside;
     }
 
 pub returns : goal.returns
@@ -167,20 +174,18 @@ returns c = λ w.
     let es = c.args.edges.now in
     let l = c.args.at.now in
     let s = c.args.self.now in
-    let cc = c.clear_cursor.new.self in
+    let cc = c.clear_cursors.new.self in
     let up = bundles_in c.advance.new.self in
     let cs : List Change = c.in_ok-changes.changes.items in
     let bundles = c.in_ok-changes.ensures.bundles in
-    let front : cc.front ≡ s.front = c.clear_cursor.ensures.front in
-    let marks : cc.kept.marks.items ≡ s.kept.marks.items = ap (λ v. v.items) c.clear_cursor.ensures.marks in
+    let front : cc.front ≡ s.front = c.clear_cursors.ensures.front in
+    let marks : cc.kept.marks.items ≡ s.kept.marks.items = ap (λ v. v.items) c.clear_cursors.ensures.marks in
     let begun : IsBegunTo es l cc.front = subst (IsBegunTo es l) (sym front) w.swept.ready.1 in
     let ch : AreChanges es l (bundles_in s.front) up cs = subst (λ (f : Front). AreChanges es l
     (bundles_in f) up cs) front
     (c.in_ok-changes.ensures.changes begun) in
     let named = swept_named es w.shape w.levels l _ s w.swept in
-    let on = c.clear_cursor.ensures.stands w.shape w.swept.cursor in
-    let apart : IsApartAt es l s.kept.marks.items cc.kept.cursor.at =
-    subst (λ (ms : List Mark). IsApartAt es l ms cc.kept.cursor.at) marks c.clear_cursor.ensures.clear.apart in
+    let on = c.clear_cursors.ensures.stands w.shape w.swept.cursors in
     let size : length s.kept.marks.items ≡ length (bundles_in s.front) =
     named_size s.kept.marks.items (bundles_in s.front) named in
     let seen : c.deref-3.result.now ≡ s.kept.marks.items = c.deref-3.ensures.value ∙ marks in
@@ -213,26 +218,32 @@ returns c = λ w.
     let b = w.swept.flats_below in
     let fs : List Flat = take (to - cc.passed) (drop cc.passed c.deref-6.result.now) in
     let flat_is : take (to - s.passed) (drop s.passed all) ≡ fs =
-    ap (λ (n : ℕ). take (to - n) (drop n all)) (sym c.clear_cursor.ensures.passed)
+    ap (λ (n : ℕ). take (to - n) (drop n all)) (sym c.clear_cursors.ensures.passed)
     ∙ ap (λ (gs : List Flat). take (to - cc.passed) (drop cc.passed gs))
-    (sym (c.deref-6.ensures.value ∙ ap (λ v. v.items) c.clear_cursor.ensures.flats)) in
+    (sym (c.deref-6.ensures.value ∙ ap (λ v. v.items) c.clear_cursors.ensures.flats)) in
     let flats : AreFlatsOn es l fs = subst (AreFlatsOn es l) flat_is
     (level_flats es l d all w.swept.flats s.passed to from b.passed b.later ons off) in
-    let clear = none_between fs cc.passed to c.deref-6.result.now cc.kept.cursor.at (length cc.kept.marks.items) refl
-    c.clear_cursor.ensures.clear.right in
-    let place = c.shift.ensures.place ch.groups
+    let place = c.shift.ensures ch.groups
     (changes_as es l (bundles_in s.front) up cs c.deref-2.result.now c.deref-2.ensures.value ch).told
-    (fits_apart es l ch.groups s.kept.marks.items cc.kept.cursor.at
+    (λ k d o.
+    fits_apart es l ch.groups s.kept.marks.items (get_or cc.kept.cursors.all.items k d).at
     (subst (AllZip (λ m k. IsNamed m.name k) s.kept.marks.items) (sym ch.below_is) named) ch.are_groups.together
-    (subst (λ (bs : List (List ℕ)). cc.kept.cursor.at ≤ length bs) (sym ch.below_is) on.there) apart) in
-    let ended : (fs ≡ [] → ⊥) → cc.kept.cursor.at ≡ length (bundles_in s.front) =
-    λ n. clear n ∙ ap (λ (ms : List Mark). length ms) marks ∙ size in
-    let given = ap (λ v. v.items) c.clear_cursor.ensures.given in
+    (subst (λ (bs : List (List ℕ)). (get_or cc.kept.cursors.all.items k d).at ≤ length bs) (sym ch.below_is)
+    (on.each k d o).there) (c.clear_cursors.ensures.clear k d o).apart) in
+    let aside : (k : ℕ) (d : Cursor) → k < length cc.kept.cursors.all.items
+    → (get_or cc.kept.cursors.all.items k d).at < length c.deref-5.result.now → All (LiesAside l (spot_at es l
+    (mark_at c.deref-5.result.now (get_or cc.kept.cursors.all.items k d).at))) fs =
+    λ k d o.
+    let n : ℕ = (get_or cc.kept.cursors.all.items k d).at in
+    subst (λ (ms : List Mark). n < length ms → All (LiesAside l (spot_at es l (mark_at ms n))) fs) (sym swapped)
+    (λ p. subst (All (LiesAside l (spot_at es l (mark_at s.kept.marks.items n)))) flat_is
+    ((c.clear_cursors.ensures.clear k d o).aside p)) in
+    let given = ap (λ v. v.items) c.clear_cursors.ensures.given in
     climbed _ c.args.upper.now w.shape w.levels w.later s ds w.swept w.are_levels c.requires.balanced
     c.requires.neighbours bundles dh swapped
-    (record { marks = c.replace-below.new.dest; cursor = c.shift.new.self; given = cc.kept.given })
+    (record { marks = c.replace-below.new.dest; cursors = c.shift.new.self; given = cc.kept.given })
     c.pass_level.new.kept
-    taken fs flats c.requires.few given cc.kept.cursor on c.shift.ensures.tally place ended
+    taken fs flats c.requires.few given cc.kept.cursors on place aside
     c.in_ok-pass_level.ensures
     (record {
       alloc = cc.alloc;
@@ -240,15 +251,15 @@ returns c = λ w.
       kept = c.pass_level.new.kept;
       flats = cc.flats;
       passed = to;
-    }) refl refl (ap (λ v. v.items) c.clear_cursor.ensures.flats)
+    }) refl refl (ap (λ v. v.items) c.clear_cursors.ensures.flats)
     (subst (λ (gs : List Flat). to ≤ length gs) listed c.flats_to-flat_to.ensures.to)
     (record {
       passed = subst (λ (gs : List Flat). AllByRecursion (λ f. IsLower (level_of f.y) c.args.upper.now) (take to gs))
-          (sym (ap (λ v. v.items) c.clear_cursor.ensures.flats))
+          (sym (ap (λ v. v.items) c.clear_cursors.ensures.flats))
           (next_lower es l d all w.swept.flats s.passed to from b.passed b.later ons off c.args.upper.now
           c.requires.neighbours);
       later = subst (λ (gs : List Flat). AllByRecursion (λ f. IsAtMost c.args.upper.now (level_of f.y)) (drop to gs))
-          (sym (ap (λ v. v.items) c.clear_cursor.ensures.flats))
+          (sym (ap (λ v. v.items) c.clear_cursors.ensures.flats))
           (next_later es l d all w.swept.flats s.passed to from b.passed b.later ons off c.args.upper.now
           c.requires.neighbours);
     }) c.in_ok-changes.ensures.ready c.in_ok-changes.ensures.begun

@@ -29,7 +29,7 @@ pub pass_places-requires-clause-below_pass : goal.pass_places-requires-clause-be
 pass_places-requires-clause-below_pass c =
     let w = c.requires.swept in
     let marks = c.deref.ensures.value ∙ ap (λ v. v.items) c.replace-below.ensures.value in
-    marks_all_pass c.args.edges.now w.shape w.levels c.args.top.now c.args.self w.swept w.are_levels c.deref.result.now
+    marks_all_pass c.args.edges.now w.shape w.levels c.args.top.now [] c.args.self w.swept w.are_levels c.deref.result.now
     marks
 
 pub returns : goal.returns
@@ -37,9 +37,9 @@ returns c = λ w.
     let s = c.args.self in
     let marks = c.deref.ensures.value ∙ ap (λ v. v.items) c.replace-below.ensures.value in
     all_merged _ w.shape w.levels s w.swept w.are_levels marks c.in_ok-front.ensures.none
-    (record { marks = c.replace-below.new.dest; cursor = c.clear.new.self; given = s.kept.given })
+    (record { marks = c.replace-below.new.dest; cursors = c.clear.new.self; given = s.kept.given })
     c.pass_places.new.kept
     _ _ (c.len.ensures ∙ sym c.deref.ensures.len)
     (all_from c.deref-2.result.now s.flats.items s.passed c.deref-2.ensures.value) (ap
     (λ v. v.items) c.replace-below.ensures.after ∙ c.new.ensures.items)
-    refl (c.clear.ensures w.shape (w.swept.cursor)) c.in_ok-pass_places.ensures.passed
+    refl (c.clear.ensures w.shape (w.swept.cursors)) c.in_ok-pass_places.ensures.passed

@@ -7,7 +7,7 @@ use Rattle.sweep_laws.proofs.HeightByHeight.{sweeps_begin}
 use Rattle.sweep_laws.proofs.Edges.{ways_give_edges}
 use Rattle.slice_outlines.specs.declared.mark.Mark.{Mark}
 use Rattle.slice_outlines.specs.Marks.{AreKept}
-use Rattle.slice_outlines.specs.Cursor.{StandsOn}
+use Rattle.slice_outlines.specs.Cursors.{StandOn}
 use Rattle.slice_outlines.proofs.Beginning.{ready_first, none_below, flats_above}
 use Rattle.slice_outlines.proofs.sweep.Sweep.new.Goals as goal
 
@@ -26,8 +26,8 @@ returns c ls a =
           (subst (λ (xs : List Edge). IsPermutation [] xs) (sym c.nothing.ensures.given) (IsPermutation-refl []));
       bundles = sym c.in_ok-front.ensures.none;
       kept = subst (λ (ms : List Mark). AreKept false ms []) (sym c.nothing.ensures.marks) tt;
-      cursor = subst (λ (bs : List (List ℕ)). StandsOn es shape bs kept.cursor) (sym c.in_ok-front.ensures.none)
-          (subst (StandsOn es shape []) (sym c.nothing.ensures.cursor) c.in_ok-cursor.ensures);
+      cursors = subst (λ (bs : List (List ℕ)). StandOn es shape bs kept.cursors) (sym c.in_ok-front.ensures.none)
+          (subst (StandOn es shape []) (sym c.nothing.ensures.cursors) c.in_ok-cursors.ensures);
       flats = c.in_ok-flats.ensures;
       passed = omega arith;
       flats_below = flats_above es ls
