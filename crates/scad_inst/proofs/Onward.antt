@@ -1,5 +1,5 @@
 -- What is at work and what follows it, as the parts of a statement begin.
-use Rattle.std.proofs.Common.{◌≡◌, ◌≢◌, ℕ, ◌+◌, ◌-◌, ◌<◌, ◌≤◌, Bool, true, false, if◌then◌else◌, List, [], ◌∷◌, ◌++◌, length, get_or, drop, Option, Some, None, Vec, Global, refl, sym, ap, ap₂, ◌∙◌}
+use Rattle.std.proofs.Common.{◌≡◌, ◌≢◌, ℕ, ◌+◌, ◌-◌, ◌<◌, ◌≤◌, Bool, true, false, if◌then◌else◌, List, [], ◌∷◌, ◌++◌, length, get_or, drop, Option, Some, None, Result, Ok, Err, IfErr, Vec, Global, refl, sym, ap, ap₂, ◌∙◌}
 use Rattle.std.proofs.lemmas.List.{drop_all}
 use Rattle.std.specs.Borrow.{Bor}
 use Rattle.scad_fault.specs.declared.place.Place.{Place}
@@ -15,8 +15,10 @@ use Rattle.scad_tree.specs.Normal.{united}
 use Rattle.scad_tree.specs.Solid.{Solid, nothing}
 use Rattle.scad_tree.specs.View.{solids}
 use Rattle.scad_machine.specs.declared.fault.EvalFault.{EvalFault}
+use Rattle.scad_machine.specs.declared.fault.EvalFault.TheVariants.{Memory}
+use Rattle.scad_machine.specs.declared.machine.Machine.{Machine}
 use Rattle.scad_expr.specs.Arguments.{is_statement}
-use Rattle.scad_expr.specs.Machine.{Held, env_in, along_in}
+use Rattle.scad_expr.specs.Machine.{Held, held, env_in, along_in, state_of}
 use Rattle.scad_expr.specs.Meaning.{meaning, values, value, Opened}
 use Rattle.scad_expr.specs.Meaning.{Below as Expressions}
 use Rattle.scad_expr.specs.Opened.{left, opened_in}
@@ -31,6 +33,7 @@ use Rattle.scad_inst.specs.declared.modules.Call.{Call}
 use Rattle.scad_inst.specs.declared.modules.Variable.{Variable}
 use Rattle.scad_inst.specs.declared.remainder.Remainder.{Remainder}
 use Rattle.scad_inst.specs.declared.space.Where.{Where}
+use Rattle.scad_inst.specs.declared.stack.Stack.{Stack}
 use Rattle.scad_inst.specs.declared.work.Frame.{Frame}
 use Rattle.scad_inst.specs.declared.work.Frame.TheVariants.{Mark, Member, Then, Combine, Hull, Leave}
 use Rattle.scad_inst.specs.declared.work.Focus.{Focus}
@@ -47,7 +50,7 @@ use Rattle.scad_inst.specs.Portions.{called_with, own_opened}
 use Rattle.scad_inst.specs.Profiles.{with_its_profiles}
 use Rattle.scad_inst.specs.Scopes.{item_place, is_marked}
 use Rattle.scad_inst.specs.Where.{at_first}
-use Rattle.scad_inst.specs.Stack.{Rest, onto, rest_of, listed, ended, goes_on, with_member, left_in}
+use Rattle.scad_inst.specs.Stack.{Goes, Starts, Rest, onto, rest_of, listed, ended, goes_on, with_member, left_in}
 use Rattle.scad_inst.proofs.Calls.{own-call}
 use Rattle.scad_inst.proofs.Levels.{expressions-are, statement-some}
 use Rattle.scad_inst.proofs.ScopeFrames.{depth-left}
@@ -60,6 +63,12 @@ rest-push (g ∷ all) f k = rest-push all f (onto g k)
 pub ruleset stacks = (rest-push)
 
 pub ruleset nodes = (twice)
+
+-- ---- what begins, whatever the machine holds, goes on
+pub starts-goes : (whole begun : Outcome Solid) (r : Result Focus EvalFault) (stack : Stack) (m : Machine)
+    → whole ≡ begun → Starts begun r stack (held m) (state_of m) → IfErr r (λ e. e ≡ Memory) → Goes whole r stack m
+starts-goes whole begun (Ok f) stack m is starts memory = is ∙ starts
+starts-goes whole begun (Err e) stack m is starts memory = λ some. absurd (some memory)
 
 -- ---- the items of a scope
 module _ (h : Held) (w : Where) (i : Item) (f : Focus) (k : Rest) (ss : List Solid) (s : State) where

@@ -33,6 +33,12 @@ primitive_made s at name w env along args found = do
   p ← argued at name (primitive_of s (fineness env along) args found)
   leaf at p w.whole
 
+-- the leaves of outlines, and the first without the others
+unfoldable pub first_without_others : Place → List ℕ → Where → List Outline → Action Solid
+first_without_others at name w os = do
+  ss ← flat_leaves at name w os []
+  judged at (subtracted ss)
+
 -- a flat shape by the values of its arguments
 unfoldable pub flat_made : Flat → Place → List ℕ → Where → Env → Env → Arguments → List Datum → Action Solid
 flat_made f at name w env along args found = do

@@ -1,20 +1,25 @@
 -- What is left to do, on a stack of its own: what is at work, and the frames that wait for its tree.
-use Rattle.std.specs.Prelude.{◌≡◌, ◌≢◌, List, [], ◌∷◌, ◌++◌, drop, Result, Ok, Err, Option, Some, None, Bool, if◌then◌else◌}
+use Rattle.std.specs.Prelude.{◌≡◌, ◌≢◌, ℕ, List, [], ◌∷◌, ◌++◌, drop, Result, Ok, Err, OnOk, Option, Some, None, Bool, if◌then◌else◌, Vec}
+use Rattle.std.specs.Global.{Global}
+use Rattle.scad_fault.specs.declared.place.Place.{Place}
 use Rattle.scad_ast.specs.Scope.{item_of, items}
 use Rattle.scad_ast.specs.View.{arguments}
 use Rattle.scad_ast.specs.Tree.{Item, Items}
 use Rattle.scad_value.specs.Datum.{Datum}
 use Rattle.scad_value.specs.View.{data_of}
+use Rattle.scad_tree.specs.declared.node.Node.{Node}
 use Rattle.scad_tree.specs.Normal.{united}
 use Rattle.scad_tree.specs.Solid.{Solid, nothing}
 use Rattle.scad_tree.specs.View.{solid_of, solids}
 use Rattle.scad_machine.specs.declared.fault.EvalFault.{EvalFault}
 use Rattle.scad_machine.specs.declared.fault.EvalFault.TheVariants.{Memory}
 use Rattle.scad_machine.specs.declared.machine.Machine.{Machine}
+use Rattle.scad_expr.specs.Answers.{Does}
 use Rattle.scad_expr.specs.Machine.{Held, held, env_in, along_in, state_of}
 use Rattle.scad_expr.specs.Opened.{left}
 use Rattle.scad_expr.specs.Portions.{numbers_left}
 use Rattle.scad_expr.specs.State.{State, Outcome, gives, refuses, Action, pure, and_then, ◌>>=◌}
+use Rattle.scad_inst.specs.declared.operation.Operation.{Operation}
 use Rattle.scad_inst.specs.declared.remainder.Remainder.{Remainder}
 use Rattle.scad_inst.specs.declared.remainder.Remainder.TheVariants.{Values, Numbers}
 use Rattle.scad_inst.specs.declared.run.Next.{Next}
@@ -86,6 +91,11 @@ onto (Combine o at outer) k h ss t = judged at (operated o ss) >>= k h (solids o
 onto (Hull c w from) k h ss t = hull_made c.at c.name.now w from t >>= k h ss
 onto (Leave back) k h ss t = k (left back h) ss t
 
+-- what waited before with these members, is an operation over others now, whose frames are left first
+abbrev pub Begins : Operation → Place → ℕ → Rest → List Solid → Rest → Type 0
+Begins o at back k ss now =
+    (outer : Vec Node Global) × (solids outer.items ≡ ss) × (now ≡ onto (Leave back) (onto (Combine o at outer) k))
+
 -- the frame behind all others is the first that goes on
 abbrev pub rest_of : List Frame → Rest → Rest
 rest_of [] k = k
@@ -122,3 +132,15 @@ Ends whole (Err e) stack m = e ≢ Memory → whole ≡ refuses e (state_of m)
 abbrev pub Starts : Outcome Solid → Result Focus EvalFault → Stack → Held → State → Type 0
 Starts whole (Ok f) stack h s = whole ≡ goes_on f (rest stack) h (made_in stack) s
 Starts whole (Err e) stack h s = Unit {0}
+
+-- where a tree is given, it is at work, and then comes what waits
+abbrev pub GoesOn : Result Node EvalFault → Result Focus EvalFault → Type 0
+GoesOn tree focus =
+    (whole o : Outcome Solid) (stack : Stack) (h : Held) (m : Machine)
+    → whole ≡ and_then o (rest stack h (made_in stack)) → Does solid_of o tree (state_of m) → OnOk tree (held m ≡ h)
+    → Goes whole focus stack m
+
+-- whatever goes on by the one ends by the other
+abbrev pub IsMore : Result Focus EvalFault → Result Next EvalFault → Type 0
+IsMore focus next = (whole : Outcome Solid) (stack : Stack) (m : Machine) → Goes whole focus stack m
+    → Ends whole next stack m

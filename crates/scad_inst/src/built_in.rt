@@ -1,6 +1,7 @@
 //! The modules of the language.
 
-ghost use Rattle.std.specs.Prelude.{◌≡◌, List, OnOk};
+ghost use Rattle.std.specs.Prelude.{◌≡◌, List, OnOk, IfOk, true};
+ghost use Rattle.std.specs.List.{list_all};
 ghost use Rattle.scad_ast.specs.Scope.{items};
 ghost use Rattle.scad_ast.specs.Tree.{Arguments};
 ghost use Rattle.scad_ast.specs.View.{arguments};
@@ -8,15 +9,20 @@ ghost use Rattle.scad_tree.specs.Solid.{Solid};
 ghost use Rattle.scad_tree.specs.View.{solid_of};
 ghost use Rattle.scad_value.specs.Datum.{Datum};
 ghost use Rattle.scad_value.specs.View.{data_of};
-ghost use Rattle.scad_modules.specs.View.{fine_at};
+ghost use Rattle.scad_modules.specs.View.{fine_at, primitive, outlines};
+ghost use Rattle.scad_modules.specs.Extrusions.{turned_by};
+ghost use Rattle.scad_modules.specs.FlatShapes.{outlines_of};
+ghost use Rattle.scad_modules.specs.Outline.{is_outline};
+ghost use Rattle.scad_modules.specs.Primitive.{is_primitive};
+ghost use Rattle.scad_modules.specs.Shapes.{primitive_of};
 ghost use Rattle.scad_expr.specs.Answers.{Does, nothing};
 ghost use Rattle.scad_expr.specs.Machine.{held, env_in, along_in, state_of};
 ghost use Rattle.scad_expr.specs.State.{State, Outcome, gives};
 ghost use Rattle.scad_inst.specs.Frames.{below_of};
 ghost use Rattle.scad_inst.specs.Meaning.{built_in};
 ghost use Rattle.scad_inst.specs.Opened.{fineness};
-ghost use Rattle.scad_inst.specs.Made.{judge_solid, judge_flat};
-ghost use Rattle.scad_inst.specs.Portions.{primitive_made, flat_made};
+ghost use Rattle.scad_inst.specs.Made.{argued, judge_solid, judge_flat};
+ghost use Rattle.scad_inst.specs.Portions.{primitive_made, flat_made, first_without_others};
 ghost use Rattle.scad_inst.specs.Stack.{Goes, onward};
 ghost use Rattle.scad_modules.specs.declared.module.Module.TheVariants.{Extrusion as IsExtrusion, Transform as IsTransform, Hull as IsHull, Echo as IsEcho, Assert as IsAssert};
 ghost use Rattle.scad_modules.specs.declared.module.Extrusion.TheVariants.{Linear as IsLinear, Rotate as IsRotate};
@@ -35,12 +41,12 @@ use crate::refusals::fault;
 use crate::space::{Space, Where, inside_linear, turned_at};
 use crate::stack::Stack;
 use crate::trees::made;
-use crate::work::{Focus, Frame};
+use crate::work::{Focus, Frame, at_work};
 use scad_expr::{EvalFault, Machine, asserted};
 use scad_fault::{FaultKind, Place};
 use scad_modules::{
-    Extrusion, Fineness, Flat, Module, Shape, Transform, linear_by, matrix_of, outlines_of,
-    primitive_of, taken, turned_by,
+    Extrusion, Fineness, Flat, Module, Outline, Primitive, Resolution, Shape, Transform, linear_by,
+    matrix_of, outlines_of, primitive_of, taken, turned_by,
 };
 use scad_tree::Tree;
 use scad_value::Value;
@@ -63,8 +69,8 @@ pub(crate) fn built_in<'p>(
 {
     let alloc = stack.alloc;
     match known {
-        Module::Shape(shape) => Ok(Focus::Given(primitive(alloc, shape, call, found, w, m)?)),
-        Module::Flat(flat) => Ok(Focus::Given(flat_shape(alloc, flat, call, found, w, m)?)),
+        Module::Shape(shape) => at_work(primitive(alloc, shape, call, found, w, m)),
+        Module::Flat(flat) => at_work(flat_shape(alloc, flat, call, found, w, m)),
         Module::Extrusion(Extrusion::Linear) => linear_extrude(call, found, w, stack, m),
         Module::Extrusion(Extrusion::Rotate) => rotate_extrude(call, found, w, stack, m),
         Module::Transform(transform) => transformed(transform, call, found, w, stack, m),
@@ -115,6 +121,24 @@ fn judge_flat(alloc: Global, at: Place, space: Space) -> Result<(), EvalFault>
     }
 }
 
+/// The primitive that the arguments of a call say.
+fn called_primitive<'p>(
+    alloc: Global,
+    shape: Shape,
+    call: Call<'p>,
+    found: &[Value],
+    m: &Machine<'p>,
+) -> Result<Primitive, EvalFault>
+    ensures does { Does primitive (argued call.entry.at call.entry.name.now (primitive_of shape (fineness (env_in
+        (held m.now)) (along_in (held m.now))) (arguments call.entry.args.now.items) (data_of found.now)) (state_of
+        m.now)) result (state_of m.now) }
+    ensures primitive { IfOk result (λ p. is_primitive (primitive p) ≡ true) }
+{
+    let fine = fineness(alloc, m)?;
+    let read = primitive_of(alloc, shape, &fine, call.args, found);
+    primitive_argued(alloc, call.at, call.name, read)
+}
+
 /// `cube`, `sphere`, `cylinder` and `polyhedron`.
 #[tactic(auto, unfolding(crate::specs::Portions::primitive_made))]
 fn primitive<'p>(
@@ -131,18 +155,48 @@ fn primitive<'p>(
     ensures kept { OnOk result (held m.new ≡ held m.old) }
 {
     judge_solid(alloc, call.at, w.space)?;
-    let fine = fineness(alloc, m)?;
-    let primitive = primitive_argued(
-        alloc,
-        call.at,
-        call.name,
-        primitive_of(alloc, shape, &fine, call.args, found),
-    )?;
+    let primitive = called_primitive(alloc, shape, call, found, m)?;
     leaf(alloc, call.at, &primitive, &w.whole, m)
 }
 
+/// The outlines that the arguments of a call say.
+fn called_outlines<'p>(
+    alloc: Global,
+    flat: Flat,
+    call: Call<'p>,
+    found: &[Value],
+    m: &Machine<'p>,
+) -> Result<Vec<Outline>, EvalFault>
+    ensures does { Does (λ v. outlines v.items) (argued call.entry.at call.entry.name.now (outlines_of flat (fineness
+        (env_in (held m.now)) (along_in (held m.now))) (arguments call.entry.args.now.items) (data_of found.now))
+        (state_of m.now)) result (state_of m.now) }
+    ensures outlines { IfOk result (λ v. list_all is_outline (outlines v.items) ≡ true) }
+{
+    let fine = fineness(alloc, m)?;
+    let read = outlines_of(alloc, flat, &fine, call.args, found);
+    outlines_argued(alloc, call.at, call.name, read)
+}
+
+/// The leaves of outlines, and the first without the others.
+#[tactic(auto, unfolding(crate::specs::Portions::first_without_others))]
+fn first_without_others<'p>(
+    alloc: Global,
+    call: Call<'p>,
+    w: &Where,
+    shapes: &[Outline],
+    m: &mut Machine<'p>,
+) -> Result<Tree, EvalFault>
+    requires { list_all is_outline (outlines shapes.now) ≡ true }
+    ensures does { Does solid_of (first_without_others call.entry.at call.entry.name.now w.now (outlines shapes.now)
+        (state_of m.old)) result (state_of m.new) }
+    ensures kept { OnOk result (held m.new ≡ held m.old) }
+{
+    let leaves = flat_leaves(alloc, call.at, call.name, w, shapes, m)?;
+    made(alloc, Operation::Subtract, call.at, leaves)
+}
+
 /// `square`, `circle` and `polygon`.
-#[tactic(auto, unfolding(crate::specs::Portions::flat_made))]
+#[tactic(auto, unfolding(crate::specs::Portions::flat_made, crate::specs::Portions::first_without_others))]
 fn flat_shape<'p>(
     alloc: Global,
     flat: Flat,
@@ -157,15 +211,8 @@ fn flat_shape<'p>(
     ensures kept { OnOk result (held m.new ≡ held m.old) }
 {
     judge_flat(alloc, call.at, w.space)?;
-    let fine = fineness(alloc, m)?;
-    let outlines = outlines_argued(
-        alloc,
-        call.at,
-        call.name,
-        outlines_of(alloc, flat, &fine, call.args, found),
-    )?;
-    let leaves = flat_leaves(alloc, call.at, call.name, w, &outlines, m)?;
-    made(alloc, Operation::Subtract, call.at, leaves)
+    let outlines = called_outlines(alloc, flat, call, found, m)?;
+    first_without_others(alloc, call, w, &outlines, m)
 }
 
 /// `linear_extrude`.
@@ -188,6 +235,22 @@ fn linear_extrude<'p>(
     combined(Operation::Unite, call.at, call.all, &inner, stack, m)
 }
 
+/// The numbers by which the turns of a `rotate_extrude` are counted, as the arguments of a call say.
+fn called_resolution<'p>(
+    alloc: Global,
+    call: Call<'p>,
+    found: &[Value],
+    m: &Machine<'p>,
+) -> Result<Resolution, EvalFault>
+    ensures { Does (λ r. r) (argued call.entry.at call.entry.name.now (turned_by (fineness (env_in (held m.now))
+        (along_in (held m.now))) (arguments call.entry.args.now.items) (data_of found.now)) (state_of m.now)) result
+        (state_of m.now) }
+{
+    let fine = fineness(alloc, m)?;
+    let read = turned_by(&fine, call.args, found);
+    resolution_argued(alloc, call.at, call.name, read)
+}
+
 /// `rotate_extrude`.
 #[tactic(auto, using(crate::proofs::Onward::nodes), unfolding(crate::specs::Meaning::built_in))]
 fn rotate_extrude<'p>(
@@ -204,9 +267,7 @@ fn rotate_extrude<'p>(
 {
     let alloc = stack.alloc;
     judge_solid(alloc, call.at, w.space)?;
-    let fine = fineness(alloc, m)?;
-    let read = turned_by(&fine, call.args, found);
-    let resolution = resolution_argued(alloc, call.at, call.name, read)?;
+    let resolution = called_resolution(alloc, call, found, m)?;
     let inner = Where {
         whole: w.whole,
         space: Space::Turned(turned_at(call.at, resolution)),

@@ -21,7 +21,7 @@ use crate::remainder::{Remainder, naming, next_child};
 use crate::scopes::open_scope;
 use crate::space::Where;
 use crate::stack::Stack;
-use crate::work::{Focus, Frame};
+use crate::work::Focus;
 use scad_ast::{Item, Scope};
 use scad_expr::{EvalFault, Machine};
 use scad_fault::Place;
@@ -64,10 +64,8 @@ fn run_children<'p>(
         → Goes o result stack.new m.new }
 {
     let back = open_scope(stack.alloc, kept.home, kept.scope, m)?;
-    let outer = stack.exchange(Vec::new(stack.alloc));
-    stack.push(Frame::Combine(Operation::Unite, at, outer))?;
-    stack.push(Frame::Leave(back))?;
-    Ok(chosen(which, kept.scope, w, stack)?)
+    stack.begin(Operation::Unite, at, back)?;
+    chosen(which, kept.scope, w, stack)
 }
 
 /// All children, or those that the items of a value name.

@@ -21,7 +21,7 @@ use crate::scopes::open_scope;
 use crate::space::Where;
 use crate::stack::Stack;
 use crate::trees::made;
-use crate::work::{Focus, Frame};
+use crate::work::{Focus, Frame, at_work};
 use scad_ast::{Item, Scope};
 use scad_expr::{EvalFault, Machine};
 use scad_fault::Place;
@@ -99,9 +99,7 @@ pub(crate) fn combined<'p>(
 {
     let home = here(m);
     let back = open_scope(stack.alloc, home, scope, m)?;
-    let outer = stack.exchange(Vec::new(stack.alloc));
-    stack.push(Frame::Combine(operation, at, outer))?;
-    stack.push(Frame::Leave(back))?;
+    stack.begin(operation, at, back)?;
     Ok(Focus::Members(scope, 0, *w))
 }
 
@@ -118,5 +116,5 @@ pub(crate) fn made_of<'p>(
         (rest stack.old (held m.old) (trees_in outer))) result stack.new m.new }
 {
     let members = stack.exchange(outer);
-    Ok(Focus::Given(made(stack.alloc, operation, at, members)?))
+    at_work(made(stack.alloc, operation, at, members))
 }

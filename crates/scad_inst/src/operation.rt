@@ -1,7 +1,7 @@
 //! Set operations over the statements of a scope.
 
 /// What is made of the trees of statements.
-#[derive(Clone, Copy, Debug, PartialEq, Eq)]
+#[derive(Clone, Copy)]
 pub enum Operation {
     Unite,
     Intersect,

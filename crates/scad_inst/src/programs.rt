@@ -1,6 +1,6 @@
 //! Programs, and the machine before one.
 
-ghost use Rattle.std.specs.Prelude.{◌≡◌, ◌≤◌, ◌∷◌, [], pos, false, unsigned_abs, codes, IfOk, IfErr};
+ghost use Rattle.std.specs.Prelude.{◌≡◌, ◌≤◌, ◌∷◌, [], pos, false, unsigned_abs, codes, IfOk, IfErr, OnOk};
 ghost use Rattle.scad_num.specs.Number.{most};
 ghost use Rattle.scad_ast.specs.Scope.{items, program_of};
 ghost use Rattle.scad_tree.specs.Solid.{Solid};
@@ -63,6 +63,24 @@ fn first_names<'p>(alloc: Global) -> Result<Frames<'p>, EvalFault>
     Ok(frames)
 }
 
+/// Sets the `$` names at the start of a program.
+fn set_dollars<'p>(frames: &mut Frames<'p>) -> Result<(), EvalFault>
+    requires { stored frames.old ≡ outermost [] ∷ [] }
+    ensures frame { OnOk result (stored frames.new ≡ outermost
+        ((codes "$fn", number (pos 0)) ∷ (codes "$fa", number (pos 12000000)) ∷ (codes "$fs", number (pos 2000000))
+        ∷ (codes "$children", number (pos 0)) ∷ (codes "$t", number (pos 0)) ∷ (codes "$preview", boolean false)
+        ∷ []) ∷ []) }
+    ensures memory { IfErr result (λ e. e ≡ Memory) }
+{
+    frames.set(b"$fn", number(0))?;
+    frames.set(b"$fa", number(12_000_000))?;
+    frames.set(b"$fs", number(2_000_000))?;
+    frames.set(b"$children", number(0))?;
+    frames.set(b"$t", number(0))?;
+    frames.set(b"$preview", Value::Bool(false))?;
+    Ok(())
+}
+
 /// The frame of the `$` names at the start of a program.
 fn first_dollars<'p>(alloc: Global) -> Result<Frames<'p>, EvalFault>
     ensures frame { IfOk result (λ f. stored f ≡ outermost
@@ -72,12 +90,7 @@ fn first_dollars<'p>(alloc: Global) -> Result<Frames<'p>, EvalFault>
     ensures memory { IfErr result (λ e. e ≡ Memory) }
 {
     let mut frames = outermost(alloc)?;
-    frames.set(b"$fn", number(0))?;
-    frames.set(b"$fa", number(12_000_000))?;
-    frames.set(b"$fs", number(2_000_000))?;
-    frames.set(b"$children", number(0))?;
-    frames.set(b"$t", number(0))?;
-    frames.set(b"$preview", Value::Bool(false))?;
+    set_dollars(&mut frames)?;
     Ok(frames)
 }
 

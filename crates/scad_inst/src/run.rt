@@ -8,7 +8,7 @@ ghost use Rattle.scad_expr.specs.Answers.{Does};
 ghost use Rattle.scad_expr.specs.Machine.{held, state_of};
 ghost use Rattle.scad_expr.specs.State.{gives};
 ghost use Rattle.scad_inst.specs.Profiles.{with_its_profiles};
-ghost use Rattle.scad_inst.specs.Stack.{Goes, Ends, rest, made_in, goes_on, onto};
+ghost use Rattle.scad_inst.specs.Stack.{Goes, Ends, IsMore, rest, made_in, goes_on, onto};
 
 use crate::children::children_by;
 use crate::frames::go_back;
@@ -18,7 +18,7 @@ use crate::profiles::with_its_profiles;
 use crate::stack::Stack;
 use crate::turn::{turns, variables};
 use crate::walk::{statement, unless_marked};
-use crate::work::{Focus, Frame};
+use crate::work::{Focus, Frame, at_work};
 use scad_expr::{EvalFault, Machine};
 use scad_tree::{Tree, unite};
 use std::alloc::AllocError;
@@ -64,9 +64,7 @@ fn given<'p>(
         }
         Frame::Then(behind) => Ok(behind),
         Frame::Combine(operation, at, outer) => made_of(operation, at, outer, stack, m),
-        Frame::Hull(call, w, from) => {
-            Ok(Focus::Given(hull_made(stack.alloc, call, &w, from, &tree, m)?))
-        }
+        Frame::Hull(call, w, from) => { at_work(hull_made(stack.alloc, call, &w, from, &tree, m)) }
         Frame::Leave(back) => {
             m.leave(back);
             Ok(Focus::Given(tree))
@@ -82,6 +80,16 @@ fn program_tree<'p>(stack: &mut Stack<'p>) -> Result<Tree, AllocError>
     unite(stack.alloc, members)
 }
 
+/// There is more where something is at work.
+fn more<'p>(focus: Result<Focus<'p>, EvalFault>) -> Result<Next<'p>, EvalFault>
+    ensures { IsMore focus.entry result }
+{
+    match focus {
+        Ok(next) => Ok(Next::More(next)),
+        Err(why) => Err(why),
+    }
+}
+
 /// One turn.
 #[tactic(auto, unfolding(crate::specs::Stack::goes_on))]
 fn turn<'p>(
@@ -93,13 +101,13 @@ fn turn<'p>(
         stack.new m.new }
 {
     match focus {
-        Focus::Statement(item, w) => Ok(Next::More(statement(item, &w, stack, m)?)),
-        Focus::Members(scope, next, w) => Ok(Next::More(members(scope, next, &w, stack)?)),
-        Focus::Children(scope, more, w) => Ok(Next::More(children_by(scope, more, &w, stack)?)),
-        Focus::Variables(call, next, w) => Ok(Next::More(variables(call, next, &w, stack, m)?)),
-        Focus::Turns(variable, more, w) => Ok(Next::More(turns(variable, more, &w, stack, m)?)),
+        Focus::Statement(item, w) => more(statement(item, &w, stack, m)),
+        Focus::Members(scope, next, w) => more(members(scope, next, &w, stack)),
+        Focus::Children(scope, values, w) => more(children_by(scope, values, &w, stack)),
+        Focus::Variables(call, next, w) => more(variables(call, next, &w, stack, m)),
+        Focus::Turns(variable, values, w) => more(turns(variable, values, &w, stack, m)),
         Focus::Given(tree) => match stack.pop() {
-            Some(frame) => Ok(Next::More(given(frame, tree, stack, m)?)),
+            Some(frame) => more(given(frame, tree, stack, m)),
             None => Ok(Next::End(program_tree(stack)?)),
         },
     }

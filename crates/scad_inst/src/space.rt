@@ -9,7 +9,7 @@ use scad_modules::Resolution;
 use scad_num::Num;
 
 /// How a profile is turned round the z axis.
-#[derive(Clone, Copy, Debug, PartialEq, Eq)]
+#[derive(Clone, Copy)]
 pub struct Turning {
     /// Places the profile.
     pub profile: Matrix,
@@ -20,7 +20,7 @@ pub struct Turning {
 }
 
 /// Solids stand outside of every extrusion, flat shapes inside one.
-#[derive(Clone, Copy, Debug, PartialEq, Eq)]
+#[derive(Clone, Copy)]
 pub enum Space {
     Solid,
     /// Inside `linear_extrude`: the height, centred or not.
@@ -30,7 +30,7 @@ pub enum Space {
 }
 
 /// Where a statement's shapes stand.
-#[derive(Clone, Copy, Debug, PartialEq, Eq)]
+#[derive(Clone, Copy)]
 pub struct Where {
     /// The whole matrix, which places leaves.
     pub whole: Matrix,

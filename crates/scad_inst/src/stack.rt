@@ -1,8 +1,10 @@
 //! The stack of what waits.
 
+use crate::operation::Operation;
 use crate::work::Frame;
+use scad_fault::Place;
 use scad_tree::Tree;
-use std::alloc::{AllocFailed, Global};
+use std::alloc::{AllocError, AllocFailed, Global};
 use std::mem::replace;
 
 /// Frames, the top one last, and the members so far of the operation that is being made.
@@ -17,7 +19,7 @@ impl<'p> Stack<'p> {
     ghost use Rattle.std.specs.Prelude.{◌≡◌, [], OnOk, MatchOption};
     ghost use Rattle.scad_tree.specs.View.{solid_of};
     ghost use Rattle.scad_inst.specs.View.{trees_in};
-    ghost use Rattle.scad_inst.specs.Stack.{rest, ended, onto, made_in, with_member};
+    ghost use Rattle.scad_inst.specs.Stack.{rest, ended, onto, made_in, with_member, Begins};
 
     /// No frame and no member.
     #[tactic(auto, unfolding(crate::specs::Stack::rest, crate::specs::Stack::made_in))]
@@ -34,11 +36,12 @@ impl<'p> Stack<'p> {
 
     /// A frame more.
     #[tactic(auto, using(crate::proofs::Onward::stacks), unfolding(crate::specs::Stack::rest, crate::specs::Stack::made_in))]
-    pub(crate) fn push(&mut self, frame: Frame<'p>) -> Result<(), AllocFailed<Frame<'p>>>
+    pub(crate) fn push(&mut self, frame: Frame<'p>) -> Result<(), AllocError>
         ensures rest { OnOk result (rest self.new ≡ onto frame.entry (rest self.old)) }
         ensures made { made_in self.new ≡ made_in self.old }
     {
-        self.frames.push(frame)
+        self.frames.push(frame)?;
+        Ok(())
     }
 
     /// The frame on the top, where there is one.
@@ -70,5 +73,20 @@ impl<'p> Stack<'p> {
         ensures rest { rest self.new ≡ rest self.old }
     {
         replace(&mut self.made, other)
+    }
+
+    /// The members of an operation are made from now on, inside the last frames of the machine, which are left then.
+    pub(crate) fn begin(
+        &mut self,
+        operation: Operation,
+        at: Place,
+        back: u32,
+    ) -> Result<(), AllocError>
+        ensures rest { OnOk result (Begins operation at back (rest self.old) (made_in self.old) (rest self.new)) }
+        ensures made { OnOk result (made_in self.new ≡ []) }
+    {
+        let outer = self.exchange(Vec::new(self.alloc));
+        self.push(Frame::Combine(operation, at, outer))?;
+        self.push(Frame::Leave(back))
     }
 }

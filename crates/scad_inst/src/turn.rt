@@ -183,8 +183,8 @@ fn turn<'p>(
         (held m.old)) (along_in (held m.old)) (datum_of value ∷ left_in more) (made_in stack.old)
         (state_of m.old)) stack.old m.old → Goes o result stack.new m.new }
 {
-    m.step(variable.call.at)?;
     stack.push(Frame::Then(Focus::Turns(variable, more, *w)))?;
+    m.step(variable.call.at)?;
     let back = m.open_with(variable.name, value)?;
     stack.push(Frame::Leave(back))?;
     Ok(Focus::Variables(variable.call, variable.next, *w))

@@ -1,10 +1,13 @@
 //! What is at work, and what waits for it.
 
+ghost use Rattle.scad_inst.specs.Stack.{GoesOn};
+
 use crate::modules::{Call, Variable};
 use crate::operation::Operation;
 use crate::remainder::Remainder;
 use crate::space::Where;
 use scad_ast::{Item, Scope};
+use scad_expr::EvalFault;
 use scad_fault::Place;
 use scad_tree::Tree;
 
@@ -43,4 +46,15 @@ pub(crate) enum Frame<'p> {
     Hull(Call<'p>, Where, usize),
     /// The last frames of the machine are left, and names are sought from another one.
     Leave(u32),
+}
+
+/// A tree that was made is at work.
+#[tactic(auto, unfolding(crate::specs::Stack::goes_on))]
+pub(crate) fn at_work<'p>(tree: Result<Tree, EvalFault>) -> Result<Focus<'p>, EvalFault>
+    ensures { GoesOn tree result }
+{
+    match tree {
+        Ok(tree) => Ok(Focus::Given(tree)),
+        Err(why) => Err(why),
+    }
 }

@@ -1,6 +1,7 @@
 pub mod Angles
 pub mod Faces
 pub mod Fragments
+pub mod Matrices
 pub mod Onto
 pub mod Outlines
 pub mod Paths

@@ -1,7 +1,9 @@
 -- Profiles, point by point.
-use Rattle.std.proofs.Common.{◌≡◌, ℕ, ◌+◌, ◌<◌, ◌≤◌, List, [], ◌∷◌, ◌++◌, length, get_or, drop, ap, sym, ◌∙◌, Ok, Err, max}
-use Rattle.std.specs.Prelude.{unsigned_abs}
-use Rattle.std.proofs.lemmas.List.{drop_more, drop_all}
+use Rattle.std.proofs.Common.{◌≡◌, ℕ, ◌+◌, ◌<◌, ◌≤◌, List, [], ◌∷◌, ◌++◌, length, get_or, take, drop, ap, sym, ◌∙◌, Ok, Err, max}
+use Rattle.std.specs.Prelude.{Bool, ◌||◌, unsigned_abs}
+use Rattle.std.specs.List.{list_any}
+use Rattle.std.proofs.lemmas.List.{drop_more, drop_all, take_all}
+use Rattle.std.proofs.lemmas.List.Folds.{list_any_more}
 use Rattle.scad_base.specs.Results.{and_then}
 use Rattle.scad_matrix.specs.declared.matrix.Matrix.{Matrix}
 use Rattle.scad_modules.specs.declared.fault.ArgumentFault.{ArgumentFault}
@@ -39,3 +41,15 @@ pub farthest-drop_all : (ring : List Pair) (i : ℕ) → length ring ≤ i → f
 farthest-drop_all ring i past = ap farthest (drop_all i ring past)
 
 pub ruleset distances = (farthest-drop, farthest-drop_all)
+
+-- whether one of the points so far passes a test
+pub any-take : (test : Pair → Bool) (ring : List Pair) (i : ℕ) (p : Pair) → i < length ring → p ≡ get_or ring i p
+    → list_any test (take (i + 1) ring) ≡ (list_any test (take i ring) || test p)
+any-take test ring i p below is =
+    list_any_more test ring i p below ∙ ap (λ q. list_any test (take i ring) || test q) (sym is)
+
+pub any-take_all : (test : Pair → Bool) (ring : List Pair) (i : ℕ) → length ring ≤ i
+    → list_any test (take i ring) ≡ list_any test ring
+any-take_all test ring i past = ap (list_any test) (take_all i ring past)
+
+pub ruleset sides = (any-take, any-take_all)

@@ -1,6 +1,6 @@
 -- The matrices of the transformations by their arguments (OpenSCAD User Manual, "translate", "scale", "rotate",
 -- "mirror", "multmatrix").
-use Rattle.std.specs.Prelude.{codes, List, ◌==◌, ◌&&◌, nat_le, ℤ, pos, neg_ℤ, int_lt, Option, Some, None, Result, Ok, Err, if◌then◌else◌}
+use Rattle.std.specs.Prelude.{codes, ℕ, List, ◌==◌, ◌&&◌, nat_le, ℤ, pos, neg_ℤ, int_lt, Option, Some, None, Result, Ok, Err, if◌then◌else◌}
 use Rattle.std.specs.Ordering.{int_eq}
 use Rattle.scad_base.specs.Results.{and_then}
 use Rattle.scad_ast.specs.Tree.{Arguments}
@@ -113,6 +113,22 @@ turned_by a = and_then (coordinates (pos 0) a) turned_by_three
 abbrev pub rotate_by : Datum → Option Datum → Read Matrix
 rotate_by (number z) v = turned_about z v
 rotate_by a v = turned_by a
+
+-- the name of a transformation's first argument
+abbrev pub first_name : Transform → List ℕ
+first_name Translate = codes "v"
+first_name Scale = codes "v"
+first_name Rotate = codes "a"
+first_name Mirror = codes "v"
+first_name Multmatrix = codes "m"
+
+-- the matrix that it says, with the arguments behind it
+abbrev pub matrix_by : Transform → Datum → Arguments → List Datum → Read Matrix
+matrix_by Translate d args values = translate_by d
+matrix_by Scale d args values = scale_by d
+matrix_by Rotate d args values = rotate_by d (taken (Some 1) (codes "v") args values)
+matrix_by Mirror d args values = mirror_by d
+matrix_by Multmatrix d args values = multmatrix_by d
 
 -- the matrix that a transformation's arguments say; each has to have its first one
 unfoldable pub matrix_of : Transform → Arguments → List Datum → Read Matrix

@@ -12,7 +12,7 @@ pub struct Fineness {
 }
 
 /// The three numbers that these values are.
-#[derive(Clone, Copy, Debug, PartialEq, Eq)]
+#[derive(Clone, Copy, PartialEq, Eq)]
 pub struct Resolution {
     pub fn_: Num,
     pub fa: Num,

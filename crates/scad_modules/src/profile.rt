@@ -1,7 +1,6 @@
 //! Profiles that are turned round the z axis.
 
 ghost use Rattle.std.specs.Prelude.{◌≡◌, ◌≤◌, true, unsigned_abs, max, IfOk, length};
-ghost use Rattle.std.specs.List.{list_any};
 ghost use Rattle.scad_num.specs.Number.{most};
 ghost use Rattle.scad_modules.specs.Primitive.{are_fragments};
 ghost use Rattle.scad_modules.specs.Profile.{profile_point, profile_of, is_left, is_right, crosses_axis, farthest};
@@ -55,23 +54,18 @@ fn is_right(p: Pair) -> bool
     p.0.millionths() > 0
 }
 
-fn has_left(ring: &[(Num, Num)]) -> bool
-    ensures { result ≡ list_any is_left ring.now }
-{
-    ring.iter().any(|p| is_left(*p))
-}
-
-fn has_right(ring: &[(Num, Num)]) -> bool
-    ensures { result ≡ list_any is_right ring.now }
-{
-    ring.iter().any(|p| is_right(*p))
-}
-
 /// Whether a profile has points on both sides of the axis.
+#[tactic(auto, using(crate::proofs::Profiles::sides))]
 pub fn crosses_axis(ring: &[(Num, Num)]) -> bool
     ensures { result ≡ crosses_axis ring.now }
 {
-    has_left(ring) && has_right(ring)
+    let mut left = false;
+    let mut right = false;
+    'points: for point in ring {
+        left |= is_left(*point);
+        right |= is_right(*point);
+    }
+    left && right
 }
 
 /// How far from the axis the farthest point is.

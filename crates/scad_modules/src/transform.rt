@@ -5,7 +5,8 @@ ghost use Rattle.std.specs.Ordering.{int_eq};
 ghost use Rattle.scad_ast.specs.View.{arguments};
 ghost use Rattle.scad_value.specs.View.{datum_of, elements, data_of};
 ghost use Rattle.scad_modules.specs.Transforms.{translate_by, scale_by_three, scale_by, mirror_by, row_at, first_three, turned_by, row_of_four, row_of, rows_of, multmatrix_by};
-ghost use Rattle.scad_modules.specs.Transforms.{angle_of, turned, way_round, about, about_axis, turned_about, product, turned_by_three, rotate_by, matrix_of};
+ghost use Rattle.scad_modules.specs.Transforms.{angle_of, turned, way_round, about, about_axis, turned_about, product, turned_by_three, rotate_by};
+ghost use Rattle.scad_modules.specs.Transforms.{first_name, matrix_by, matrix_of};
 ghost use Rattle.scad_modules.specs.View.{datum_in};
 
 use crate::argument::taken;
@@ -231,9 +232,39 @@ fn rotate_by(a: &Value, v: Option<&Value>) -> Result<Matrix, ArgumentFault>
     }
 }
 
+/// The name of the first argument.
+fn first_name(transform: Transform) -> &'static [u8]
+    ensures { result.now ≡ first_name transform }
+{
+    match transform {
+        Transform::Translate => b"v",
+        Transform::Scale => b"v",
+        Transform::Rotate => b"a",
+        Transform::Mirror => b"v",
+        Transform::Multmatrix => b"m",
+    }
+}
+
+/// The matrix that the first argument says, with those behind it.
+fn matrix_by(
+    transform: Transform,
+    first: &Value,
+    args: &[Arg],
+    values: &[Value],
+) -> Result<Matrix, ArgumentFault>
+    ensures { result ≡ matrix_by transform (datum_of first.now) (arguments args.now) (data_of values.now) }
+{
+    match transform {
+        Transform::Translate => translate_by(first),
+        Transform::Scale => scale_by(first),
+        Transform::Rotate => rotate_by(first, taken(Some(1), b"v", args, values)),
+        Transform::Mirror => mirror_by(first),
+        Transform::Multmatrix => multmatrix_by(first),
+    }
+}
+
 /// The matrix that a transformation's arguments say. A value that is missing or isn't what the module
 /// takes is `BadArgument`; a rotation about an axis that is no coordinate axis is `LeftOut`.
-#[tactic(auto, unfolding(crate::specs::Transforms::matrix_of))]
 pub fn matrix_of(
     transform: Transform,
     args: &[Arg],
@@ -241,14 +272,8 @@ pub fn matrix_of(
 ) -> Result<Matrix, ArgumentFault>
     ensures { result ≡ matrix_of transform (arguments args.now) (data_of values.now) }
 {
-    match transform {
-        Transform::Translate => translate_by(needed(taken(Some(0), b"v", args, values))?),
-        Transform::Scale => scale_by(needed(taken(Some(0), b"v", args, values))?),
-        Transform::Rotate => rotate_by(
-            needed(taken(Some(0), b"a", args, values))?,
-            taken(Some(1), b"v", args, values),
-        ),
-        Transform::Mirror => mirror_by(needed(taken(Some(0), b"v", args, values))?),
-        Transform::Multmatrix => multmatrix_by(needed(taken(Some(0), b"m", args, values))?),
+    match needed(taken(Some(0), first_name(transform), args, values)) {
+        Ok(first) => matrix_by(transform, first, args, values),
+        Err(why) => Err(why),
     }
 }

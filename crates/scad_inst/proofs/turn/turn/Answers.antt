@@ -19,7 +19,7 @@ returns c = λ o is.
 
 pub returns-in_err-step : goal.returns-in_err-step
 returns-in_err-step c =
-    let p = err_from_is_err_and c.from_residual.result c.from_residual.ensures.1 in
+    let p = err_from_is_err_and c.from_residual-in_err-step.result c.from_residual-in_err-step.ensures.1 in
     λ o is. rw (p.1, p.2) (λ some. is ∙ turn-stops c.args.variable c.args.w.now (datum_of c.args.value) _ c.args.more
     (held c.args.m.now) (made_in c.args.stack.now) (state_of c.args.m.now) (state_of c.step.new.self) _
     (listed (rest c.args.stack.now) (held c.args.m.now)) refl (c.in_err-step.ensures.does some))
