@@ -13,7 +13,7 @@ use Rattle.slice_outlines.specs.Cursor.{StandsOn, IsClearAt, IsShifted, CanShift
 
 -- how many there are
 abbrev pub cursor_count : ℕ
-cursor_count = 8
+cursor_count = 4
 
 -- cursors on these bundles
 pub record StandOn (es : List LeafEdge) (shape : Shape) (bundles : List (List ℕ)) (cs : Cursors) : Type 0 where

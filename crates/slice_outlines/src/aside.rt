@@ -1,21 +1,21 @@
 //! Places beside the flat edges of a height.
-ghost use Rattle.std.specs.Prelude.{◌≡◌, true, All};
+ghost use Rattle.std.specs.Prelude.{◌≡◌, true, None, All};
 ghost use Rattle.slice_bool.specs.Pieces.{IsLeft};
 ghost use Rattle.slice_outlines.specs.Flats.{LiesAside};
 
 use crate::flat::Flat;
 use crate::spot::{Stop, compare, whole_spot};
 
-/// Whether each of some flat edges lies to the left of a place or to its right.
-pub(crate) fn are_aside(flats: &[Flat], s: &Stop) -> bool
-    ensures { result ≡ true → All (LiesAside s.now.spot.at s.now.spot) flats.now }
+/// The first of some flat edges that lies neither to the left of a place nor to its right.
+pub(crate) fn in_way(flats: &[Flat], s: &Stop) -> Option<Flat>
+    ensures { result ≡ None → All (LiesAside s.now.spot.at s.now.spot) flats.now }
 {
     'flats: for e in flats {
         if !is_aside(e, s) {
-            return false;
+            return Some(*e);
         }
     }
-    true
+    None
 }
 
 fn is_aside(e: &Flat, s: &Stop) -> bool

@@ -1,5 +1,5 @@
 //! The shape's value between strands.
-ghost use Rattle.std.specs.Prelude.{◌≡◌, ◌<◌, ◌≤◌, ◌+◌, ◌-◌, ◌^◌, [], List, length, drop, true, false, IfOk, All};
+ghost use Rattle.std.specs.Prelude.{◌≡◌, ◌<◌, ◌≤◌, ◌+◌, ◌-◌, ◌^◌, [], List, None, length, drop, true, IfOk, IfSome, All};
 ghost use Rattle.std.specs.List.{AllZip};
 ghost use Rattle.scad_geom.specs.declared.shape.Shape.{Shape};
 ghost use Rattle.scad_geom.specs.Limits.{coordinate_limit};
@@ -9,14 +9,16 @@ ghost use Rattle.slice_slab.specs.Bundles.{edge_at};
 ghost use Rattle.slice_sweep.specs.Front.{bundles_in};
 ghost use Rattle.slice_sweep.specs.Changes.{Group, Tell};
 ghost use Rattle.slice_bool.specs.Beside.{AreMembers, left_value};
-ghost use Rattle.slice_outlines.specs.Marks.{AreThere, IsNamed};
+ghost use Rattle.slice_outlines.specs.Flats.{LiesAside};
+ghost use Rattle.slice_outlines.specs.Marks.{mark_at, spot_at, AreThere, IsNamed};
 ghost use Rattle.slice_outlines.specs.Stops.{AllPass};
 ghost use Rattle.slice_outlines.specs.Cursor.{is_same_place, StandsOn, Stands, StaysOn, IsApartAt, IsClearAt, CanShift, IsShifted, Fit};
 
-use crate::aside::are_aside;
+use crate::aside::in_way;
 use crate::flat::Flat;
 use crate::mark::Mark;
 use crate::run::{Run, after, first};
+use crate::spot::{Stop, compare, whole_spot};
 use crate::stops::stop_of;
 use crate::tally::{Tally, no_turns};
 use scad_geom::{LeafEdge, Level, Shape, cmp_x_at};
@@ -131,8 +133,8 @@ impl Cursor {
         ensures stands { StaysOn edges.now (bundles_in front.now) self.old self.new }
         ensures clear { IsClearAt edges.now at.now marks.now flats.now self.new.at }
     {
-        'strands: while !is_clear(edges, marks, at, flats, self.at) {
-            self.go_right(edges, front, self.at + 1);
+        'strands: while let Some(next) = way_out(edges, marks, at, flats, self.at) {
+            self.go_right(edges, front, next);
         }
     }
 
@@ -148,18 +150,77 @@ impl Cursor {
     }
 }
 
-// Whether strands on both sides of a place don't meet at a height, and its flat edges lie aside of the next.
-fn is_clear(edges: &[LeafEdge], marks: &[Mark], at: &Level, flats: &[Flat], place: usize) -> bool
+// Where a place goes to the right, if strands on both sides of it meet at a height, or a flat edge of the height doesn't
+// lie aside of the next one.
+fn way_out(
+    edges: &[LeafEdge],
+    marks: &[Mark],
+    at: &Level,
+    flats: &[Flat],
+    place: usize,
+) -> Option<usize>
     requires within { All (λ e. IsEdgeWithin coordinate_limit e.edge) edges.now }
     requires at { IsLevelWithin coordinate_limit at.now }
     requires there { AreThere edges.now marks.now }
     requires pass { AllPass edges.now at.now marks.now }
-    ensures within { result ≡ false → place < length marks.now }
-    ensures clear { result ≡ true → IsClearAt edges.now at.now marks.now flats.now place }
+    ensures clear { result ≡ None → IsClearAt edges.now at.now marks.now flats.now place }
+    ensures right { IfSome result (λ n. (place < n) × (n ≤ length marks.now)) }
 {
-    place >= marks.len()
-        || (is_apart(edges, marks, at, place)
-            && are_aside(flats, &stop_of(edges, &marks[place], at)))
+    if place >= marks.len() {
+        return None;
+    }
+    if !is_apart(edges, marks, at, place) {
+        return Some(place + 1);
+    }
+    way_over(edges, marks, at, flats, place)
+}
+
+// Behind the strands over the flat edge in which a place lies, if it lies in one.
+fn way_over(
+    edges: &[LeafEdge],
+    marks: &[Mark],
+    at: &Level,
+    flats: &[Flat],
+    place: usize,
+) -> Option<usize>
+    requires within { All (λ e. IsEdgeWithin coordinate_limit e.edge) edges.now }
+    requires at { IsLevelWithin coordinate_limit at.now }
+    requires pass { AllPass edges.now at.now marks.now }
+    requires place { place < length marks.now }
+    ensures aside { result ≡ None
+        → All (LiesAside at.now (spot_at edges.now at.now (mark_at marks.now place))) flats.now }
+    ensures right { IfSome result (λ n. (place < n) × (n ≤ length marks.now)) }
+{
+    // most heights have no flat edge
+    if flats.is_empty() {
+        return None;
+    }
+    match in_way(flats, &stop_of(edges, &marks[place], at)) {
+        Some(e) => Some(first_behind(edges, marks, at, &whole_spot(e.right, at), place + 1)),
+        None => None,
+    }
+}
+
+// The first strand from a place on that lies to the right of another place.
+fn first_behind(edges: &[LeafEdge], marks: &[Mark], at: &Level, s: &Stop, place: usize) -> usize
+    requires within { All (λ e. IsEdgeWithin coordinate_limit e.edge) edges.now }
+    requires at { IsLevelWithin coordinate_limit at.now }
+    requires pass { AllPass edges.now at.now marks.now }
+    requires place { place ≤ length marks.now }
+    ensures from { place ≤ result }
+    ensures bound { result ≤ length marks.now }
+{
+    let mut from = place;
+    let mut to = marks.len();
+    'marks: while from < to {
+        let middle = from + (to - from) / 2;
+        if compare(s, &stop_of(edges, &marks[middle], at)).is_lt() {
+            to = middle;
+        } else {
+            from = middle + 1;
+        }
+    }
+    from
 }
 
 fn is_apart(edges: &[LeafEdge], marks: &[Mark], at: &Level, place: usize) -> bool

@@ -21,7 +21,7 @@ use slice_sweep::{Change, Front};
 use std::alloc::{AllocError, Global};
 
 /// How many there are.
-const COUNT: usize = 8;
+const COUNT: usize = 4;
 
 /// Cursors on one front.
 #[derive(Drop)]

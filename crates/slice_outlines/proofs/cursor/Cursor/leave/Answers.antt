@@ -4,8 +4,8 @@ use Rattle.slice_sweep.specs.Front.{bundles_in}
 use Rattle.slice_outlines.proofs.Standing.{names_there, named_size}
 use Rattle.slice_outlines.proofs.cursor.Cursor.leave.Goals as goal
 
-pub is_clear-requires-clause-there : goal.is_clear-requires-clause-there
-is_clear-requires-clause-there c =
+pub way_out-requires-clause-there : goal.way_out-requires-clause-there
+way_out-requires-clause-there c =
     names_there c.args.edges.now c.args.marks.now (bundles_in c.args.front.now) c.requires.named c.requires.members
 
 pub go_right-requires-clause-stands : goal.go_right-requires-clause-stands
@@ -17,7 +17,7 @@ go_right-requires-clause-stands c = record {
 pub go_right-requires-clause-there : goal.go_right-requires-clause-there
 go_right-requires-clause-there c =
     let size = named_size c.args.marks.now (bundles_in c.args.front.now) c.requires.named in
-    omega (arith, size, c.is_clear.ensures.within c.strands-test.true)
+    omega (arith, size, c.in-Some.ensures.right.1)
 
 pub strands-smaller : goal.strands-smaller
-strands-smaller c = omega (arith, c.is_clear.ensures.within c.strands-test.true)
+strands-smaller c = omega (arith, c.in-Some.ensures.right.0, c.in-Some.ensures.right.1)

@@ -4,7 +4,7 @@ use Rattle.std.proofs.lemmas.Bool.{cases_lt}
 use Rattle.std.proofs.lemmas.List.{get_or_read}
 use Rattle.slice_outlines.specs.declared.flat.Flat.{Flat}
 use Rattle.slice_outlines.specs.Flats.{LiesAside}
-use Rattle.slice_outlines.proofs.aside.are_aside.Goals as goal
+use Rattle.slice_outlines.proofs.aside.in_way.Goals as goal
 
 pub flats-init : goal.flats-init
 flats-init c = λ k d o. absurd (omega (arith, o))
