@@ -193,7 +193,10 @@ fn names_of(alloc: Global, words: &[&[u8]]) -> Result<Names, AllocError> {
 
 /// The names of a call of the function of `f=2; function f(x)=x+1; module f(){cube(f(f));} f();`, and those of the program.
 fn listed(alloc: Global) -> Result<[Names; 2], AllocError> {
-    Ok([names_of(alloc, &[b"x", b"x"])?, names_of(alloc, &[b"f", b"g"])?])
+    Ok([
+        names_of(alloc, &[b"x", b"x"])?,
+        names_of(alloc, &[b"f", b"g"])?,
+    ])
 }
 
 /// The frame of that program, where f is 2 and a further name isn't set, and in it that of the call, where x is 2.
@@ -237,13 +240,19 @@ fn lists(frames: &Frames, at: u32, name: &[u8], place: usize) -> bool {
 fn names_are_found_by_slots(rt: HostRuntime) {
     let names = listed(rt.alloc()).expect(&rt, "names");
     let mut frames = called(rt.alloc(), &names).expect(&rt, "frames");
-    assert!(rt; lies(rt.alloc(), &frames, &names, b"f", 2) && lies(rt.alloc(), &frames, &names, b"x", 2));
-    assert!(rt; is_unset(rt.alloc(), &frames, &names, b"g") && is_unset(rt.alloc(), &frames, &names, b"h"));
+    assert!(rt;
+        lies(rt.alloc(), &frames, &names, b"f", 2) && lies(rt.alloc(), &frames, &names, b"x", 2)
+    );
+    assert!(rt;
+        is_unset(rt.alloc(), &frames, &names, b"g") && is_unset(rt.alloc(), &frames, &names, b"h")
+    );
     assert!(rt; has(&frames, 1, b"f", 2) && has(&frames, 1, b"x", 2));
     assert!(rt; lists(&frames, 0, b"g", 1) && lists(&frames, 1, b"x", 0));
     // h isn't listed
     frames.set(b"h", number(5)).expect(&rt, "a value");
-    assert!(rt; frames.names(1).is_none() && has(&frames, 1, b"h", 5) && lists(&frames, 0, b"f", 0));
+    assert!(rt;
+        frames.names(1).is_none() && has(&frames, 1, b"h", 5) && lists(&frames, 0, b"f", 0)
+    );
 }
 
 /// Whether the slot of a number is this one.
@@ -275,5 +284,7 @@ fn unset_slots_are_passed(rt: HostRuntime) {
     assert!(rt; lies(alloc, &frames, &both, b"b", 1) && lies(alloc, &frames, &both, b"c", 3));
     assert!(rt; is_unset(alloc, &frames, &both, b"a"));
     let slots = resolve(alloc, &both, b"c").expect(&rt, "slots");
-    assert!(rt; slots.as_slice().len() == 2 && is_slot(&slots, 0, 0, 2) && is_slot(&slots, 1, 1, 2));
+    assert!(rt;
+        slots.as_slice().len() == 2 && is_slot(&slots, 0, 0, 2) && is_slot(&slots, 1, 1, 2)
+    );
 }
