@@ -1,8 +1,11 @@
+-- What the public calls promise.
 pub mod Runs
+pub mod There
+pub mod Lengths
+
+-- What only the steps of the code promise to one another.
 pub mod Quotient
 pub mod Steps
 pub mod Sweep
 pub mod Columns
 pub mod Reach
-pub mod There
-pub mod Lengths

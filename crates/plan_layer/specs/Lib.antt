@@ -1,9 +1,12 @@
+-- What the public calls promise.
 pub mod Moves
 pub mod Infill
-pub mod Extent
 pub mod Plan
 pub mod Kept
 pub mod Lengths
 pub mod Refusal
 pub mod There
 pub mod One
+
+-- What only the steps of the code promise to one another.
+pub mod Extent

@@ -1,12 +1,11 @@
+-- What the public calls promise.
 pub mod Laws
 pub mod Meaning
-pub mod Parts
-pub mod Pieces
 pub mod Places
 pub mod Portions
 pub mod Runs
-pub mod Stack
-pub mod Tested
+
+-- What lies below.
 pub use Rattle.scad_machine.specs.Answers
 pub use Rattle.scad_machine.specs.Arguments
 pub use Rattle.scad_machine.specs.Functions
@@ -17,3 +16,9 @@ pub use Rattle.scad_machine.specs.Printed
 pub use Rattle.scad_machine.specs.State
 pub use Rattle.scad_machine.specs.Variables
 pub use Rattle.scad_machine.specs.View
+
+-- What only the steps of the code promise to one another.
+pub mod Parts
+pub mod Pieces
+pub mod Stack
+pub mod Tested

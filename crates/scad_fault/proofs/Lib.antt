@@ -1,1 +1,2 @@
+-- The lines of the report, by example.
 pub mod Lines

@@ -1,3 +1,4 @@
+-- What the public calls promise.
 pub mod Behind
 pub mod Grammar
 pub mod Judged
@@ -6,7 +7,6 @@ pub mod Lists
 pub mod Machine
 pub mod Move
 pub mod Nesting
-pub mod Plain
 pub mod Printed
 pub mod PrintedItems
 pub mod Promises
@@ -18,3 +18,6 @@ pub mod StatementSteps
 pub mod Statements
 pub mod Steps
 pub mod Tokens
+
+-- What only the steps of the code promise to one another.
+pub mod Plain

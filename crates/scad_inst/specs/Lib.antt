@@ -1,18 +1,21 @@
+-- What the public calls promise.
 pub mod Chosen
 pub mod FlatLeaves
-pub mod Frames
 pub mod Hulls
 pub mod Made
 pub mod Meaning
 pub mod Modules
 pub mod Opened
 pub mod Operation
-pub mod Portions
 pub mod Profiles
-pub mod FirstFrames
 pub mod Scopes
-pub mod Stack
-pub mod View
 pub mod Where
 pub mod Model
+
+-- What only the steps of the code promise to one another.
+pub mod Frames
+pub mod Portions
+pub mod FirstFrames
+pub mod Stack
+pub mod View
 pub mod Near

@@ -1,3 +1,4 @@
+-- What a desk holds, reads and sends, and the desks in memory and without any effect.
 pub mod Desk
 pub mod Memory
 pub mod Null

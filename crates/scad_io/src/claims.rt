@@ -37,6 +37,7 @@ pub struct Claims {
 }
 
 impl Claims {
+    /// No file is claimed.
     pub fn none() -> Claims {
         Claims { held: [None; HELD] }
     }

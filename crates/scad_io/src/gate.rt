@@ -3,8 +3,10 @@
 /// What stands before and after the work on each layer, in the worker that does it.
 /// Its calls change nothing that a contract speaks of.
 pub trait Gate: Sync {
+    /// Called before the work on a layer.
     fn before(&self, layer: u32);
 
+    /// Called when the work on a layer is done.
     fn after(&self, layer: u32);
 }
 
@@ -13,7 +15,9 @@ pub trait Gate: Sync {
 pub struct Open;
 
 impl Gate for Open {
+    /// Called before the work on a layer.
     fn before(&self, _layer: u32) {}
 
+    /// Called when the work on a layer is done.
     fn after(&self, _layer: u32) {}
 }

@@ -1,8 +1,8 @@
+-- What the public calls promise.
 pub mod Arguments
 pub mod Extrusions
 pub mod FlatShapes
 pub mod Names
-pub mod Ids
 pub mod Outline
 pub mod Primitive
 pub mod Profile
@@ -10,3 +10,6 @@ pub mod Reading
 pub mod Shapes
 pub mod Transforms
 pub mod View
+
+-- What only the steps of the code promise to one another.
+pub mod Ids

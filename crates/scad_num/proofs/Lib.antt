@@ -1,3 +1,4 @@
+-- Of decimal digits, their value and its rounding, and of the longest literal.
 pub mod Capped
 pub mod Digits
 mod Examples

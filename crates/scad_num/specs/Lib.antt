@@ -1,3 +1,4 @@
+-- Numbers in millionths: their literals, their text, their rounding and their roots.
 pub mod Laws
 pub mod Literal
 pub mod Number

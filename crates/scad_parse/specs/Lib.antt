@@ -1,4 +1,7 @@
-pub mod Heads
+-- What the public calls promise.
 pub mod JudgedFault
+
+-- What only the steps of the code promise to one another.
+pub mod Heads
 pub mod Reading
 pub mod ReadingStatements

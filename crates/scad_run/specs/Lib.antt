@@ -1,7 +1,7 @@
+-- What the public calls promise.
 pub mod Words
 pub mod Meant
 pub mod Meaning
-pub mod View
 pub mod Told
 pub mod Inputs
 pub mod Judging
@@ -16,3 +16,6 @@ pub mod Cut
 pub mod ByGrammar
 pub mod Headline
 pub mod Laws
+
+-- What only the steps of the code promise to one another.
+pub mod View

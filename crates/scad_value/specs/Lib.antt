@@ -1,4 +1,4 @@
-pub mod Actions
+-- What the public calls promise.
 pub mod Comparison
 pub mod Datum
 pub mod Elementwise
@@ -12,3 +12,6 @@ pub mod Operators
 pub mod Products
 pub mod Texts
 pub mod View
+
+-- What only the steps of the code promise to one another.
+pub mod Actions

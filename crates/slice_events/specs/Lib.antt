@@ -1,10 +1,13 @@
+-- What the public calls promise.
 pub mod Limits
 pub mod Levels
-pub mod Distinct
-pub mod Collected
 pub mod Refusal
 pub mod Common
 pub mod Boxes
+
+-- What only the steps of the code promise to one another.
+pub mod Distinct
+pub mod Collected
 pub mod Reading
 pub mod Lines
 pub mod Kept

@@ -1,12 +1,15 @@
+-- What the public calls promise.
 pub mod Spots
 pub mod Inside
 pub mod Pieces
 pub mod Naming
 pub mod Merging
 pub mod Rounding
-pub mod Spans
 pub mod Cancelling
+pub mod Laws
+
+-- What only the steps of the code promise to one another.
+pub mod Spans
 pub mod Joining
 pub mod Chains
 pub mod EndOrder
-pub mod Laws

@@ -1,3 +1,4 @@
+-- What is sent piece by piece is the whole, in its order.
 use Rattle.std.proofs.Common.{rules, arith, ◌<◌, length}
 use Rattle.scad_io.proofs.Pieces.{goes_on_by, stops_here, stops_at_zero}
 use Rattle.scad_io.proofs.Sent.{none_left}

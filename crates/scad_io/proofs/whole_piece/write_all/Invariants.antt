@@ -1,3 +1,4 @@
+-- What is sent and what is left to send are the whole.
 use Rattle.std.proofs.Common.{◌≡◌, ◌≤◌, [], length}
 use Rattle.scad_io.specs.Sent.{SentBut}
 use Rattle.scad_io.proofs.whole_piece.write_all.Given as goal

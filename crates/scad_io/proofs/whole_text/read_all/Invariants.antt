@@ -1,3 +1,4 @@
+-- What is read and what is left to read are the file.
 use Rattle.std.proofs.Common.{◌≡◌, ◌≤◌, ◌+◌, ◌-◌, ◌^◌, vec_len}
 use Rattle.std.specs.Prelude.{IfSome}
 use Rattle.scad_io.proofs.Taken.{ReadSoFar}

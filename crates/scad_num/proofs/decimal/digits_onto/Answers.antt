@@ -1,3 +1,4 @@
+-- The value of digits, up to a cap, is found digit by digit.
 use Rattle.std.proofs.Common.{◌≡◌, ◌+◌, ◌*◌, drop, get_or, min, arith, ap, sym, ◌∙◌}
 use Rattle.std.specs.Char.{digit_value}
 use Rattle.std.specs.Int.{IsInRange}

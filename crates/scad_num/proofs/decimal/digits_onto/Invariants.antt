@@ -1,3 +1,4 @@
+-- The digits that are left, put behind the value so far, give the whole value.
 use Rattle.std.proofs.Common.{◌≡◌, ◌≤◌, drop, min}
 use Rattle.std.specs.Str.Parse.{digits_value_after}
 use Rattle.scad_num.proofs.decimal.digits_onto.Given as goal

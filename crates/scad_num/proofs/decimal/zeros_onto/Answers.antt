@@ -1,3 +1,4 @@
+-- A value with zeros behind it, up to a cap, is found zero by zero.
 use Rattle.std.proofs.Common.{◌*◌, ◌-◌, ◌^◌, min, arith, ap, ◌∙◌}
 use Rattle.scad_num.proofs.Capped.{min-tens, min-tens_past}
 use Rattle.scad_num.proofs.decimal.zeros_onto.Goals as goal

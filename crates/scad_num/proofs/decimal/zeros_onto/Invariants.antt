@@ -1,3 +1,4 @@
+-- The zeros that are left, put behind the value so far, give the whole value.
 use Rattle.std.proofs.Common.{◌≡◌, ◌≤◌, ◌*◌, ◌^◌, min}
 use Rattle.scad_num.proofs.decimal.zeros_onto.Given as goal
 

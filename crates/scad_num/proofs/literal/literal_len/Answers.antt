@@ -1,3 +1,4 @@
+-- A literal is a mantissa with a power behind it.
 use Rattle.std.proofs.Common.{◌≡◌, ◌+◌, ◌-◌, true, take, length, length-drop, ap, ◌∙◌, subst, sym, arith}
 use Rattle.std.proofs.lemmas.Grind.{common_steps}
 use Rattle.scad_num.specs.Literal.{is_literal, literal_len}

@@ -1,3 +1,4 @@
+-- A decimal's value is that of its digits, moved by its exponent and rounded.
 use Rattle.std.proofs.Common.{subst, w64, ◌≡◌, ◌+◌, ◌^◌, ◌≤◌, length, drop, min, pos, arith, ap, ◌∙◌}
 use Rattle.std.specs.Str.Parse.{AllDigits}
 use Rattle.std.proofs.lemmas.Int.{to_z_pos}

@@ -1,3 +1,4 @@
+-- What was passed is digits.
 use Rattle.std.proofs.Common.{◌≡◌, ◌+◌, drop}
 use Rattle.scad_num.specs.Literal.{digits_len}
 use Rattle.scad_num.proofs.mantissa.digits_len.Given as goal

@@ -1,3 +1,4 @@
+-- The whole root of a square root by the library is the root.
 use Rattle.std.proofs.Common.{arith}
 use Rattle.scad_num.specs.Root.{root}
 use Rattle.scad_num.proofs.SquareRoot.{IsRoot-root, IsRoot-unique, root_small}
