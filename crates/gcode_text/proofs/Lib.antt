@@ -1,6 +1,6 @@
 pub mod Lines
 pub mod Numbers
-pub mod Printed
+pub mod NumberText
 pub mod Program
 pub mod Run
 pub mod Steps

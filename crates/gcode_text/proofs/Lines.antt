@@ -22,7 +22,7 @@ use Rattle.text_scan.proofs.Pieces.{one_piece}
 use Rattle.gcode_text.specs.Reading.{without_return, without_comment, words, line_words, number}
 use Rattle.gcode_text.specs.Machine.{State, any, command_of, takes, was_given, with_number, with_word, with_words, nothing_given, obeyed, counting, words_line, line_step}
 use Rattle.gcode_text.proofs.Words.{kept_in_front}
-use Rattle.gcode_text.proofs.Printed.{list_all-weaken, no_mark, digits_alone, decimal_digits, three_digits, five_digits}
+use Rattle.gcode_text.proofs.NumberText.{list_all-weaken, no_mark, digits_alone, decimal_digits, three_digits, five_digits}
 use Rattle.std.proofs.lemmas.Bool.{and_parts, not-true}
 
 -- ---- bytes

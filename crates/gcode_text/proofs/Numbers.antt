@@ -7,7 +7,7 @@ use Rattle.std.specs.List.{list_all}
 use Rattle.std.specs.Str.Parse.{AllDigits, digits_value_after}
 use Rattle.std.proofs.lemmas.Bool.{cases_lt}
 use Rattle.std.proofs.lemmas.Bool.Decides.{nat_tests}
-use Rattle.scad_num.proofs.Capped.{min-mul, ten_pow_pos}
+use Rattle.scad_num.proofs.Caps.{min-mul, ten_pow_pos}
 use Rattle.scad_num.proofs.Digits.{min-digits_value_after, digit_value-lt}
 use Rattle.gcode_text.specs.declared.letters.Given.{Given}
 use Rattle.gcode_text.specs.Cap.{cap, capped, capped_number}

@@ -20,7 +20,7 @@ use Rattle.gcode_text.specs.Numeral.{fixed, millimetres}
 use Rattle.gcode_text.specs.Reading.{lines, without_return, without_comment, words, number, size_of, whole_size, are_digits}
 use Rattle.gcode_text.specs.Machine.{State, After, any, origin, command_of, plain_commands, takes, was_given, with_number, with_word, with_words, command_line, words_line, line_step, onto_moves, moves_of_lines, stays, extrudes, obeyed}
 use Rattle.gcode_text.specs.Moves.{at_height, travel, raised}
-use Rattle.gcode_text.proofs.Printed.{millimetres_back, thousandths_back, amount_back, decimal_back}
+use Rattle.gcode_text.proofs.NumberText.{millimetres_back, thousandths_back, amount_back, decimal_back}
 use Rattle.gcode_text.proofs.Lines.{AreWords, spaced, step_of, no_feed_in, driven_by, travel_words, travel_line_is, travel_are_words, travel_given, print_words, print_line_is, print_are_words, print_given, height_words, height_line_is, height_are_words, height_given, in_word, heat_words, heat_line_is, heat_are_words, heat_given, decimal_no_feed, comment_back}
 use Rattle.std.proofs.lemmas.Bool.{not-true}
 

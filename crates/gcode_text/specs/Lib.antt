@@ -6,6 +6,5 @@ pub mod Moves
 pub mod Laws
 pub mod Numeral
 pub mod Reading
-
 -- What only the steps of the code promise to one another.
 pub mod Cap

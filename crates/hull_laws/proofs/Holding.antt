@@ -28,11 +28,11 @@ use Rattle.scad_hull.proofs.Distincts.{distinct_sorted}
 use Rattle.scad_hull.proofs.Escape.{volume}
 use Rattle.scad_hull.proofs.FacePlanes.{all_changed, space_total}
 use Rattle.scad_hull.proofs.Fans.{FanTurns, RingTurns}
-use Rattle.scad_hull.proofs.Listed.{ring_listed}
+use Rattle.scad_hull.proofs.FaceList.{ring_listed}
 use Rattle.scad_hull.proofs.Planar.{Same}
 use Rattle.scad_hull.proofs.SameFaces.{up_on, parallel, as_from, ring_facts, corners_of, sums_in}
 use Rattle.scad_hull.proofs.SameLists.{in_of}
-use Rattle.scad_hull.proofs.Seen.{seen}
+use Rattle.scad_hull.proofs.ViewAlong.{seen}
 use Rattle.scad_hull.proofs.Whole.{recursion_of}
 use Rattle.hull_laws.specs.Laws.{depth_at, inner_at, HullsHold}
 use Rattle.hull_laws.proofs.Membership.{IsInside, IsBeyond, across, along, over, inside_winds, outside_unwound}

@@ -12,14 +12,14 @@ use Rattle.scad_geom.specs.Point.{Point, is_same_point}
 use Rattle.scad_geom.specs.Segment.{Segment}
 use Rattle.scad_geom.specs.Winding.{turn, wind}
 use Rattle.scad_geom.specs.Balance.{starts_at, ends_at, IsBalanced}
-use Rattle.scad_geom.proofs.Balanced.{once, starts-cons, ends-cons}
+use Rattle.scad_geom.proofs.Balance.{once, starts-cons, ends-cons}
 use Rattle.scad_geom.proofs.Ring.{ring, num, ◌⊕◌, ◌⊖◌, ◌⊗◌, v0, v1, v2, v3, v4, v5, v6, v7, v8, v9}
 use Rattle.scad_solid.specs.declared.side.Side.{Side}
 use Rattle.scad_solid.specs.declared.triangle.Triangle.{Triangle}
 use Rattle.scad_solid.specs.Surface.{is_closed}
 use Rattle.scad_solid.specs.Cut.{plane_of, is_above, is_below, point_between, cut_between, cut_of, cuts_of}
 use Rattle.scad_solid.proofs.Holds.{below_or_above}
-use Rattle.slice_section.proofs.Marked.{cuts_balanced}
+use Rattle.slice_section.proofs.CutBalance.{cuts_balanced}
 use Rattle.winding_laws.specs.Nearness.{IsPoint, IsProper, seen_from}
 use Rattle.winding_laws.proofs.Views.{cross, swing_turned, turn_seen}
 use Rattle.scad_hull.proofs.Escape.{volume, IsToward, IsSided, one_open}

@@ -5,6 +5,5 @@ pub mod Events
 pub mod Sound
 pub mod Orders
 pub mod Calls
-
 -- What only the steps of the code promise to one another.
 pub mod Rule

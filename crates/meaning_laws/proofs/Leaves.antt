@@ -17,7 +17,7 @@ use Rattle.scad_shapes.specs.Rings.{solid_of_rings}
 use Rattle.scad_extrude.specs.declared.count.FlatForm.TheVariants.{Linear as Prism, Turned as Sweep}
 use Rattle.scad_extrude.specs.Count.{triangles_of}
 use Rattle.scad_extrude.specs.Linear.{linear_rings}
-use Rattle.scad_extrude.specs.Turned.{turned_of}
+use Rattle.scad_extrude.specs.Revolution.{turned_of}
 use Rattle.scad_modules.specs.declared.fault.ArgumentFault.TheVariants.{BadArgument, LeftOut, NumberRange}
 use Rattle.scad_modules.specs.declared.fault.ArgumentFault.TheVariants.{Memory as NoMemory}
 use Rattle.scad_modules.specs.Outline.{Pair, Outline, points_in, ring_of}
@@ -29,14 +29,14 @@ use Rattle.scad_tree.specs.Nesting.{nesting}
 use Rattle.scad_tree.specs.Solid.{Solid, surface}
 use Rattle.scad_tree.specs.Solids.{AreSolids}
 use Rattle.scad_shapes.specs.Limits.{triangle_limit}
-use Rattle.scad_inst.specs.Made.{tree_limit, placed, leaf, argued, placed_by, judge_solid, judge_flat}
-use Rattle.scad_inst.specs.Made.{judged}
+use Rattle.scad_inst.specs.Products.{tree_limit, placed, leaf, argued, placed_by, judge_solid, judge_flat}
+use Rattle.scad_inst.specs.Products.{judged}
 use Rattle.scad_inst.specs.FlatLeaves.{linear_leaf, judge_points, judge_sides, swept, turned_leaf, leaf_in, flat_leaves}
 use Rattle.scad_inst.specs.declared.space.Space.{Space}
 use Rattle.scad_inst.specs.declared.space.Space.TheVariants.{Solid as Outside, Linear, Turned}
 use Rattle.scad_inst.specs.declared.space.Turning.{Turning}
 use Rattle.scad_inst.specs.declared.space.Where.{Where}
-use Rattle.meaning_laws.proofs.Read.{Reads}
+use Rattle.meaning_laws.proofs.MemoryWants.{Reads}
 use Rattle.meaning_laws.proofs.ReadFlat.{reads-profile}
 use Rattle.meaning_laws.proofs.Surfaces.{IsSolidOr, solid-primitive, solid-linear, solid-turned}
 use Rattle.meaning_laws.proofs.Trees.{AllSolids, solids-surface}

@@ -1,7 +1,7 @@
 pub mod Faults
 pub mod Operators
 pub mod Builtins
-pub mod Read
+pub mod MemoryWants
 pub mod ReadSolids
 pub mod ReadFlat
 pub mod ReadMatrices

@@ -21,8 +21,8 @@ use Rattle.scad_modules.specs.FlatShapes.{begins_with_number, given_paths, paths
 use Rattle.scad_modules.specs.Extrusions.{is_plain, is_number_if_given, extruded_height, linear_by, turned_by}
 use Rattle.scad_modules.specs.Profile.{in_numbers, profile_onto, profile_of}
 use Rattle.meaning_laws.proofs.Faults.{ok, err, bind, either}
-use Rattle.meaning_laws.proofs.Read.{Reads, bad, reads-vector, reads-size, reads-size_of, reads-needed, reads-at}
-use Rattle.meaning_laws.proofs.Read.{reads-three, reads-face}
+use Rattle.meaning_laws.proofs.MemoryWants.{Reads, bad, reads-vector, reads-size, reads-size_of, reads-needed, reads-at}
+use Rattle.meaning_laws.proofs.MemoryWants.{reads-three, reads-face}
 use Rattle.meaning_laws.proofs.ReadSolids.{reads-resolution, reads-fragments, reads-common}
 
 -- ---- `square`, `circle`

@@ -20,7 +20,7 @@ use Rattle.scad_modules.specs.Transforms.{multmatrix_by, angle_of, about_axis, t
 use Rattle.scad_modules.specs.Transforms.{rotate_by}
 use Rattle.scad_modules.specs.Transforms.{matrix_of, product, turned}
 use Rattle.meaning_laws.proofs.Faults.{ok, err, bind, either}
-use Rattle.meaning_laws.proofs.Read.{Reads, bad, reads-vector, reads-needed, reads-at, reads-coordinates, reads-point}
+use Rattle.meaning_laws.proofs.MemoryWants.{Reads, bad, reads-vector, reads-needed, reads-at, reads-coordinates, reads-point}
 
 -- ---- `translate`, `scale`, `mirror`
 reads-translate : (v : Datum) → Reads (translate_by v)

@@ -12,8 +12,8 @@ use Rattle.scad_modules.specs.Shapes.{Fineness, resolution_of, fragments, all_si
 use Rattle.scad_modules.specs.Shapes.{height_of, common_radius, end_radius, cube_by, sphere_by, cylinder_of, faces_over}
 use Rattle.scad_modules.specs.Shapes.{polyhedron_by, cylinder_by, primitive_of}
 use Rattle.meaning_laws.proofs.Faults.{ok, bind}
-use Rattle.meaning_laws.proofs.Read.{Reads, reads-number, reads-vector, reads-size, reads-size_of, reads-needed}
-use Rattle.meaning_laws.proofs.Read.{reads-point, reads-some_points, reads-some_faces, reads-half, reads-radius}
+use Rattle.meaning_laws.proofs.MemoryWants.{Reads, reads-number, reads-vector, reads-size, reads-size_of, reads-needed}
+use Rattle.meaning_laws.proofs.MemoryWants.{reads-point, reads-some_points, reads-some_faces, reads-half, reads-radius}
 
 -- ---- circles
 pub reads-resolution : (fine : Fineness) → Reads (resolution_of fine)

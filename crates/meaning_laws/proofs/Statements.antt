@@ -8,14 +8,14 @@ use Rattle.scad_ast.specs.Tree.{Expression, Arguments, no_arguments, argument, I
 use Rattle.scad_ast.specs.Tree.{Item, assignment, call_of, choice, module_of, function_of}
 use Rattle.scad_value.specs.Datum.{Datum, undef}
 use Rattle.scad_value.specs.Comparison.{truth}
-use Rattle.scad_scope.specs.Assigned.{bindings}
+use Rattle.scad_scope.specs.Assignments.{bindings}
 use Rattle.scad_scope.specs.declared.binding.Binding.{Binding}
 use Rattle.scad_scope.specs.Env.{Env, Children, no_children, children}
 use Rattle.scad_expr.specs.State.{Action}
 use Rattle.scad_expr.specs.Variables.{Bound, set, empty}
 use Rattle.scad_expr.specs.Runs.{items}
 use Rattle.scad_expr.specs.Arguments.{is_statement}
-use Rattle.scad_expr.specs.Printed.{echo_line}
+use Rattle.scad_expr.specs.EchoLines.{echo_line}
 use Rattle.scad_expr.specs.Meaning.{values}
 use Rattle.scad_tree.specs.Solid.{Solid, nothing}
 use Rattle.scad_tree.specs.Solids.{AreSolids}
@@ -36,9 +36,9 @@ use Rattle.scad_inst.specs.declared.operation.Operation.{Operation}
 use Rattle.scad_inst.specs.declared.operation.Operation.TheVariants.{Unite, Intersect, Subtract}
 use Rattle.scad_inst.specs.declared.space.Space.TheVariants.{Turned as InTurned}
 use Rattle.scad_inst.specs.declared.space.Where.{Where}
-use Rattle.scad_inst.specs.Chosen.{child_named}
+use Rattle.scad_inst.specs.Choice.{child_named}
 use Rattle.scad_inst.specs.Modules.{Found, module_named, kept_children}
-use Rattle.scad_inst.specs.Opened.{scope_opened, names_opened, call_opened, dollars_of, fineness}
+use Rattle.scad_inst.specs.OpenFrames.{scope_opened, names_opened, call_opened, dollars_of, fineness}
 use Rattle.scad_inst.specs.Operation.{operated}
 use Rattle.scad_inst.specs.Scopes.{item_at, item_place, is_marked}
 use Rattle.scad_inst.specs.Where.{moved, stands, inside_linear, turned_at}

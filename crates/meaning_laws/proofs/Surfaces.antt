@@ -15,7 +15,7 @@ use Rattle.scad_solid.specs.Surface.{is_closed}
 use Rattle.scad_solid.specs.Wrap.{wrapped}
 use Rattle.scad_solid.proofs.Flow.{is_closed-alike}
 use Rattle.scad_solid.proofs.InRange.{stacked_in_range, fans_in_range}
-use Rattle.scad_solid.proofs.Wrapped.{is_closed-wrapped, wrapped_in_range}
+use Rattle.scad_solid.proofs.ClosedWays.{is_closed-wrapped, wrapped_in_range}
 use Rattle.scad_matrix.specs.declared.matrix.Matrix.{Matrix}
 use Rattle.scad_shapes.specs.declared.fault.ShapeFault.{ShapeFault}
 use Rattle.scad_shapes.specs.declared.fault.ShapeFault.TheVariants.{CoordinateRange, NotClosed, Memory}
@@ -24,7 +24,7 @@ use Rattle.scad_shapes.specs.Polyhedron.{placed_points, if_closed, polyhedron_of
 use Rattle.scad_shapes.specs.Rings.{placed_ring, two_rings, cube_rings, cylinder_rings, sphere_rings_of, solid_of_rings}
 use Rattle.scad_shapes.proofs.Solids.{alike-map, alike-sphere}
 use Rattle.scad_extrude.specs.Linear.{linear_rings}
-use Rattle.scad_extrude.specs.Turned.{turned_ring_at, turned_rings, turned_of}
+use Rattle.scad_extrude.specs.Revolution.{turned_ring_at, turned_rings, turned_of}
 use Rattle.scad_modules.specs.Primitive.{Primitive, cube, sphere, cylinder, polyhedron, solid_of}
 
 abbrev pub IsSolidOr : Result (List Triangle) ShapeFault → Type 0

@@ -5,7 +5,7 @@ use Rattle.scad_scope.specs.Env.{Env}
 use Rattle.scad_expr.specs.State.{State, Outcome, gives, refuses, step_limit}
 use Rattle.scad_inst.specs.declared.space.Where.{Where}
 use Rattle.scad_shapes.specs.Limits.{triangle_limit}
-use Rattle.scad_inst.specs.Made.{leaf_limit}
+use Rattle.scad_inst.specs.Products.{leaf_limit}
 use Rattle.scad_inst.specs.Meaning.{statements_meaning, means}
 
 -- no count is past its limit

@@ -1,14 +1,14 @@
 pub mod Zips
 pub mod Rising
 pub mod Same
-pub mod Merged
+pub mod LikePieces
 pub mod Lines
 pub mod Bundles
 pub mod Ranks
 pub mod Values
 pub mod Stops
 pub mod Pieces
-pub mod Named
+pub mod LikeNames
 pub mod Within
 pub mod OneOutlines
 pub mod OneLayer
@@ -16,8 +16,8 @@ pub mod Distinct
 pub mod SomeLevels
 pub mod SomeBundles
 pub mod SomePieces
-pub mod SomeMerged
-pub mod SomeLeft
+pub mod MergeTotal
+pub mod CancelTotal
 pub mod SomeLoops
 pub mod SomeOutlines
 pub mod Pairs

@@ -3,14 +3,14 @@ use Rattle.std.proofs.Common.{length, refl}
 use Rattle.std.proofs.lemmas.List.Elements.{All-from_recursion}
 use Rattle.slice_slab.specs.Bundles.{edge_at}
 use Rattle.slice_snap.specs.Pieces.{IsPieceWithin}
-use Rattle.slice_bool.proofs.Named.{pieces_are_named}
-use Rattle.slice_bool.proofs.OneMade.{made_are_one}
+use Rattle.slice_bool.proofs.PieceNames.{pieces_are_named}
+use Rattle.slice_bool.proofs.OneOutlines.{made_are_one}
 use Rattle.outline_laws.specs.Sameness.{ArePiecesSame}
 use Rattle.outline_laws.specs.Outlines.{OutlinesAreOne, AlikeHaveOneOutlines}
 use Rattle.outline_laws.proofs.Same.{pieces_chain}
-use Rattle.outline_laws.proofs.Merged.{made_too}
+use Rattle.outline_laws.proofs.LikePieces.{made_too}
 use Rattle.outline_laws.proofs.Pieces.{pieces_are_same}
-use Rattle.outline_laws.proofs.Named.{named_same}
+use Rattle.outline_laws.proofs.LikeNames.{named_same}
 use Rattle.outline_laws.proofs.Within.{pieces_written}
 
 pub alike_have_one_outlines : AlikeHaveOneOutlines

@@ -2,7 +2,7 @@
 use Rattle.std.proofs.Common.{◌≡◌, List, [], ◌∷◌, map, refl, sym, ap, ap₂, ◌∙◌}
 use Rattle.std.specs.Prelude.{filter}
 use Rattle.scad_geom.specs.declared.point.Edge.{Edge}
-use Rattle.scad_geom.proofs.Balanced.{same_place-is, same_whole}
+use Rattle.scad_geom.proofs.Balance.{same_place-is, same_whole}
 use Rattle.winding_laws.specs.Edges.{rounded, rounded_edge, has_length}
 use Rattle.winding_laws.proofs.Rounding.{rounded_same}
 use Rattle.winding_laws.proofs.Sameness.{are_same, same_by, are_same_turned, are_same_on}

@@ -10,12 +10,12 @@ use Rattle.scad_geom.specs.declared.point.Pt.{Pt}
 use Rattle.scad_geom.specs.declared.point.Edge.{Edge}
 use Rattle.scad_geom.specs.Segment.{segments}
 use Rattle.scad_geom.specs.Balance.{IsBalanced}
-use Rattle.scad_geom.proofs.Balanced.{same_place, same_place-is, same_place-itself}
+use Rattle.scad_geom.proofs.Balance.{same_place, same_place-is, same_place-itself}
 use Rattle.slice_loops.specs.Order.{is_less}
 use Rattle.slice_loops.specs.Drawing.{TakesLeastFrom, LeadsBack, IsLoop, AreDrawn}
 use Rattle.slice_loops.specs.Ascending.{NoneStarts}
 use Rattle.slice_loops.proofs.Points.{less_order}
-use Rattle.slice_loops.proofs.Closed.{edge, balanced_permuted, goes_on, comes_back, one_starts}
+use Rattle.slice_loops.proofs.LoopClosure.{edge, balanced_permuted, goes_on, comes_back, one_starts}
 use Rattle.slice_loops.proofs.Unique.{not_less_itself}
 
 -- ---- the least of the edges that pass a test

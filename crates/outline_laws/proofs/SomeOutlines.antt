@@ -16,15 +16,15 @@ use Rattle.winding_laws.proofs.Lengths.{lengths_keep_balance}
 use Rattle.slice_snap.specs.declared.piece.Piece.{Piece}
 use Rattle.slice_snap.specs.Pieces.{way_of, ways_of, ArePiecesBalanced}
 use Rattle.slice_snap.specs.Rounding.{rounded_edges}
-use Rattle.slice_snap.proofs.Balanced.{merged_balanced, left_balanced}
+use Rattle.slice_snap.proofs.Balance.{merged_balanced, left_balanced}
 use Rattle.slice_loops.specs.Outlines.{outlines_of}
 use Rattle.slice_bool.specs.Outlines.{AreMadeOf, AreOutlinesOf}
 use Rattle.slice_bool.proofs.BalanceLevels.{pieces_are_balanced}
 use Rattle.slice_bool.proofs.Membership.{pieces_are_placed}
-use Rattle.slice_bool.proofs.Made.{IsPlaced, placed_proper, merged_placed}
+use Rattle.slice_bool.proofs.PieceWinding.{IsPlaced, placed_proper, merged_placed}
 use Rattle.outline_laws.proofs.SomePieces.{HasPieces, pieces_of}
-use Rattle.outline_laws.proofs.SomeMerged.{HasMerged, pieces_merged}
-use Rattle.outline_laws.proofs.SomeLeft.{HasCancelled, edges_cancelled}
+use Rattle.outline_laws.proofs.MergeTotal.{HasMerged, pieces_merged}
+use Rattle.outline_laws.proofs.CancelTotal.{HasCancelled, edges_cancelled}
 use Rattle.outline_laws.proofs.SomeLoops.{HasDrawing, balanced_drawn}
 
 abbrev AreProper : List Piece → Type 0

@@ -9,7 +9,7 @@ use Rattle.scad_solid.specs.declared.triangle.Triangle.{Triangle}
 use Rattle.scad_tree.specs.Solid.{Solid, Solids, nothing, surface, union, intersection, difference, none, member}
 use Rattle.scad_tree.specs.Member.{holds, some_hold, all_hold}
 use Rattle.scad_tree.specs.Order.{surfaces, all_surfaces}
-use Rattle.scad_tree.specs.Numbered.{surface_at}
+use Rattle.scad_tree.specs.LeafNumbers.{surface_at}
 use Rattle.slice_layer.specs.Outlines.{StandsFor}
 use Rattle.outline_laws.proofs.Pairs.{either, both, without, either_holds, both_hold, first_holds}
 

@@ -7,8 +7,8 @@ use Rattle.scad_geom.specs.declared.point.Edge.{Edge}
 use Rattle.scad_geom.specs.Point.{whole, is_same_point}
 use Rattle.scad_geom.specs.Segment.{segment_of, segments}
 use Rattle.scad_geom.specs.Balance.{starts_at, ends_at, IsBalanced}
-use Rattle.scad_geom.proofs.Balanced.{once, starts-cons, ends-cons}
-use Rattle.slice_loops.proofs.Closed.{edge, balanced_permuted}
+use Rattle.scad_geom.proofs.Balance.{once, starts-cons, ends-cons}
+use Rattle.slice_loops.proofs.LoopClosure.{edge, balanced_permuted}
 
 pub none_balanced : (es : List Edge) → es ≡ [] → IsBalanced (segments es)
 none_balanced es h = record { each = λ p d. ap (λ (l : List Edge). starts_at p (segments l)) h ∙ sym (ap (λ (l : List Edge). ends_at p (segments l)) h) }

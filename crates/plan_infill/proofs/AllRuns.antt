@@ -23,7 +23,7 @@ use Rattle.plan_infill.specs.Runs.{IsDeep, point_on, AreRuns}
 use Rattle.plan_infill.specs.Steps.{up_to, all_of, turns_before, IsApart, IsStep, AreSteps}
 use Rattle.plan_infill.specs.Sweep.{is_deep_at, AreStretches}
 use Rattle.scad_geom.proofs.Signs.{zero_true}
-use Rattle.plan_infill.proofs.Tested.{are_runs}
+use Rattle.plan_infill.proofs.DeepRuns.{are_runs}
 
 -- ---- far before a line closed outlines don't turn
 over : ℤ → Pt → ℤ

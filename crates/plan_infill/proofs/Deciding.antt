@@ -23,7 +23,7 @@ use Rattle.plan_infill.specs.declared.line.Line.TheVariants.{Row, Column}
 use Rattle.plan_infill.specs.Runs.{IsDeep, point_on}
 use Rattle.plan_infill.specs.Reach.{line_reach, is_beside, exchanged, IsAround, IsBesideEnds, IsBesideLine, IsInReach}
 use Rattle.plan_infill.specs.Steps.{ComesNear, IsApart}
-use Rattle.plan_infill.proofs.Reached.{comes, told, exchange, exchange_back, apart_if, not_near}
+use Rattle.plan_infill.proofs.RowReach.{comes, told, exchange, exchange_back, apart_if, not_near}
 
 -- it holds, or it doesn't
 abbrev pub IsDecided : Type 0 → Type 0

@@ -12,7 +12,7 @@ use Rattle.plan_infill.specs.declared.line.Line.{Line}
 use Rattle.plan_infill.specs.declared.step.Step.{Step}
 use Rattle.plan_infill.specs.Runs.{point_on}
 use Rattle.plan_infill.specs.Steps.{up_to, all_of, ComesNear, IsApart, IsStep, AreTurnSteps, AreNearSteps, AreSteps}
-use Rattle.plan_infill.proofs.Reached.{not_near}
+use Rattle.plan_infill.proofs.RowReach.{not_near}
 
 up_to-append : (f : Step → ℤ) (z : ℤ) (xs ys : List Step)
     → up_to f z (xs ++ ys) ≡ up_to f z xs +ℤ up_to f z ys

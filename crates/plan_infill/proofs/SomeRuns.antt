@@ -11,8 +11,8 @@ use Rattle.plan_infill.specs.Runs.{IsDeep, point_on}
 use Rattle.plan_infill.specs.There.{HasRuns, RunsAreThere}
 use Rattle.plan_infill.proofs.Beyond.{extent, none_far}
 use Rattle.plan_infill.proofs.Deciding.{IsDecided, deep_or_not}
-use Rattle.plan_infill.proofs.Searched.{HasStretches, stretches_of}
-use Rattle.plan_infill.proofs.Tested.{not_deep, are_runs}
+use Rattle.plan_infill.proofs.StretchSearch.{HasStretches, stretches_of}
+use Rattle.plan_infill.proofs.DeepRuns.{not_deep, are_runs}
 
 -- what was decided
 abbrev holds : {P : Type 0} → IsDecided P → Bool

@@ -13,7 +13,7 @@ use Rattle.scad_geom.proofs.Heights.{Reaches}
 use Rattle.scad_geom.proofs.Turns.{Over, NotOver, level_at, over_true, over_false, reaching_turn, under_turn, over_turn}
 use Rattle.scad_geom.proofs.Turns as turns
 use Rattle.plan_infill.specs.Columns.{heading}
-use Rattle.scad_geom.proofs.Doubled.{beyond_is}
+use Rattle.scad_geom.proofs.CommonDivisor.{beyond_is}
 
 abbrev pub at : ℤ → ℤ → Pt
 at x y = record { x = x; y = y }

@@ -2,7 +2,6 @@
 pub mod Runs
 pub mod There
 pub mod Lengths
-
 -- What only the steps of the code promise to one another.
 pub mod Quotient
 pub mod Steps

@@ -15,7 +15,7 @@ use Rattle.scad_words.specs.declared.settings.Settings.{Settings}
 use Rattle.plan_layer.specs.Moves.{moves, all_moves}
 use Rattle.plan_layer.specs.Plan.{AreWallsFrom, round, wall_paths, IsPlan}
 use Rattle.plan_layer.specs.Infill.{line_at, LineRuns, forwards, backwards, line_paths, infill_paths}
-use Rattle.plan_layer.proofs.Counted.{length-moves}
+use Rattle.plan_layer.proofs.MoveCount.{length-moves}
 
 -- ---- walls
 loop_way : (l : List Pt) → nat_le 3 (length l) ≡ true → 2 ≤ length (round l)

@@ -12,7 +12,7 @@ use Rattle.plan_infill.specs.declared.line.Line.TheVariants.{Row, Column}
 use Rattle.plan_infill.specs.Quotient.{IsFloor}
 use Rattle.plan_infill.specs.Runs.{point_on}
 use Rattle.plan_infill.proofs.Quotients.{floor_is, after_floor, at_most_times}
-use Rattle.plan_layer.specs.Kept.{RunsKeepClear}
+use Rattle.plan_layer.specs.Clearance.{RunsKeepClear}
 use Rattle.plan_layer.proofs.Under.{deep_keeps}
 
 -- ---- along one axis, for a point k (n, d) = s (a, 1) + t (b, 1)

@@ -15,7 +15,7 @@ use Rattle.plan_infill.proofs.SomeRuns.{runs_are_there}
 use Rattle.scad_words.specs.declared.settings.Settings.{Settings}
 use Rattle.plan_layer.specs.Extent.{IsAmong, across, IsEdgeAmong}
 use Rattle.plan_layer.specs.Infill.{line_at, IsMultiple, depth, LineRuns, IsFilled, AreFilled, line_of}
-use Rattle.plan_layer.proofs.Filled.{FilledBefore, before_none, before_more, before_all}
+use Rattle.plan_layer.proofs.LineRuns.{FilledBefore, before_none, before_more, before_all}
 use Rattle.plan_layer.proofs.Multiples.{next_multiple}
 
 pub record HasLines (outlines : List (List Pt)) (layer : ℕ) (s : Settings) : Type 0 where

@@ -7,7 +7,7 @@ use Rattle.scad_geom.specs.Loop.{sides}
 use Rattle.scad_geom.specs.Shape.{shape_holds}
 use Rattle.outline_laws.proofs.Pairs.{either, without, either_holds, first_holds}
 use Rattle.outline_laws.proofs.SomeOutlines.{HasShapeOutlines, shape_outlines}
-use Rattle.plan_sides.proofs.Closed.{sides_balanced}
+use Rattle.plan_sides.proofs.Closure.{sides_balanced}
 use Rattle.plan_walls.specs.Walls.{with_rings, some_inside, IsFirstWithout}
 use Rattle.plan_walls.proofs.Leaves.{leaves_balanced}
 use Rattle.plan_layer.specs.There.{WallsAreThere}

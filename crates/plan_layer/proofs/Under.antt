@@ -9,10 +9,10 @@ use Rattle.scad_geom.specs.Loop.{sides}
 use Rattle.scad_geom.specs.Winding.{wind}
 use Rattle.winding_laws.specs.Points.{IsWithinOne}
 use Rattle.scad_ring.specs.Nearness.{Closed, IsClear}
-use Rattle.plan_sides.proofs.Closed.{sides_balanced}
+use Rattle.plan_sides.proofs.Closure.{sides_balanced}
 use Rattle.plan_infill.specs.Quotient.{IsFloor}
 use Rattle.plan_infill.specs.Runs.{IsDeep}
-use Rattle.plan_walls.specs.Kept.{clearance, KeepsWithin}
+use Rattle.plan_walls.specs.Clearance.{clearance, KeepsWithin}
 use Rattle.plan_walls.proofs.Off.{IsOff}
 use Rattle.plan_walls.proofs.Clear.{clear_of}
 use Rattle.plan_walls.proofs.Inside.{wound_alike}

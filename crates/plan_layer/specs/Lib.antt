@@ -2,11 +2,10 @@
 pub mod Moves
 pub mod Infill
 pub mod Plan
-pub mod Kept
+pub mod Clearance
 pub mod Lengths
 pub mod Refusal
 pub mod There
 pub mod One
-
 -- What only the steps of the code promise to one another.
 pub mod Extent

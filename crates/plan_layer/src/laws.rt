@@ -1,5 +1,5 @@
 //! Laws of the definitions, each carried by the contract of a function that does nothing.
-ghost use Rattle.plan_layer.specs.Kept.{RunsKeepClear, PlansKeepClear};
+ghost use Rattle.plan_layer.specs.Clearance.{RunsKeepClear, PlansKeepClear};
 ghost use Rattle.plan_layer.specs.Lengths.{PlansHaveLengths};
 ghost use Rattle.plan_layer.specs.There.{WallsAreThere, PlansAreThere, PlansAreDecided};
 ghost use Rattle.plan_layer.specs.One.{PlansAreOne, RefusalsAreOne, AcceptedIsNotRefused};

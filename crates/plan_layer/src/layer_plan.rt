@@ -6,7 +6,7 @@ ghost use Rattle.scad_geom.specs.Within.{IsWithin};
 ghost use Rattle.scad_words.specs.Settings.{AreInRange};
 ghost use Rattle.plan_layer.specs.Moves.{all_moves, move_limit};
 ghost use Rattle.plan_layer.specs.Plan.{IsPlan};
-ghost use Rattle.plan_layer.specs.Kept.{PathsKeepClear};
+ghost use Rattle.plan_layer.specs.Clearance.{PathsKeepClear};
 ghost use Rattle.plan_layer.specs.Refusal.{AreAccepted, IsManyMoves, IsRefusal};
 
 use crate::fault::PlanFault;

@@ -1,2 +1,2 @@
-pub mod Closed
+pub mod Closure
 pub mod Within

@@ -26,7 +26,7 @@ use Rattle.plan_support.specs.Near.{IsPlace, AreNear, AreHoles}
 use Rattle.plan_support.proofs.Canonical.{run_there, place_on}
 use Rattle.plan_support.proofs.Wound.{deep_if}
 use Rattle.plan_support.proofs.Wholly.{start_of, end_of}
-use Rattle.plan_support.proofs.Listed.{same_height, other_height}
+use Rattle.plan_support.proofs.HeightRows.{same_height, other_height}
 use Rattle.scad_geom.proofs.Rising.{by_order, order}
 
 -- ---- the runs of a row lie where outlines wind round

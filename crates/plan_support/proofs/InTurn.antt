@@ -12,7 +12,7 @@ use Rattle.plan_support.specs.declared.line.Want.{Want}
 use Rattle.plan_support.specs.Rows.{Row}
 use Rattle.plan_support.specs.Lines.{HasLine, HasLines}
 use Rattle.plan_support.specs.Shares.{IsOwnLine}
-use Rattle.plan_support.proofs.Lined.{lines_start, lines_more}
+use Rattle.plan_support.proofs.LineWork.{lines_start, lines_more}
 
 -- so many numbers from the first on
 abbrev from : ℕ → ℕ → List ℕ

@@ -8,7 +8,6 @@ pub mod On
 pub mod Covers
 pub mod Supports
 pub mod Lines
-
 -- What only the steps of the code promise to one another.
 pub mod Extent
 pub mod Shares

@@ -4,7 +4,7 @@ use Rattle.std.specs.Prelude.{is_some}
 use Rattle.gcode_text.specs.declared.machine.Move.{Move}
 use Rattle.plan_verify.specs.declared.judgement.Out.{Out}
 use Rattle.plan_verify.specs.declared.judgement.Judgement.{Judgement}
-use Rattle.plan_verify.specs.Judged.{added, IsAdded, passed, late, did, failed}
+use Rattle.plan_verify.specs.Judgement.{added, IsAdded, passed, late, did, failed}
 
 none_of : (o : Option Out) → is_some o ≡ false → o ≡ None
 none_of None e = refl

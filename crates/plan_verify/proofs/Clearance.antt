@@ -26,7 +26,7 @@ use Rattle.scad_ring.specs.Octagon.{reach, octagon}
 use Rattle.scad_ring.specs.Nearness.{Closed, IsNear, IsClear}
 use Rattle.plan_verify.specs.Stays.{clearance, KeepsClear}
 use Rattle.scad_near.specs.Edges.{ComeNear, AreApart}
-use Rattle.scad_near.proofs.Held.{Held, held_times, held_part, held_nearer, octagon_holds_origin}
+use Rattle.scad_near.proofs.RegionTurns.{Held, held_times, held_part, held_nearer, octagon_holds_origin}
 
 -- ---- points of a move
 axis_is : (k z e x d y f : ℤ) → k *ℤ z ≡ y → k *ℤ e ≡ f

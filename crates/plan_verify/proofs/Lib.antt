@@ -3,7 +3,7 @@ pub mod Lines
 pub mod Extents
 pub mod Windings
 pub mod Clearance
-pub mod Told
+pub mod MoveKnowledge
 pub mod Adding
 pub mod Files
 pub mod Indexes

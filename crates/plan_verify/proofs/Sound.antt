@@ -11,7 +11,7 @@ use Rattle.scad_geom.specs.Segment.{segments}
 use Rattle.scad_geom.specs.Winding.{wind}
 use Rattle.scad_geom.specs.Balance.{IsBalanced}
 use Rattle.scad_geom.specs.Loop.{sides}
-use Rattle.plan_sides.proofs.Closed.{sides_balanced}
+use Rattle.plan_sides.proofs.Closure.{sides_balanced}
 use Rattle.scad_ring.specs.Octagon.{reach}
 use Rattle.cli_read.specs.declared.layers.CliLayer.{CliLayer}
 use Rattle.plan_verify.specs.declared.field.Field.{Field}

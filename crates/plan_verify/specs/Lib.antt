@@ -4,6 +4,6 @@ pub mod Trial
 pub mod Stays
 pub mod Verdict
 pub mod Fields
-pub mod Judged
+pub mod Judgement
 pub mod Limits
 pub mod Laws

@@ -4,7 +4,7 @@ ghost use Rattle.cli_read.specs.View.{layers_of};
 ghost use Rattle.plan_verify.specs.Stays.{AreWithin};
 ghost use Rattle.plan_verify.specs.Verdict.{IsVerdict, IsVerdictBy};
 ghost use Rattle.plan_verify.specs.Fields.{IsSound, StaysInFields};
-ghost use Rattle.plan_verify.specs.Judged.{verdict_of, IsAdded, WithMove};
+ghost use Rattle.plan_verify.specs.Judgement.{verdict_of, IsAdded, WithMove};
 ghost use Rattle.plan_verify.specs.Limits.{IsMoveWithin};
 
 use crate::field::{Field, fields_of};

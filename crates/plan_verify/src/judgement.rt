@@ -1,6 +1,6 @@
 //! What is known of the moves that were read so far.
 ghost use Rattle.std.specs.Prelude.{◌≡◌, ◌-◌, ◌<◌, ◌^◌, None};
-ghost use Rattle.plan_verify.specs.Judged.{added, first_out};
+ghost use Rattle.plan_verify.specs.Judgement.{added, first_out};
 
 /// The first move that doesn't stay inside: its number among those that extrude, and its line's, each from 1.
 #[derive(Clone, Copy, Debug)]

@@ -8,8 +8,8 @@ use Rattle.scad_geom.specs.Near.{mean}
 use Rattle.winding_laws.specs.Points.{IsWithinOne}
 use Rattle.scad_ring.specs.Octagon.{reach, octagon}
 use Rattle.scad_ring.specs.Nearness.{Closed, Open, IsNear, IsClear}
-use Rattle.scad_ring.proofs.Opened.{near_by_one}
-use Rattle.plan_walls.specs.Kept.{clearance}
+use Rattle.scad_ring.proofs.OpenNearness.{near_by_one}
+use Rattle.plan_walls.specs.Clearance.{clearance}
 use Rattle.plan_walls.proofs.Off.{IsOff}
 use Rattle.plan_walls.proofs.Round.{weight_positive}
 

@@ -16,7 +16,7 @@ use Rattle.scad_geom.specs.Balance.{IsBalanced}
 use Rattle.scad_geom.specs.Leaves.{edges_of, AreLeavesBalanced}
 use Rattle.scad_geom.proofs.LeafEdges.{edges_of-append, both_balanced, none_balanced, chosen_balanced}
 use Rattle.scad_ring.specs.Corners.{corners_of}
-use Rattle.plan_sides.proofs.Closed.{sides_balanced}
+use Rattle.plan_sides.proofs.Closure.{sides_balanced}
 use Rattle.plan_walls.specs.Walls.{of_leaf, rings_from, with_rings}
 
 -- ---- which edges are a leaf's

@@ -9,5 +9,5 @@ pub mod Members
 pub mod Off
 pub mod Clear
 pub mod Inside
-pub mod Kept
+pub mod Distance
 pub mod Lengths

@@ -15,7 +15,7 @@ use Rattle.scad_ring.specs.Octagon.{reach, octagon_of}
 use Rattle.scad_ring.specs.Nearness.{Open, Meets}
 use Rattle.scad_ring.specs.Ring.{IsLeftOf, AllTurnLeft, IsRing}
 use Rattle.scad_ring.specs.Corners.{corners_of}
-use Rattle.scad_ring.proofs.Opened.{shifted, IsStep, near_shifted}
+use Rattle.scad_ring.proofs.OpenNearness.{shifted, IsStep, near_shifted}
 use Rattle.scad_ring.proofs.Shapes.{corners_of-several}
 use Rattle.scad_ring.proofs.Ways.{ring_is}
 use Rattle.plan_walls.specs.Rings.{IsStrictlyLeftOf}

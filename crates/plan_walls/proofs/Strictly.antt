@@ -12,7 +12,7 @@ use Rattle.scad_geom.proofs.Signs.{pos_left}
 use Rattle.winding_laws.proofs.Forms.{by_sign}
 use Rattle.scad_geom.proofs.Ring.{ring, num, ◌⊕◌, ◌⊖◌, ◌⊗◌, v0, v1, v2, v3, v4, v5, v6, v7, v8, v9}
 use Rattle.scad_ring.specs.Ring.{TurnsLeft}
-use Rattle.scad_ring.proofs.Opened.{shifted}
+use Rattle.scad_ring.proofs.OpenNearness.{shifted}
 
 -- ---- one side
 -- a way on from the end of a side turns left

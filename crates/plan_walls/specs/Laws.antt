@@ -2,7 +2,7 @@
 use Rattle.std.specs.Prelude.{ℕ, ◌≤◌, List}
 use Rattle.scad_geom.specs.declared.point.Pt.{Pt}
 use Rattle.plan_walls.specs.Walls.{AreWalls}
-use Rattle.plan_walls.specs.Kept.{StayApart, KeepClear}
+use Rattle.plan_walls.specs.Clearance.{StayApart, KeepClear}
 
 -- Each point of the walls at a distance c, from 1 micrometre on, keeps the clearance of c from each side of the outlines
 -- (that of 1 micrometre has no point).

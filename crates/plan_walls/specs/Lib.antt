@@ -1,6 +1,6 @@
 pub mod Rings
 pub mod Walls
-pub mod Kept
+pub mod Clearance
 pub mod Lengths
 pub mod Refusal
 pub mod Laws

@@ -7,7 +7,7 @@ ghost use Rattle.scad_geom.specs.Balance.{IsBalanced};
 ghost use Rattle.slice_events.specs.Limits.{crossing_limit};
 ghost use Rattle.slice_events.specs.Levels.{crossings};
 ghost use Rattle.plan_walls.specs.Walls.{with_rings, wall_edges, IsFirstWithout, AreWallsAlong, AreWalls};
-ghost use Rattle.plan_walls.specs.Kept.{StayApart, KeepClear};
+ghost use Rattle.plan_walls.specs.Clearance.{StayApart, KeepClear};
 ghost use Rattle.plan_walls.specs.Refusal.{wall_edge_limit, IsRefusal};
 
 use crate::edges::{edge_count, edges};

@@ -9,21 +9,21 @@ use Rattle.scad_geom.specs.declared.point.Pt.{Pt}
 use Rattle.scad_geom.specs.declared.point.Edge.{Edge}
 use Rattle.scad_words.specs.declared.settings.Settings.{Settings}
 use Rattle.scad_words.specs.Settings.{AreInRange}
-use Rattle.plan_layer.specs.Kept.{PlansKeepClear}
+use Rattle.plan_layer.specs.Clearance.{PlansKeepClear}
 use Rattle.plan_layer.specs.Lengths.{PlansHaveLengths}
-use Rattle.plan_walls.specs.Kept.{KeepsClear}
+use Rattle.plan_walls.specs.Clearance.{KeepsClear}
 use Rattle.plan_layer.specs.Moves.{all_moves}
 use Rattle.support_laws.specs.Apart.{KeepsApart}
 use Rattle.gcode_text.specs.declared.machine.Move.{Move}
 use Rattle.gcode_text.specs.Amount.{move_volume}
 use Rattle.slice_work.specs.Part.{Layout}
 use Rattle.slice_work.specs.Rates.{rates_of}
-use Rattle.print_laws.specs.Planned.{IsPlanned}
+use Rattle.print_laws.specs.LayerPlans.{IsPlanned}
 use Rattle.print_laws.specs.Print.{all_outlines, all_printed, moves_of, extruding, PathSide, sides_at, sides_from}
 use Rattle.print_laws.specs.Print.{move_along, moves_along, StaysInside, KeepsPlace, KeepPlaces}
 use Rattle.print_laws.specs.Laws.{SidesAreExtruded, MovesKeepPlaces, MovesStayInside}
 use Rattle.print_laws.proofs.Lengths.{have_lengths}
-use Rattle.print_laws.proofs.Numbered.{AreFrom, from_first}
+use Rattle.print_laws.proofs.LayerNumbers.{AreFrom, from_first}
 
 -- a side of a path that is no support
 abbrev IsNoSupport : PathSide → Type 0

@@ -26,7 +26,7 @@ use Rattle.slice_work.specs.Part.{Layout}
 use Rattle.scad_slice.specs.Layer.{IsLayerUnless, IsLayer}
 use Rattle.scad_slice.specs.Supports.{AreSupportsOf}
 use Rattle.cli_read.specs.Form.{IsWithinReach, IsShape}
-use Rattle.print_laws.specs.Planned.{IsPlanned}
+use Rattle.print_laws.specs.LayerPlans.{IsPlanned}
 use Rattle.print_laws.proofs.Supports.{SupportLaws, supports_stand}
 
 -- ---- a layer that is laid out

@@ -13,9 +13,9 @@ use Rattle.plan_layer.specs.Moves.{moves, all_moves}
 use Rattle.plan_layer.specs.Lengths.{PlansHaveLengths}
 use Rattle.gcode_text.specs.Gcode.{printed_paths}
 use Rattle.slice_work.specs.Part.{Layout}
-use Rattle.print_laws.specs.Planned.{IsPlanned, ArePlanned}
+use Rattle.print_laws.specs.LayerPlans.{IsPlanned, ArePlanned}
 use Rattle.print_laws.specs.Print.{all_printed}
-use Rattle.print_laws.proofs.Numbered.{AreFrom, from_first}
+use Rattle.print_laws.proofs.LayerNumbers.{AreFrom, from_first}
 
 -- along paths and along others behind them
 both : (paths more : List (List Pt)) → All HasLength (all_moves paths) → All HasLength (all_moves more)

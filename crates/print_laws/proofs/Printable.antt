@@ -11,18 +11,18 @@ use Rattle.scad_geom.specs.Limits.{point_limit}
 use Rattle.scad_geom.specs.Within.{IsWithin, IsEdgeWithin}
 use Rattle.scad_words.specs.declared.settings.Settings.{Settings}
 use Rattle.scad_words.specs.Settings.{AreInRange}
-use Rattle.plan_layer.specs.Kept.{PlansKeepClear}
+use Rattle.plan_layer.specs.Clearance.{PlansKeepClear}
 use Rattle.plan_layer.specs.Moves.{all_moves}
 use Rattle.gcode_text.specs.Amount.{paths_volume, layers_volume}
 use Rattle.gcode_text.specs.Gcode.{printed_paths}
 use Rattle.gcode_text.specs.Moves.{IsShortPoint, AreShortPaths}
-use Rattle.print_laws.specs.Planned.{IsPlanned}
+use Rattle.print_laws.specs.LayerPlans.{IsPlanned}
 use Rattle.print_laws.specs.Print.{all_printed, all_paths}
 use Rattle.slice_work.specs.declared.want.Want.TheVariants.{Plan as WithPlan}
 use Rattle.slice_work.specs.Part.{Layout, printed_of}
 use Rattle.slice_work.specs.Rates.{rates_of}
 use Rattle.print_laws.specs.Laws.{PlansArePrintable}
-use Rattle.print_laws.proofs.Numbered.{AreFrom, from_first}
+use Rattle.print_laws.proofs.LayerNumbers.{AreFrom, from_first}
 use Rattle.print_laws.proofs.Points.{plan_within, edges_within}
 use Rattle.print_laws.proofs.Volume.{move_limit, paths_most}
 use Rattle.print_laws.proofs.Wound.{moves_within}

@@ -21,12 +21,12 @@ use Rattle.slice_work.specs.Part.{Layout}
 use Rattle.scad_slice.specs.Layer.{IsLayer}
 use Rattle.scad_slice.specs.Membership.{IsLayerOf, HoldTree}
 use Rattle.scad_slice.proofs.OneLayer.{layer_is_one}
-use Rattle.plan_layer.specs.Kept.{PlansKeepClear}
-use Rattle.print_laws.specs.Planned.{IsPlanned, ArePlanned}
+use Rattle.plan_layer.specs.Clearance.{PlansKeepClear}
+use Rattle.print_laws.specs.LayerPlans.{IsPlanned, ArePlanned}
 use Rattle.print_laws.specs.Print.{program_of, AreLayersOf, written_from, written}
 use Rattle.print_laws.specs.Laws.{PlansArePrinted, LayersArePrinted, PrintsAreOne}
-use Rattle.print_laws.proofs.Numbered.{AreFrom, from_first, first_each}
-use Rattle.print_laws.proofs.Hatched.{are_hatches}
+use Rattle.print_laws.proofs.LayerNumbers.{AreFrom, from_first, first_each}
+use Rattle.print_laws.proofs.HatchReading.{are_hatches}
 use Rattle.print_laws.proofs.Layers.{IsLaid, laid, is_planned, are_shapes}
 use Rattle.print_laws.proofs.Supports.{SupportLaws}
 

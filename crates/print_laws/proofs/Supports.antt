@@ -15,7 +15,7 @@ use Rattle.plan_layer.specs.Moves.{all_moves}
 use Rattle.support_laws.specs.Apart.{KeepsApart, SupportsStandApart, SupportsHaveLengths, SupportsLieWithin}
 use Rattle.slice_work.specs.Part.{Layout}
 use Rattle.scad_slice.specs.Supports.{AreAllOutlines, AreNone, StandBelow, AreSupportsOf}
-use Rattle.print_laws.specs.Planned.{StandOutside}
+use Rattle.print_laws.specs.LayerPlans.{StandOutside}
 
 -- the laws of support runs
 pub record SupportLaws : Type 0 where

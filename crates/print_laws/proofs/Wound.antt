@@ -17,8 +17,8 @@ use Rattle.plan_infill.specs.Runs.{IsDeep, point_on}
 use Rattle.plan_sides.proofs.Within.{outlines_within}
 use Rattle.plan_layer.specs.Extent.{IsEdgeAmong}
 use Rattle.plan_layer.specs.Infill.{line_at}
-use Rattle.plan_layer.specs.Kept.{PathsKeepClear}
-use Rattle.plan_walls.specs.Kept.{KeepsClear}
+use Rattle.plan_layer.specs.Clearance.{PathsKeepClear}
+use Rattle.plan_walls.specs.Clearance.{KeepsClear}
 use Rattle.plan_layer.specs.Moves.{all_moves}
 use Rattle.plan_layer.proofs.Beyond.{nothing_beyond}
 use Rattle.plan_layer.proofs.Extents.{across_from, across_to}

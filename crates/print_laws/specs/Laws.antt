@@ -12,7 +12,7 @@ use Rattle.gcode_text.specs.Gcode.{Printed, printed_paths}
 use Rattle.gcode_text.specs.Moves.{program_moves, IsWritable}
 use Rattle.slice_work.specs.Part.{Layout}
 use Rattle.slice_work.specs.Rates.{rates_of}
-use Rattle.print_laws.specs.Planned.{ArePlanned}
+use Rattle.print_laws.specs.LayerPlans.{ArePlanned}
 use Rattle.print_laws.specs.Print.{all_outlines, all_printed, all_paths, program_of, moves_of}
 use Rattle.print_laws.specs.Print.{extruding, sides_from, moves_along}
 use Rattle.print_laws.specs.Print.{StayInside, KeepPlaces, AreLayersOf, written, PrintLayers, IsPrintOf}

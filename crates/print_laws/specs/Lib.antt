@@ -1,3 +1,3 @@
-pub mod Planned
+pub mod LayerPlans
 pub mod Print
 pub mod Laws

@@ -8,7 +8,7 @@ use Rattle.scad_geom.specs.declared.point.Pt.{Pt}
 use Rattle.scad_geom.specs.declared.point.Edge.{Edge}
 use Rattle.scad_words.specs.declared.settings.Settings.{Settings}
 use Rattle.scad_tree.specs.Solid.{Solid}
-use Rattle.plan_walls.specs.Kept.{KeepsClear}
+use Rattle.plan_walls.specs.Clearance.{KeepsClear}
 use Rattle.plan_layer.specs.Moves.{all_moves}
 use Rattle.support_laws.specs.Apart.{KeepsApart}
 use Rattle.cli_text.specs.Cli.{Layer, cli as text_of_layers}

@@ -9,6 +9,5 @@ pub mod Names
 pub mod Numbers
 pub mod Strings
 pub mod Vectors
-
 -- What only the steps of the code promise to one another.
 pub mod Ids

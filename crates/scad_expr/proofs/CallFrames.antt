@@ -3,12 +3,12 @@ use Rattle.std.proofs.Common.{◌≡◌, ℕ, List, length, Option, Some, None, 
 use Rattle.scad_ast.specs.Tree.{Arguments, Parameter}
 use Rattle.scad_value.specs.Datum.{Datum}
 use Rattle.scad_scope.specs.Env.{Env}
-use Rattle.scad_scope.specs.Stored.{StoredChildren, env_at, envs, children_in}
+use Rattle.scad_scope.specs.FrameStore.{StoredChildren, env_at, envs, children_in}
 use Rattle.scad_machine.specs.Arguments.{with_children, number_of_children}
 use Rattle.scad_machine.specs.Machine.{Held, along_in}
 use Rattle.scad_expr.specs.Meaning.{meaning, bound, bind}
 use Rattle.scad_expr.specs.Meaning.{opened as opens}
-use Rattle.scad_machine.specs.Opened.{opened, bound_in, with_count, opened_in}
+use Rattle.scad_machine.specs.OpenFrames.{opened, bound_in, with_count, opened_in}
 use Rattle.scad_machine.specs.State.{State, Outcome, gives, and_then}
 use Rattle.scad_machine.specs.Variables.{Bound}
 use Rattle.scad_machine.proofs.OpenFrames.{opened-bound, opened-again, call-env, call-along, call-set}

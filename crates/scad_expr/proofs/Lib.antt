@@ -22,7 +22,7 @@ pub mod RunsLeft
 pub mod StackBegins
 pub mod StackTurns
 pub mod StepsAndTurns
-pub mod Tested
+pub mod Condition
 pub mod Views
 pub use Rattle.scad_machine.proofs.Giving
 pub use Rattle.scad_machine.proofs.Homes

@@ -15,9 +15,9 @@ use Rattle.scad_expr.specs.Portions.{bind_one, defaulted}
 use Rattle.scad_expr.specs.Meaning.{Below, values, default_value, defaults, bound, bound_in_order}
 use Rattle.scad_ast.specs.declared.statement.Param.{Param}
 use Rattle.scad_ast.specs.Scope.{parameter}
-use Rattle.scad_scope.specs.Stored.{StoredChildren, env_at, envs}
+use Rattle.scad_scope.specs.FrameStore.{StoredChildren, env_at, envs}
 use Rattle.scad_machine.specs.Given.{missing, parameter_names}
-use Rattle.scad_machine.specs.Opened.{opened, set_in_last, bound_in}
+use Rattle.scad_machine.specs.OpenFrames.{opened, set_in_last, bound_in}
 use Rattle.scad_value.proofs.Lists.{arguments-drop, arguments-drop_all}
 use Rattle.scad_machine.proofs.Giving.{names-parameters}
 pub use Rattle.scad_machine.proofs.Giving.{nothing-left}

@@ -14,7 +14,7 @@ use Rattle.scad_value.specs.Datum.{Datum, undef}
 use Rattle.scad_value.specs.Datum.{vector as vector_datum}
 use Rattle.scad_value.specs.Comparison.{truth}
 use Rattle.scad_scope.specs.Env.{Env}
-use Rattle.scad_scope.specs.Stored.{env_at, envs}
+use Rattle.scad_scope.specs.FrameStore.{env_at, envs}
 use Rattle.scad_expr.specs.declared.part.Part.{Part}
 use Rattle.scad_machine.specs.declared.fault.EvalFault.{EvalFault}
 use Rattle.scad_expr.specs.declared.frame.Frame.TheVariants.{Vector, Each, If, Either, Turns, Leave, Body}
@@ -34,7 +34,7 @@ use Rattle.scad_expr.specs.Runs.{as_elements, items}
 use Rattle.scad_machine.specs.Variables.{Bound, set, empty, within}
 use Rattle.scad_expr.specs.Meaning.{Below, meaning, value, node, element_node, default_value, bound, called_own, bound_in_order, loop_turns, turns, for_variables, judge_named}
 use Rattle.scad_expr.specs.Meaning.{elements as elements_given}
-use Rattle.scad_machine.specs.Opened.{opened, set_in_last, left, bound_in, outer, IsInner}
+use Rattle.scad_machine.specs.OpenFrames.{opened, set_in_last, left, bound_in, outer, IsInner}
 use Rattle.scad_expr.specs.Pieces.{element_if, either_element}
 use Rattle.scad_expr.specs.Portions.{defaulted}
 use Rattle.scad_expr.specs.Stack.{Whole, Rest, added, onto, binds, fills, entered, filling, binding, inside_of, looped, loop_of, renewed, turned, turning, turns_of, course}

@@ -8,7 +8,7 @@ use Rattle.scad_value.specs.Datum.{Datum}
 use Rattle.scad_value.specs.Comparison.{truth}
 use Rattle.scad_builtin.specs.Builtin.{builtin}
 use Rattle.scad_scope.specs.Env.{Env}
-use Rattle.scad_scope.specs.Stored.{env_at, envs}
+use Rattle.scad_scope.specs.FrameStore.{env_at, envs}
 use Rattle.scad_machine.specs.declared.fault.EvalFault.{EvalFault}
 use Rattle.scad_expr.specs.declared.frame.Frame.{Frame}
 use Rattle.scad_expr.specs.declared.frame.Purpose.{Purpose}
@@ -18,7 +18,7 @@ use Rattle.scad_machine.specs.Functions.{Found, function_named}
 use Rattle.scad_expr.specs.Runs.{as_elements, items}
 use Rattle.scad_machine.specs.Variables.{Bound, set, empty, within}
 use Rattle.scad_expr.specs.Meaning.{Below, meaning, value, value_layer, node, values, default_value, called, called_own, called_builtin, bound_in_order, loop_turns, turns, for_variables}
-use Rattle.scad_machine.specs.Opened.{opened, set_in_last, left, bound_in, outer, IsInner}
+use Rattle.scad_machine.specs.OpenFrames.{opened, set_in_last, left, bound_in, outer, IsInner}
 use Rattle.scad_expr.specs.Pieces.{named_of}
 use Rattle.scad_expr.specs.Portions.{defaulted, lone}
 use Rattle.scad_expr.specs.Stack.{Whole, Rest, ended, added, binds, fills, renewed, turned, repeats, served, supplied, onto, rest_of}

@@ -28,13 +28,13 @@ use Rattle.scad_scope.specs.Names.{Names, is_same_name, value_of_name}
 use Rattle.scad_scope.specs.Env.{Env, inside, frame, Children}
 use Rattle.scad_machine.specs.declared.fault.EvalFault.TheVariants.{Memory as WantOfMemory}
 use Rattle.scad_machine.specs.State.{step_limit, Action, pure, ◌>>=◌, ◌>>◌, refuse, fault, fault_of, over, step, make, say}
-pub use Rattle.scad_machine.specs.Opened.{Opened}
+pub use Rattle.scad_machine.specs.OpenFrames.{Opened}
 use Rattle.scad_expr.specs.Places.{place, element_place}
 use Rattle.scad_machine.specs.Variables.{variable, Bound, set, empty, within}
 use Rattle.scad_machine.specs.Functions.{Found, function_named}
 use Rattle.scad_expr.specs.Runs.{items, as_elements, range_of_ends}
 use Rattle.scad_machine.specs.Arguments.{given, set_all, is_given, are_named, is_none, with_children}
-use Rattle.scad_machine.specs.Printed.{echo_line}
+use Rattle.scad_machine.specs.EchoLines.{echo_line}
 
 -- ---- values with a fault at a place
 -- what an operator gives, and the steps of what it makes

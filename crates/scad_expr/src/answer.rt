@@ -4,7 +4,7 @@ ghost use Rattle.scad_ast.specs.View.{expression_of};
 ghost use Rattle.scad_value.specs.View.{datum_of};
 ghost use Rattle.scad_machine.specs.Machine.{held, env_in, along_in, state_of};
 ghost use Rattle.scad_expr.specs.Meaning.{right_side, meaning};
-ghost use Rattle.scad_machine.specs.Opened.{left};
+ghost use Rattle.scad_machine.specs.OpenFrames.{left};
 ghost use Rattle.scad_expr.specs.Pieces.{side};
 ghost use Rattle.scad_expr.specs.Runs.{items};
 ghost use Rattle.scad_expr.specs.Stack.{Leads, Below_by, followed, followed_list, onto, rest, made_in, turns_of};

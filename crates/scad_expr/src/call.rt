@@ -5,12 +5,12 @@ ghost use Rattle.scad_ast.specs.Scope.{parameter};
 ghost use Rattle.scad_ast.specs.View.{expression_of, arguments};
 ghost use Rattle.scad_value.specs.View.{datum_of, data_in};
 ghost use Rattle.scad_scope.specs.Env.{inside, frame};
-ghost use Rattle.scad_scope.specs.Stored.{env_at, envs, children_in};
+ghost use Rattle.scad_scope.specs.FrameStore.{env_at, envs, children_in};
 ghost use Rattle.scad_scope.specs.View.{children_stored};
 ghost use Rattle.scad_machine.specs.Answers.{Does};
 ghost use Rattle.scad_machine.specs.Machine.{held, env_in, along_in, state_of};
 ghost use Rattle.scad_expr.specs.Meaning.{values, default_value, bound, bind, meaning};
-ghost use Rattle.scad_machine.specs.Opened.{opened, bound_in, left, opened_in};
+ghost use Rattle.scad_machine.specs.OpenFrames.{opened, bound_in, left, opened_in};
 ghost use Rattle.scad_machine.specs.Variables.{within};
 
 use crate::run::eval_at;

@@ -4,10 +4,10 @@ ghost use Rattle.std.specs.Prelude.{◌≡◌, ◌<◌, ◌≤◌, ◌++◌, ◌
 ghost use Rattle.scad_ast.specs.View.{arguments, expression_of};
 ghost use Rattle.scad_builtin.specs.Builtin.{builtin};
 ghost use Rattle.scad_value.specs.View.{datum_of, data_in, data_of};
-ghost use Rattle.scad_scope.specs.Stored.{envs};
+ghost use Rattle.scad_scope.specs.FrameStore.{envs};
 ghost use Rattle.scad_machine.specs.Answers.{Does, nothing};
 ghost use Rattle.scad_machine.specs.Machine.{held, env_in, along_in, state_of};
-ghost use Rattle.scad_machine.specs.Printed.{echo_line};
+ghost use Rattle.scad_machine.specs.EchoLines.{echo_line};
 ghost use Rattle.scad_machine.specs.State.{State, say};
 ghost use Rattle.scad_expr.specs.Meaning.{asserted, called_builtin, called_own, meaning, value};
 ghost use Rattle.scad_expr.specs.Runs.{as_elements};

@@ -7,7 +7,7 @@ ghost use Rattle.scad_value.specs.View.{datum_of};
 ghost use Rattle.scad_machine.specs.Answers.{Does, nothing, done_at};
 ghost use Rattle.scad_machine.specs.Machine.{Held, held, env_in, along_in, state_of};
 ghost use Rattle.scad_expr.specs.Meaning.{Below};
-ghost use Rattle.scad_machine.specs.Opened.{set_in_last};
+ghost use Rattle.scad_machine.specs.OpenFrames.{set_in_last};
 ghost use Rattle.scad_expr.specs.Stack.{Whole, Leads, Below_by, fills, filling, entered, rest, made_in};
 ghost use Rattle.scad_machine.specs.State.{State, Action, and_then};
 
@@ -95,7 +95,7 @@ pub(crate) fn fill<'p>(
 }
 
 /// The function's expression.
-#[tactic(auto, using(crate::proofs::StackTurns::nodes), unfolding(crate::specs::Stack::onto, crate::specs::Stack::entered, scad_machine::specs::Opened::left))]
+#[tactic(auto, using(crate::proofs::StackTurns::nodes), unfolding(crate::specs::Stack::onto, crate::specs::Stack::entered, scad_machine::specs::OpenFrames::left))]
 fn enter<'p>(
     opening: Opening<'p>,
     stack: &mut Stack<'p>,

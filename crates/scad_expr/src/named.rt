@@ -6,7 +6,7 @@ ghost use Rattle.scad_ast.specs.View.{expression_of, element_of, arguments};
 ghost use Rattle.scad_value.specs.View.{datum_of};
 ghost use Rattle.scad_machine.specs.Machine.{held, env_in, along_in, state_of};
 ghost use Rattle.scad_expr.specs.Meaning.{meaning};
-ghost use Rattle.scad_machine.specs.Opened.{left, set_in_last};
+ghost use Rattle.scad_machine.specs.OpenFrames.{left, set_in_last};
 ghost use Rattle.scad_expr.specs.Pieces.{named_of};
 ghost use Rattle.scad_expr.specs.Stack.{Leads, Below_by, added, inside, binding, looping, renewing, turning, rest, made_in};
 ghost use Rattle.scad_machine.specs.State.{and_then};

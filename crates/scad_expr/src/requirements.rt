@@ -8,7 +8,7 @@ ghost use Rattle.scad_machine.specs.Answers.{Does, nothing};
 ghost use Rattle.scad_machine.specs.Arguments.{given};
 ghost use Rattle.scad_expr.specs.Meaning.{tested, asserted, judge_named, judge_variables};
 ghost use Rattle.scad_machine.specs.State.{State};
-ghost use Rattle.scad_expr.specs.Tested.{first_after, test_by};
+ghost use Rattle.scad_expr.specs.Condition.{first_after, test_by};
 
 use crate::operations::{fault, named_fault};
 use scad_ast::Arg;
@@ -74,7 +74,7 @@ fn first_after(first: bool, arg: &Arg) -> bool
 }
 
 /// The value that is tested.
-#[tactic(auto, using(scad_value::proofs::Lists::lists, crate::proofs::Tested::tested))]
+#[tactic(auto, using(scad_value::proofs::Lists::lists, crate::proofs::Condition::tested))]
 fn test_of<'a>(args: &[Arg], values: &'a [Value]) -> Option<&'a Value>
     ensures { option_map (λ v. datum_of v.now) result ≡ value_of_name (codes "test")
         (given (codes "test" ∷ codes "text" ∷ []) (arguments args.now) (data_of values.now)) }

@@ -5,7 +5,7 @@ ghost use Rattle.scad_ast.specs.View.{expression_of, arguments};
 ghost use Rattle.scad_machine.specs.Answers.{Does};
 ghost use Rattle.scad_machine.specs.Machine.{held, env_in, along_in, state_of};
 ghost use Rattle.scad_expr.specs.Meaning.{bound_in_order, meaning};
-ghost use Rattle.scad_machine.specs.Opened.{bound_in, outer, left, IsInner};
+ghost use Rattle.scad_machine.specs.OpenFrames.{bound_in, outer, left, IsInner};
 ghost use Rattle.scad_expr.specs.Portions.{bind_one};
 ghost use Rattle.scad_machine.specs.Variables.{empty, within};
 

@@ -5,7 +5,7 @@ use Rattle.std.proofs.lemmas.List.{length-map}
 use Rattle.scad_solid.specs.Stack.{are_alike}
 use Rattle.scad_matrix.specs.declared.matrix.Matrix.{Matrix}
 use Rattle.scad_shapes.proofs.Solids.{alike-map}
-use Rattle.scad_extrude.specs.Turned.{turned_ring_at, turned_rings}
+use Rattle.scad_extrude.specs.Revolution.{turned_ring_at, turned_rings}
 
 module _ (outline : List (ℤ × ℤ)) (n : ℕ) (m : Matrix) where
   pub length-turn : (j : ℕ) → length (turned_ring_at outline n m j) ≡ length outline

@@ -1,3 +1,3 @@
 pub mod Count
 pub mod Linear
-pub mod Turned
+pub mod Revolution

@@ -7,11 +7,11 @@ ghost use Rattle.scad_num.specs.Number.{one};
 ghost use Rattle.scad_solid.specs.Stack.{are_alike, rings_in_range};
 ghost use Rattle.scad_solid.specs.Wrap.{wrapped};
 ghost use Rattle.scad_shapes.specs.Faults.{is_memory};
-ghost use Rattle.scad_shapes.specs.Pushed.{Pushes, Collects, ring_in_range};
+ghost use Rattle.scad_shapes.specs.Pushes.{Pushes, Collects, ring_in_range};
 ghost use Rattle.scad_shapes.specs.Rings.{ring_if_in_range};
 ghost use Rattle.scad_extrude.specs.declared.count.FlatForm.TheVariants.{Turned};
 ghost use Rattle.scad_extrude.specs.Count.{triangles_of};
-ghost use Rattle.scad_extrude.specs.Turned.{turned_point, turned_ring, turned_ring_at, turned_rings, turned_of};
+ghost use Rattle.scad_extrude.specs.Revolution.{turned_point, turned_ring, turned_ring_at, turned_rings, turned_of};
 
 use scad_cos::{cos, sin, vertex_angle};
 use scad_geom::Pt3;
@@ -24,7 +24,7 @@ use std::alloc::Global;
 
 /// The solid of an outline, x outwards and y upwards, in `n` turns round the z axis. CoordinateRange exactly
 /// where a placed coordinate is out of range.
-#[tactic(auto, using(crate::proofs::Counted::turned_count, scad_geom::proofs::Casts::casts))]
+#[tactic(auto, using(crate::proofs::TriangleCount::turned_count, scad_geom::proofs::Casts::casts))]
 pub fn turned(
     alloc: Global,
     ring: &[(Num, Num)],

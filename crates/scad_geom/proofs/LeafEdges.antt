@@ -10,7 +10,7 @@ use Rattle.scad_geom.specs.Point.{is_same_point}
 use Rattle.scad_geom.specs.Segment.{Segment, segments}
 use Rattle.scad_geom.specs.Balance.{IsBalanced}
 use Rattle.scad_geom.specs.Leaves.{edges_of}
-use Rattle.scad_geom.proofs.Balanced.{once}
+use Rattle.scad_geom.proofs.Balance.{once}
 
 pub edges_of-append : (leaf : ℕ) (es fs : List LeafEdge) → edges_of leaf (es ++ fs) ≡ edges_of leaf es ++ edges_of leaf
     fs

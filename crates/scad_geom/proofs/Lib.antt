@@ -9,9 +9,9 @@ pub mod Turns
 pub mod Shapes
 pub mod Bounds
 pub mod Crossing
-pub mod Doubled
+pub mod CommonDivisor
 pub mod Leaves
-pub mod Balanced
+pub mod Balance
 pub mod Places
 pub mod Nearest
 mod RoundingExamples
@@ -21,7 +21,7 @@ pub mod Crossings
 pub mod Square
 pub mod Points
 pub mod Sums
-pub mod Removed
+pub mod Removal
 pub mod Rising
 mod Boxes
 pub mod LeafEdges

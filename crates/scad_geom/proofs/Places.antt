@@ -2,7 +2,7 @@
 use Rattle.std.proofs.Common.{◌≡◌, Bool, true, ◌&&◌, ap₂}
 use Rattle.std.proofs.lemmas.Bool.{and_parts}
 use Rattle.scad_geom.specs.declared.point.Edge.{Edge}
-use Rattle.scad_geom.proofs.Balanced.{same_place, same_place-is, same_place-itself}
+use Rattle.scad_geom.proofs.Balance.{same_place, same_place-is, same_place-itself}
 
 -- two edges have the same ends
 abbrev pub same_edge : Edge → Edge → Bool

@@ -15,7 +15,7 @@ use Rattle.scad_geom.specs.Square.{square, square_wind, IsStrictlyWithin, IsCent
 use Rattle.scad_geom.proofs.Signs.{sub-zero, one-mul, minus_one-mul}
 use Rattle.scad_geom.proofs.Integers.{neg_mul}
 use Rattle.scad_geom.proofs.Crossing.{side_of, crossings}
-use Rattle.scad_geom.proofs.Doubled.{wind_halves}
+use Rattle.scad_geom.proofs.CommonDivisor.{wind_halves}
 use Rattle.scad_geom.proofs.Signs.{product_is_negative}
 use Rattle.scad_base.proofs.Tests.{cond_same}
 

@@ -52,7 +52,7 @@ pub fn cmp_slope(e: &Edge, f: &Edge) -> Ordering
 }
 
 /// On which side of an edge a point lies: 1 to its left, -1 to its right, 0 on its line.
-#[tactic(auto, using(crate::proofs::Casts::casts, crate::proofs::Doubled::side_of_wholes))]
+#[tactic(auto, using(crate::proofs::Casts::casts, crate::proofs::CommonDivisor::side_of_wholes))]
 pub fn side(e: &Edge, p: Pt) -> i8
     requires edge { IsEdgeWithin coordinate_limit e.now }
     requires point { IsWithin coordinate_limit p }

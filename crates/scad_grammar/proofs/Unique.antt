@@ -2,7 +2,7 @@
 use Rattle.std.proofs.Common.{[], sym, ◌∙◌, refl, subst}
 use Rattle.scad_lex.proofs.HaveSpellings.{tokens_have_spellings}
 use Rattle.scad_grammar.specs.Machine.{start, reach}
-use Rattle.scad_grammar.specs.Judged.{Judged}
+use Rattle.scad_grammar.specs.Verdict.{Judged}
 use Rattle.scad_grammar.specs.PrintedItems.{items_onto}
 use Rattle.scad_grammar.specs.Promises.{OneProgram, ReadsWhatIsDerived, StandsWhereAProgramBegins, JudgesAsTheGrammar}
 use Rattle.scad_grammar.specs.Promises.{EndsExcludeNothing, PrintedTokensDerive, PrintedTextDerives}
@@ -18,7 +18,7 @@ use Rattle.scad_grammar.proofs.faults.Faults.{standing, only_answer}
 use Rattle.scad_grammar.proofs.printing.Alike.{alike_of_kinds}
 use Rattle.scad_grammar.proofs.printing.AlikeItems.{derives_alike}
 use Rattle.scad_grammar.proofs.printing.Reread.{printed_text_read}
-use Rattle.scad_grammar.proofs.printing.Unplaced.{unplaced_twice}
+use Rattle.scad_grammar.proofs.printing.PlaceLoss.{unplaced_twice}
 use Rattle.std.proofs.lemmas.Option.{same_Some}
 
 pub one_program : OneProgram

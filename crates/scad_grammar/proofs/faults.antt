@@ -1,5 +1,5 @@
 -- The forms that are left out, and the one answer that tokens have.
-pub mod Accepted
+pub mod Acceptance
 pub mod Faults
 pub mod Foreign
 pub mod Forms

@@ -1,7 +1,7 @@
 -- How many constructs stand open.
-pub mod Ended
+pub mod PartEnd
 pub mod Expressions
-pub mod Kept
+pub mod OpenRest
 pub mod Open
 pub mod Openings
 pub mod Places

@@ -5,11 +5,11 @@ pub mod PrintableItems
 pub mod Printables
 pub mod PrintedItemTexts
 pub mod PrintedTexts
-pub mod Posted
+pub mod OperandOrder
 pub mod Printing
 pub mod PrintingItems
 pub mod Reread
 pub mod Spellable
 pub mod SpellableItems
 pub mod Texts
-pub mod Unplaced
+pub mod PlaceLoss

@@ -1,5 +1,5 @@
 -- The reader of tokens against the grammar.
-pub mod Asked
+pub mod TokenTests
 pub mod Backward
 pub mod BackwardElements
 pub mod Ends

@@ -5,7 +5,7 @@ pub mod Elements
 pub mod Fewer
 pub mod FewerElements
 pub mod FewerStatements
-pub mod Linked
+pub mod Outcome
 pub mod LinkedStatements
 pub mod Operands
 pub mod Parameters

@@ -9,8 +9,8 @@ use Rattle.scad_lex.specs.declared.token.Key.TheVariants.{Module, Function, If, 
 use Rattle.scad_ast.specs.Tree.{Expression, Parameter, Items, no_items, entry, Item, assignment, module_of}
 use Rattle.scad_ast.specs.Tree.{function_of, call_of, choice}
 use Rattle.scad_grammar.specs.Tokens.{sign, key, word}
-use Rattle.scad_grammar.specs.Printed.{nowhere, in_round_onto, comma_onto, expression_onto, arguments_onto, unplaced}
-use Rattle.scad_grammar.specs.Printed.{unplaced_arguments, IsPrintable, ArePrintable}
+use Rattle.scad_grammar.specs.TreeText.{nowhere, in_round_onto, comma_onto, expression_onto, arguments_onto, unplaced}
+use Rattle.scad_grammar.specs.TreeText.{unplaced_arguments, IsPrintable, ArePrintable}
 
 -- the token of a name that is called: four of them are keywords
 abbrev pub callee_token : List ℕ → Token

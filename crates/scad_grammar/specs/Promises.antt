@@ -13,7 +13,7 @@ use Rattle.scad_grammar.specs.Nesting.{Opens}
 use Rattle.scad_grammar.specs.State.{State, open_count}
 use Rattle.scad_grammar.specs.StatementRules.{descent}
 use Rattle.scad_grammar.specs.Machine.{start, reach, run, outcome_of, Refusal}
-use Rattle.scad_grammar.specs.Judged.{Judged, NothingIsRefused}
+use Rattle.scad_grammar.specs.Verdict.{Judged, NothingIsRefused}
 
 -- no tokens derive two programs
 abbrev pub OneProgram : Type 0

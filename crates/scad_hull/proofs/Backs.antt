@@ -29,12 +29,12 @@ use Rattle.scad_hull.proofs.FacePlanes.{all_changed, faces_are, space_total}
 use Rattle.scad_hull.proofs.FirstFaces.{no_inner, some_inner, on_x_line, on_d_line, met_off, lowest}
 use Rattle.scad_hull.proofs.FirstPlanes.{none_by, some, first_plane, turned_again, two_points}
 use Rattle.scad_hull.proofs.FoundPlanes.{plane_found}
-use Rattle.scad_hull.proofs.Listed.{ring_listed}
+use Rattle.scad_hull.proofs.FaceList.{ring_listed}
 use Rattle.scad_hull.proofs.NextPlanes.{IsNotLower, turned_at_least}
 use Rattle.scad_hull.proofs.NextSides.{side_beyond}
 use Rattle.scad_hull.proofs.SameFaces.{side_of}
 use Rattle.scad_hull.proofs.SameLists.{in_of, differ}
-use Rattle.scad_hull.proofs.Turned.{more_at}
+use Rattle.scad_hull.proofs.OutermostPlane.{more_at}
 
 -- a test holds for all, or there is one for which it doesn't
 search_for : {X : Type 0} (p : X → Bool) (xs : List X)

@@ -14,7 +14,7 @@ use Rattle.scad_hull.specs.Faces.{face_in, IsFacePlane, IsSideOf, IsFaceOf}
 use Rattle.scad_hull.proofs.Lines.{nought_right}
 use Rattle.scad_hull.proofs.NextPlanes.{turned_at_side}
 use Rattle.scad_hull.proofs.FoundPlanes.{way_square, plane_found}
-use Rattle.scad_hull.proofs.Seen.{seen}
+use Rattle.scad_hull.proofs.ViewAlong.{seen}
 
 -- what two facts of a result that is there tell together
 pub both_ok : {X E : Type 0} (P Q R : X → Type 0) (r : Result X E) → ((x : X) → P x → Q x → R x) → IfOk r P

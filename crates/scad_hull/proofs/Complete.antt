@@ -29,12 +29,12 @@ use Rattle.scad_hull.proofs.FacesOne.{plane_of, only_ring}
 use Rattle.scad_hull.proofs.Fans.{FanTurns, RingTurns, Differ}
 use Rattle.scad_hull.proofs.FoundPlanes.{way_square}
 use Rattle.scad_hull.proofs.Lines.{nought_right}
-use Rattle.scad_hull.proofs.Listed.{faces_exact, ring_listed}
+use Rattle.scad_hull.proofs.FaceList.{faces_exact, ring_listed}
 use Rattle.scad_hull.proofs.Planar.{Same}
 use Rattle.scad_hull.proofs.PlaneRings.{from_other}
 use Rattle.scad_hull.proofs.SameFaces.{up_on, parallel, as_from, one_face, ring_facts, corners_of, sums_in}
 use Rattle.scad_hull.proofs.SameLists.{in_of, differ, same_lists, from_distinct, to_distinct}
-use Rattle.scad_hull.proofs.Seen.{seen}
+use Rattle.scad_hull.proofs.ViewAlong.{seen}
 use Rattle.scad_hull.proofs.Surrounds.{IsDeep, surrounded}
 
 pub faces_total : IsTotalOrder face_cmp

@@ -27,7 +27,7 @@ use Rattle.scad_hull.proofs.Lines.{nought_right}
 use Rattle.scad_hull.proofs.NextPlanes.{itself_in}
 use Rattle.scad_hull.proofs.PlaneRings.{InPlaneOrder, Contains-filter, all_flat, flat_between, face_made}
 use Rattle.scad_hull.proofs.Rings.{all_joined}
-use Rattle.scad_hull.proofs.Seen.{seen, x_of, y_of, z_of}
+use Rattle.scad_hull.proofs.ViewAlong.{seen, x_of, y_of, z_of}
 use Rattle.scad_hull.proofs.Whole.{recursion_of}
 
 -- ---- the order of space

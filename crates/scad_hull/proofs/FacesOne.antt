@@ -15,11 +15,11 @@ use Rattle.scad_hull.specs.Ring.{IsConvexRing, StartsFirst}
 use Rattle.scad_hull.specs.Space.{space_cmp, normal_of, depth_of, face_left, dot_of, square_of, IsSpaceBefore}
 use Rattle.scad_hull.specs.Faces.{in_plane, face_in, IsFacePlane}
 use Rattle.scad_hull.proofs.FacePlanes.{ring_there}
-use Rattle.scad_hull.proofs.Mirrored.{mirrored}
+use Rattle.scad_hull.proofs.Mirror.{mirrored}
 use Rattle.scad_hull.proofs.OneRing.{far, one_ring, onward_ahead}
 use Rattle.scad_hull.proofs.Planar.{Same, plane}
 use Rattle.scad_hull.proofs.PlaneRings.{InPlaneOrder, all_flat, flat_between, exchanged, other_zero}
-use Rattle.scad_hull.proofs.Seen.{seen}
+use Rattle.scad_hull.proofs.ViewAlong.{seen}
 use Rattle.scad_hull.proofs.Whole.{recursion_of}
 
 -- a way to whose left two points on a line lie, with the coordinates exchanged

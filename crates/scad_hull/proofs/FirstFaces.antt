@@ -24,7 +24,7 @@ use Rattle.scad_hull.proofs.NextPlanes.{IsNotLower}
 use Rattle.scad_hull.proofs.NextSides.{part, along_x, along_y, along_z}
 use Rattle.scad_hull.proofs.PlaneRings.{Contains-filter}
 use Rattle.scad_hull.proofs.SameFaces.{parallel, as_from}
-use Rattle.scad_hull.proofs.Seen.{space_less, IsLower}
+use Rattle.scad_hull.proofs.ViewAlong.{space_less, IsLower}
 use Rattle.scad_hull.proofs.Whole.{recursion_of}
 
 told_apart : true ≡ false → ⊥

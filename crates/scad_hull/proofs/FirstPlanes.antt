@@ -19,7 +19,7 @@ use Rattle.scad_hull.proofs.NextPlanes.{itself_in, turned_at_line}
 use Rattle.scad_hull.proofs.PlaneRings.{Contains-filter}
 use Rattle.scad_hull.proofs.FacePlanes.{no_squares}
 use Rattle.scad_hull.proofs.FoundPlanes.{way_square, front_some}
-use Rattle.scad_hull.proofs.Seen.{scaled_x, scaled_y, scaled_z}
+use Rattle.scad_hull.proofs.ViewAlong.{scaled_x, scaled_y, scaled_z}
 
 told_apart : true ≡ false → ⊥
 told_apart e = cc

@@ -11,7 +11,7 @@ use Rattle.scad_geom.proofs.Signs.{sub-zero, climbs}
 use Rattle.scad_hull.specs.declared.turning.Normal.{Normal}
 use Rattle.scad_hull.specs.Space.{normal_of, depth_of, face_left, beside, IsOnLine, IsInFront, IsTurned, dot_of, square_of}
 use Rattle.scad_hull.proofs.Lines.{nought_right}
-use Rattle.scad_hull.proofs.Seen.{seen, scaled_x, scaled_y, scaled_z}
+use Rattle.scad_hull.proofs.ViewAlong.{seen, scaled_x, scaled_y, scaled_z}
 
 level : (z : ℤ) → pos 0 ≤ℤ z → z ≤ℤ pos 0 → z ≡ pos 0
 level z h k = omega (arith, ints)

@@ -26,7 +26,7 @@ use Rattle.scad_hull.proofs.FoundPlanes.{way_square, height_by, aside_by, plane_
 use Rattle.scad_hull.proofs.Beyond.{apart}
 use Rattle.scad_hull.proofs.Between.{side_in, side_on, seen_past, seen_from}
 use Rattle.scad_hull.proofs.SharedSides.{shared_side}
-use Rattle.scad_hull.proofs.Seen.{seen, scaled_x, scaled_y, scaled_z}
+use Rattle.scad_hull.proofs.ViewAlong.{seen, scaled_x, scaled_y, scaled_z}
 
 weak : (z : ℤ) → pos 0 <ℤ z → pos 0 ≤ℤ z
 weak z h = omega (arith, ints)

@@ -21,7 +21,7 @@ use Rattle.scad_hull.specs.Faces.{in_plane, face_in}
 use Rattle.scad_hull.proofs.Chains.{Ascends}
 use Rattle.scad_hull.proofs.Lines.{nought_right, on_one_line}
 use Rattle.scad_hull.proofs.Planar.{IsAfter, Same}
-use Rattle.scad_hull.proofs.Seen.{seen}
+use Rattle.scad_hull.proofs.ViewAlong.{seen}
 use Rattle.scad_hull.proofs.Whole.{ring_made, recursion_of}
 
 told_apart : true ≡ false → ⊥

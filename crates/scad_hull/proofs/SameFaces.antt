@@ -21,7 +21,7 @@ use Rattle.scad_hull.proofs.Planar.{Same}
 use Rattle.scad_hull.proofs.Lines.{nought_right}
 use Rattle.scad_hull.proofs.PlaneRings.{InPlaneOrder, from_other}
 use Rattle.scad_hull.proofs.SamePlanes.{face_found}
-use Rattle.scad_hull.proofs.Seen.{seen, scaled_x, scaled_y, scaled_z}
+use Rattle.scad_hull.proofs.ViewAlong.{seen, scaled_x, scaled_y, scaled_z}
 use Rattle.scad_hull.proofs.SharedSides.{AreInTurn}
 use Rattle.scad_hull.proofs.SidesOf.{IsSideIn, of_ring, member, flat_at}
 use Rattle.scad_hull.proofs.Whole.{recursion_of}

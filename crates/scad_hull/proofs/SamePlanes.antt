@@ -15,7 +15,7 @@ use Rattle.scad_hull.specs.Chain.{ring_round}
 use Rattle.scad_hull.specs.Space.{normal_of, depth_of, is_none, face_left, dot_of, square_of}
 use Rattle.scad_hull.specs.Faces.{in_plane, face_in, face_by, face_through, IsFacePlane}
 use Rattle.scad_hull.proofs.Lines.{nought_right}
-use Rattle.scad_hull.proofs.Seen.{turn_by, scaled_x, scaled_y, scaled_z}
+use Rattle.scad_hull.proofs.ViewAlong.{turn_by, scaled_x, scaled_y, scaled_z}
 use Rattle.scad_hull.proofs.PlaneRings.{from_other}
 use Rattle.scad_hull.proofs.Whole.{recursion_of}
 

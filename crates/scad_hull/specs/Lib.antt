@@ -7,7 +7,6 @@ pub mod Flat
 pub mod Space
 pub mod Faces
 pub mod Laws
-
 -- What only the steps of the code promise to one another.
 pub mod Spot
 pub mod Node

@@ -25,7 +25,7 @@ pub fn rings_hold()
 
 /// The listed faces of points of space are all the convex rings, clockwise as seen from outside, round all points of a
 /// plane that has no point outside of it, and nothing else.
-#[tactic(auto, using(crate::proofs::Listed::faces_are_convex))]
+#[tactic(auto, using(crate::proofs::FaceList::faces_are_convex))]
 pub fn faces_are_convex()
     ensures { FacesAreConvex }
 {}

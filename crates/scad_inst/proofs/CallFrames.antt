@@ -7,17 +7,17 @@ use Rattle.scad_value.specs.Datum.{Datum}
 use Rattle.scad_value.specs.View.{datum_of, data_of}
 use Rattle.scad_value.specs.declared.value.Value.{Value}
 use Rattle.scad_scope.specs.Env.{Env, children}
-use Rattle.scad_scope.specs.Stored.{StoredChildren}
+use Rattle.scad_scope.specs.FrameStore.{StoredChildren}
 use Rattle.scad_expr.specs.Machine.{Held}
 use Rattle.scad_expr.specs.Meaning.{Below as Expressions, Opened, bound, bind}
-use Rattle.scad_expr.specs.Opened.{opened, bound_in, left, outer}
+use Rattle.scad_expr.specs.OpenFrames.{opened, bound_in, left, outer}
 use Rattle.scad_expr.specs.State.{State, Outcome, gives, and_then}
 use Rattle.scad_expr.specs.Variables.{Bound}
 use Rattle.scad_value.proofs.Lists.{arguments-drop, arguments-drop_all, data-drop, data-drop_all}
 use Rattle.scad_expr.proofs.OpenFrames.{call-left}
 use Rattle.scad_inst.specs.Meaning.{statements_meaning}
 use Rattle.scad_inst.specs.Modules.{Found}
-use Rattle.scad_inst.specs.Opened.{call_opened, dollars_of}
+use Rattle.scad_inst.specs.OpenFrames.{call_opened, dollars_of}
 use Rattle.scad_inst.specs.Portions.{own_opened}
 use Rattle.scad_inst.proofs.Levels.{expressions-are}
 

@@ -11,7 +11,7 @@ use Rattle.scad_inst.specs.declared.operation.Operation.TheVariants.{Unite}
 use Rattle.scad_inst.specs.Meaning.{Below, called, called_own, looped, let_in, combined}
 use Rattle.scad_expr.specs.Meaning.{bound}
 use Rattle.scad_inst.specs.Modules.{Found}
-use Rattle.scad_inst.specs.Opened.{call_opened}
+use Rattle.scad_inst.specs.OpenFrames.{call_opened}
 use Rattle.scad_inst.specs.Portions.{called_with, own_opened}
 use Rattle.scad_inst.specs.declared.space.Where.{Where}
 use Rattle.scad_inst.proofs.Levels.{expressions-are}

@@ -7,7 +7,7 @@ use Rattle.scad_modules.specs.Shapes.{Fineness}
 use Rattle.scad_machine.specs.declared.fault.EvalFault.{EvalFault}
 use Rattle.scad_expr.specs.State.{State, Outcome, gives, refuses}
 use Rattle.scad_expr.specs.Variables.{variable}
-use Rattle.scad_inst.specs.Opened.{fineness}
+use Rattle.scad_inst.specs.OpenFrames.{fineness}
 
 -- what is given isn't refused
 pub not-refused : {A B : Type 0} (a : A) (s t : State) (e : EvalFault) (o : Outcome B) → gives a s ≡ refuses e t

@@ -2,7 +2,7 @@
 use Rattle.std.proofs.Common.{◌≡◌, ◌-◌, List, [], ◌∷◌, length, ap}
 use Rattle.scad_scope.specs.Env.{outside}
 use Rattle.scad_scope.specs.Names.{Names}
-use Rattle.scad_scope.specs.Stored.{Stored, env_at, envs}
+use Rattle.scad_scope.specs.FrameStore.{Stored, env_at, envs}
 use Rattle.scad_expr.specs.Variables.{within}
 use Rattle.scad_inst.specs.FirstFrames.{outermost}
 

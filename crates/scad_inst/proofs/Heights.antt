@@ -5,7 +5,7 @@ use Rattle.scad_machine.specs.declared.fault.EvalFault.{EvalFault}
 use Rattle.scad_expr.specs.State.{State, Action, gives, refuses, ◌>>=◌, ◌>>◌}
 use Rattle.scad_expr.proofs.Loops.{goes, stops}
 use Rattle.scad_tree.specs.Solid.{Solid}
-use Rattle.scad_inst.specs.Made.{judge_solid}
+use Rattle.scad_inst.specs.Products.{judge_solid}
 use Rattle.scad_inst.specs.declared.space.Space.{Space}
 
 module _ (at : Place) (space : Space) (height : Action (ℤ × Bool)) (rest : ℤ × Bool → Action Solid) (s : State) (outside : judge_solid at space s ≡ gives (tt {0}) s) where

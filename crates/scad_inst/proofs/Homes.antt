@@ -14,7 +14,7 @@ use Rattle.scad_ast.proofs.ScopeRows.{module_view}
 use Rattle.scad_scope.specs.Names.{is_same_name}
 use Rattle.scad_scope.specs.Definitions.{module_word, defining, last_item, module_in}
 use Rattle.scad_scope.specs.Env.{outside, or_else}
-use Rattle.scad_scope.specs.Stored.{Stored, stored_at, env_at, env_round, env_of, envs}
+use Rattle.scad_scope.specs.FrameStore.{Stored, stored_at, env_at, env_round, env_of, envs}
 use Rattle.scad_scope.proofs.Outwards.{length-envs, round-before, round-past}
 use Rattle.scad_inst.specs.Modules.{found_in, defined, last_defined, defined_in, module_named}
 use Rattle.scad_inst.specs.Modules.{Module as Definition}

@@ -2,7 +2,7 @@
 use Rattle.std.proofs.Common.{◌≡◌, ℕ, ◌<◌, ◌≤◌, List, length, take, Some, None, refl, sym, ap, ◌∙◌, arith}
 use Rattle.std.proofs.lemmas.List.{get_or_past}
 use Rattle.scad_scope.specs.Env.{outside, no_children, children}
-use Rattle.scad_scope.specs.Stored.{Stored, StoredChildren, stored_at, env_at, env_round, envs, children_in}
+use Rattle.scad_scope.specs.FrameStore.{Stored, StoredChildren, stored_at, env_at, env_round, envs, children_in}
 use Rattle.scad_scope.proofs.Outwards.{length-envs, round-before, round-past}
 use Rattle.scad_inst.specs.Modules.{kept_or, kept_children}
 use Rattle.scad_expr.proofs.Homes.{at_number}

@@ -14,7 +14,7 @@ pub mod FirstFrames
 pub mod FlatRounds
 pub mod Heights
 pub mod Homes
-pub mod HullsMade
+pub mod HullFacts
 pub mod Items
 pub mod KeptPoints
 pub mod KeptRound

@@ -4,7 +4,7 @@ use Rattle.scad_tree.specs.declared.node.Node.{Node}
 use Rattle.scad_tree.specs.Solid.{Solid}
 use Rattle.scad_tree.specs.View.{solid_of, solids}
 use Rattle.scad_expr.specs.Machine.{Held, env_in, along_in}
-use Rattle.scad_expr.specs.Opened.{opened_in}
+use Rattle.scad_expr.specs.OpenFrames.{opened_in}
 
 pub solids-push : (all : List Node) (t : Node) → solids (all ++ t ∷ []) ≡ solids all ++ solid_of t ∷ []
 solids-push [] t = refl

@@ -17,9 +17,9 @@ use Rattle.scad_expr.proofs.OnLiterals.{expressions_on_literals}
 use Rattle.scad_inst.specs.Where.{moved, inside_linear}
 use Rattle.scad_inst.specs.Modules.{module_named, kept_children}
 use Rattle.scad_inst.specs.FlatLeaves.{linear_leaf, judge_points, judge_sides, swept, turned_leaf, leaf_in, flat_leaves}
-use Rattle.scad_inst.specs.Made.{count_leaf, count_triangles, placed, leaf, argued, placed_by, judge_solid, judge_flat, judged}
+use Rattle.scad_inst.specs.Products.{count_leaf, count_triangles, placed, leaf, argued, placed_by, judge_solid, judge_flat, judged}
 use Rattle.scad_inst.specs.Hulls.{judge_united, hulled, hull_leaf, solid_hull, hull_profile, turned_hull, hull_in, hull_made}
-use Rattle.scad_inst.specs.Opened.{dollars_of}
+use Rattle.scad_inst.specs.OpenFrames.{dollars_of}
 use Rattle.scad_inst.specs.Profiles.{with_its_profiles}
 use Rattle.scad_inst.specs.Meaning.{assigned_value, assigned, opened_scope, member, members_from, members, combined, called_own, turns, for_variables, looped, let_in, child, children_by, chosen, run_children, built_in, called_known, called, node, statement_layer, statements_meaning, program_of, means}
 

@@ -21,7 +21,7 @@ use Rattle.scad_expr.specs.Arguments.{is_statement}
 use Rattle.scad_expr.specs.Machine.{Held, held, env_in, along_in, state_of}
 use Rattle.scad_expr.specs.Meaning.{meaning, values, value, Opened}
 use Rattle.scad_expr.specs.Meaning.{Below as Expressions}
-use Rattle.scad_expr.specs.Opened.{left, opened_in}
+use Rattle.scad_expr.specs.OpenFrames.{left, opened_in}
 use Rattle.scad_expr.specs.Runs.{items as run_over}
 use Rattle.scad_expr.specs.State.{State, Outcome, gives, refuses, Action, and_then, pure, step, depth_limit}
 use Rattle.scad_expr.specs.Variables.{set, empty, within, first_env, first_along}
@@ -38,10 +38,10 @@ use Rattle.scad_inst.specs.declared.work.Frame.{Frame}
 use Rattle.scad_inst.specs.declared.work.Frame.TheVariants.{Mark, Member, Then, Combine, Hull, Leave}
 use Rattle.scad_inst.specs.declared.work.Focus.{Focus}
 use Rattle.scad_inst.specs.declared.work.Focus.TheVariants.{Members, Children, Variables, Turns}
-use Rattle.scad_inst.specs.Chosen.{child_named}
+use Rattle.scad_inst.specs.Choice.{child_named}
 use Rattle.scad_inst.specs.Frames.{below_of, with_depth}
 use Rattle.scad_inst.specs.Hulls.{hull_made}
-use Rattle.scad_inst.specs.Made.{judged}
+use Rattle.scad_inst.specs.Products.{judged}
 use Rattle.scad_inst.specs.Meaning.{statements_meaning, statement_layer, node, opened_scope, member, members_from, members, combined, called_own, run_children, chosen, children_by, child, turns, for_variables, program_of}
 use Rattle.scad_inst.specs.Modules.{Found}
 use Rattle.scad_inst.specs.Near.{NameAlike}

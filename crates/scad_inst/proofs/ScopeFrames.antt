@@ -5,18 +5,18 @@ use Rattle.scad_ast.specs.Tree.{Items}
 use Rattle.scad_value.specs.Datum.{Datum}
 use Rattle.scad_scope.specs.Names.{with_name}
 use Rattle.scad_scope.specs.Env.{inside, frame, no_children}
-use Rattle.scad_scope.specs.Stored.{Stored, with_name_in_last, env_at, envs}
+use Rattle.scad_scope.specs.FrameStore.{Stored, with_name_in_last, env_at, envs}
 use Rattle.scad_expr.specs.Machine.{Held, env_in, along_in}
-use Rattle.scad_expr.specs.Opened.{last_of, set_in_last, left, bound_in, opened_in}
+use Rattle.scad_expr.specs.OpenFrames.{last_of, set_in_last, left, bound_in, opened_in}
 use Rattle.scad_expr.specs.Variables.{is_dollar, Bound, empty, within}
 use Rattle.scad_expr.specs.Variables.{set as set_name}
-use Rattle.scad_scope.specs.Assigned.{bindings}
+use Rattle.scad_scope.specs.Assignments.{bindings}
 use Rattle.scad_scope.specs.declared.binding.Binding.{Binding}
 use Rattle.scad_machine.specs.declared.fault.EvalFault.{EvalFault}
 use Rattle.scad_expr.specs.State.{State, gives, refuses, and_then, pure}
 use Rattle.scad_inst.specs.Frames.{below_of, scope_held, IsScope}
 use Rattle.scad_inst.specs.Meaning.{statements_meaning, assigned, opened_scope}
-use Rattle.scad_inst.specs.Opened.{scope_opened}
+use Rattle.scad_inst.specs.OpenFrames.{scope_opened}
 use Rattle.scad_expr.proofs.OpenFrames.{env_at-last, less-one, round-last, last-frame, last-named}
 
 -- ---- the frames of a scope

@@ -8,7 +8,7 @@ use Rattle.scad_shapes.specs.Rings.{solid_of_rings}
 use Rattle.scad_extrude.specs.declared.count.FlatForm.TheVariants.{Linear as Prism, Turned as Sweep}
 use Rattle.scad_extrude.specs.Count.{triangles_of}
 use Rattle.scad_extrude.specs.Linear.{linear_rings}
-use Rattle.scad_extrude.specs.Turned.{turned_of}
+use Rattle.scad_extrude.specs.Revolution.{turned_of}
 use Rattle.scad_modules.specs.Outline.{Pair, Outline, points_in, ring_of}
 use Rattle.scad_modules.specs.Profile.{profile_of, crosses_axis, turns_of}
 use Rattle.scad_tree.specs.Solid.{Solid}
@@ -18,7 +18,7 @@ use Rattle.scad_inst.specs.declared.space.Space.TheVariants.{Solid as Outside, L
 use Rattle.scad_inst.specs.declared.space.Turning.{Turning}
 use Rattle.scad_inst.specs.declared.space.Where.{Where}
 use Rattle.scad_shapes.specs.Limits.{triangle_limit}
-use Rattle.scad_inst.specs.Made.{count_leaf, count_triangles, placed, argued}
+use Rattle.scad_inst.specs.Products.{count_leaf, count_triangles, placed, argued}
 use Rattle.scad_inst.specs.Profiles.{keep_profile}
 
 -- ---- inside `linear_extrude`

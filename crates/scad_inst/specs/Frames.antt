@@ -2,7 +2,7 @@
 use Rattle.std.specs.Prelude.{◌≡◌, ℕ, [], ◌∷◌, ◌++◌, length, Some, None}
 use Rattle.scad_ast.specs.Tree.{Items}
 use Rattle.scad_expr.specs.Machine.{Held}
-use Rattle.scad_expr.specs.Opened.{last_of, left, bound_in}
+use Rattle.scad_expr.specs.OpenFrames.{last_of, left, bound_in}
 use Rattle.scad_expr.specs.Variables.{Bound}
 use Rattle.scad_inst.specs.Meaning.{Below, statements_meaning}
 

@@ -22,7 +22,7 @@ use Rattle.scad_inst.specs.declared.space.Space.TheVariants.{Solid as Outside, L
 use Rattle.scad_inst.specs.declared.space.Turning.{Turning}
 use Rattle.scad_inst.specs.declared.space.Where.{Where}
 use Rattle.scad_inst.specs.FlatLeaves.{judge_points, judge_sides, swept}
-use Rattle.scad_inst.specs.Made.{count_leaf, count_triangles}
+use Rattle.scad_inst.specs.Products.{count_leaf, count_triangles}
 use Rattle.scad_inst.specs.Profiles.{profiles_from, replace_profiles}
 
 -- the tree of a hull's children has neither an intersection nor a difference

@@ -1,17 +1,16 @@
 -- What the public calls promise.
-pub mod Chosen
+pub mod Choice
 pub mod FlatLeaves
 pub mod Hulls
-pub mod Made
+pub mod Products
 pub mod Meaning
 pub mod Modules
-pub mod Opened
+pub mod OpenFrames
 pub mod Operation
 pub mod Profiles
 pub mod Scopes
 pub mod Where
 pub mod Model
-
 -- What only the steps of the code promise to one another.
 pub mod Frames
 pub mod Portions

@@ -10,14 +10,14 @@ use Rattle.scad_fault.specs.declared.budget.BudgetKind.TheVariants.{Depth}
 use Rattle.scad_ast.specs.Tree.{Expression, Arguments, no_arguments, argument, Items, no_items, entry, Item, assignment, call_of, choice}
 use Rattle.scad_value.specs.Datum.{Datum, undef}
 use Rattle.scad_value.specs.Comparison.{truth}
-use Rattle.scad_scope.specs.Assigned.{bindings}
+use Rattle.scad_scope.specs.Assignments.{bindings}
 use Rattle.scad_scope.specs.declared.binding.Binding.{Binding}
 use Rattle.scad_scope.specs.Env.{Env, Children, no_children, children}
 use Rattle.scad_expr.specs.State.{Outcome, Action, pure, ◌>>=◌, ◌>>◌, fault_of, over, step, say, start, depth_limit}
 use Rattle.scad_expr.specs.Variables.{Bound, set, empty, first_env, first_along}
 use Rattle.scad_expr.specs.Runs.{items}
 use Rattle.scad_expr.specs.Arguments.{is_statement}
-use Rattle.scad_expr.specs.Printed.{echo_line}
+use Rattle.scad_expr.specs.EchoLines.{echo_line}
 use Rattle.scad_expr.specs.Meaning.{meaning, values, bound, bound_in_order, asserted, judge_named, judge_variables, Opened}
 use Rattle.scad_expr.specs.Meaning.{Below as Expressions}
 use Rattle.scad_tree.specs.Solid.{Solid, nothing}
@@ -35,12 +35,12 @@ use Rattle.scad_modules.specs.Shapes.{primitive_of}
 use Rattle.scad_modules.specs.Transforms.{matrix_of}
 use Rattle.scad_inst.specs.declared.operation.Operation.{Operation}
 use Rattle.scad_inst.specs.declared.operation.Operation.TheVariants.{Unite, Intersect, Subtract}
-use Rattle.scad_inst.specs.Chosen.{child_named}
-use Rattle.scad_inst.specs.Opened.{scope_opened, names_opened, call_opened, dollars_of, fineness}
+use Rattle.scad_inst.specs.Choice.{child_named}
+use Rattle.scad_inst.specs.OpenFrames.{scope_opened, names_opened, call_opened, dollars_of, fineness}
 use Rattle.scad_inst.specs.Operation.{operated}
 use Rattle.scad_inst.specs.FlatLeaves.{flat_leaves}
 use Rattle.scad_inst.specs.Hulls.{hull_made}
-use Rattle.scad_inst.specs.Made.{leaf, argued, placed_by, judge_solid, judge_flat, judged}
+use Rattle.scad_inst.specs.Products.{leaf, argued, placed_by, judge_solid, judge_flat, judged}
 use Rattle.scad_inst.specs.Modules.{Found, module_named, kept_children}
 use Rattle.scad_inst.specs.Profiles.{profile_count, with_its_profiles}
 use Rattle.scad_inst.specs.Scopes.{item_place, is_marked, item_at}

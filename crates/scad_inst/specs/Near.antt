@@ -6,7 +6,7 @@ use Rattle.scad_scope.specs.Env.{Env}
 use Rattle.scad_expr.specs.State.{State}
 use Rattle.scad_expr.specs.Portions.{is_past}
 use Rattle.scad_tree.specs.Solid.{Solid}
-use Rattle.scad_inst.specs.Chosen.{child_named}
+use Rattle.scad_inst.specs.Choice.{child_named}
 use Rattle.scad_inst.specs.Meaning.{Below, children_by}
 use Rattle.scad_inst.specs.declared.space.Where.{Where}
 

@@ -19,9 +19,9 @@ use Rattle.scad_modules.specs.Profile.{profile_of}
 use Rattle.scad_modules.specs.Shapes.{primitive_of}
 use Rattle.scad_inst.specs.Meaning.{Below, called_own, called_known}
 use Rattle.scad_inst.specs.FlatLeaves.{flat_leaves, judge_sides, swept}
-use Rattle.scad_inst.specs.Made.{leaf, argued, judge_solid, judge_flat, judged}
+use Rattle.scad_inst.specs.Products.{leaf, argued, judge_solid, judge_flat, judged}
 use Rattle.scad_inst.specs.Modules.{Found}
-use Rattle.scad_inst.specs.Opened.{call_opened, fineness}
+use Rattle.scad_inst.specs.OpenFrames.{call_opened, fineness}
 use Rattle.scad_inst.specs.Profiles.{keep_profile}
 use Rattle.scad_inst.specs.declared.space.Turning.{Turning}
 use Rattle.scad_inst.specs.declared.space.Where.{Where}

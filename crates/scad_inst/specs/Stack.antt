@@ -16,7 +16,7 @@ use Rattle.scad_machine.specs.declared.fault.EvalFault.TheVariants.{Memory}
 use Rattle.scad_machine.specs.declared.machine.Machine.{Machine}
 use Rattle.scad_expr.specs.Answers.{Does}
 use Rattle.scad_expr.specs.Machine.{Held, held, env_in, along_in, state_of}
-use Rattle.scad_expr.specs.Opened.{left}
+use Rattle.scad_expr.specs.OpenFrames.{left}
 use Rattle.scad_expr.specs.Portions.{numbers_left}
 use Rattle.scad_expr.specs.State.{State, Outcome, gives, refuses, Action, pure, and_then, ◌>>=◌}
 use Rattle.scad_inst.specs.declared.operation.Operation.{Operation}
@@ -29,10 +29,10 @@ use Rattle.scad_inst.specs.declared.work.Frame.{Frame}
 use Rattle.scad_inst.specs.declared.work.Frame.TheVariants.{Mark, Member, Then, Combine, Hull, Leave}
 use Rattle.scad_inst.specs.declared.work.Focus.{Focus}
 use Rattle.scad_inst.specs.declared.work.Focus.TheVariants.{Statement, Members, Children, Variables, Turns, Given}
-use Rattle.scad_inst.specs.Chosen.{child_named}
+use Rattle.scad_inst.specs.Choice.{child_named}
 use Rattle.scad_inst.specs.Frames.{below_of, with_depth}
 use Rattle.scad_inst.specs.Hulls.{hull_made}
-use Rattle.scad_inst.specs.Made.{judged}
+use Rattle.scad_inst.specs.Products.{judged}
 use Rattle.scad_inst.specs.Meaning.{members_from, for_variables, turns, children_by}
 use Rattle.scad_inst.specs.Operation.{operated}
 use Rattle.scad_inst.specs.Profiles.{with_its_profiles}

@@ -7,7 +7,7 @@ use Rattle.scad_ast.specs.Scope.{parameter, items}
 use Rattle.scad_ast.specs.Tree.{module_of as defines}
 use Rattle.scad_ast.specs.Tree.{Item as TreeItem}
 use Rattle.scad_scope.specs.Env.{Env}
-use Rattle.scad_scope.specs.Stored.{env_at}
+use Rattle.scad_scope.specs.FrameStore.{env_at}
 use Rattle.scad_tree.specs.declared.node.Node.{Node}
 use Rattle.scad_tree.specs.Solid.{Solid}
 use Rattle.scad_tree.specs.View.{solids}

@@ -9,7 +9,7 @@ ghost use Rattle.scad_modules.specs.View.{primitive, outlines, Reads};
 ghost use Rattle.scad_machine.specs.declared.fault.EvalFault.TheVariants.{Memory};
 ghost use Rattle.scad_expr.specs.Answers.{Does};
 ghost use Rattle.scad_expr.specs.State.{State};
-ghost use Rattle.scad_inst.specs.Made.{argument_fault, argued, placed_by};
+ghost use Rattle.scad_inst.specs.Products.{argument_fault, argued, placed_by};
 ghost use Rattle.scad_inst.specs.Where.{moved};
 
 use crate::refusals::{fault, named_fault};
@@ -34,7 +34,7 @@ fn argument_fault(alloc: Global, at: Place, name: &[u8], why: ArgumentFault) -> 
 }
 
 /// The matrix that arguments say, or their fault at the call's name.
-#[tactic(auto, unfolding(crate::specs::Made::argued))]
+#[tactic(auto, unfolding(crate::specs::Products::argued))]
 pub(crate) fn matrix_argued(
     alloc: Global,
     at: Place,
@@ -50,7 +50,7 @@ pub(crate) fn matrix_argued(
 }
 
 /// The height of an extrusion, and whether it is centred.
-#[tactic(auto, unfolding(crate::specs::Made::argued))]
+#[tactic(auto, unfolding(crate::specs::Products::argued))]
 pub(crate) fn height_argued(
     alloc: Global,
     at: Place,
@@ -66,7 +66,7 @@ pub(crate) fn height_argued(
 }
 
 /// The numbers by which the turns of an extrusion are counted.
-#[tactic(auto, unfolding(crate::specs::Made::argued))]
+#[tactic(auto, unfolding(crate::specs::Products::argued))]
 pub(crate) fn resolution_argued(
     alloc: Global,
     at: Place,
@@ -82,7 +82,7 @@ pub(crate) fn resolution_argued(
 }
 
 /// The primitive that arguments say.
-#[tactic(auto, unfolding(crate::specs::Made::argued))]
+#[tactic(auto, unfolding(crate::specs::Products::argued))]
 pub(crate) fn primitive_argued(
     alloc: Global,
     at: Place,
@@ -100,7 +100,7 @@ pub(crate) fn primitive_argued(
 }
 
 /// The outlines that arguments say.
-#[tactic(auto, unfolding(crate::specs::Made::argued))]
+#[tactic(auto, unfolding(crate::specs::Products::argued))]
 pub(crate) fn outlines_argued(
     alloc: Global,
     at: Place,
@@ -118,7 +118,7 @@ pub(crate) fn outlines_argued(
 }
 
 /// A placed profile.
-#[tactic(auto, unfolding(crate::specs::Made::argued))]
+#[tactic(auto, unfolding(crate::specs::Products::argued))]
 pub(crate) fn profile_argued(
     alloc: Global,
     at: Place,
@@ -136,7 +136,7 @@ pub(crate) fn profile_argued(
 }
 
 /// The place of a transformation's children.
-#[tactic(auto, unfolding(crate::specs::Made::placed_by, scad_machine::specs::State::fault))]
+#[tactic(auto, unfolding(crate::specs::Products::placed_by, scad_machine::specs::State::fault))]
 pub(crate) fn moved_by(alloc: Global, at: Place, w: &Where, by: &Matrix) -> Result<Where, EvalFault>
     ensures { (s : State) → Does (λ w. w) (placed_by at (moved w.now by.now) s) result s }
 {

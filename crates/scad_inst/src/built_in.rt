@@ -20,8 +20,8 @@ ghost use Rattle.scad_expr.specs.Machine.{held, env_in, along_in, state_of};
 ghost use Rattle.scad_expr.specs.State.{State, Outcome, gives};
 ghost use Rattle.scad_inst.specs.Frames.{below_of};
 ghost use Rattle.scad_inst.specs.Meaning.{built_in};
-ghost use Rattle.scad_inst.specs.Opened.{fineness};
-ghost use Rattle.scad_inst.specs.Made.{argued, judge_solid, judge_flat};
+ghost use Rattle.scad_inst.specs.OpenFrames.{fineness};
+ghost use Rattle.scad_inst.specs.Products.{argued, judge_solid, judge_flat};
 ghost use Rattle.scad_inst.specs.Portions.{primitive_made, flat_made, first_without_others};
 ghost use Rattle.scad_inst.specs.Stack.{Goes, onward};
 ghost use Rattle.scad_modules.specs.declared.module.Module.TheVariants.{Extrusion as IsExtrusion, Transform as IsTransform, Hull as IsHull, Echo as IsEcho, Assert as IsAssert};
@@ -98,7 +98,7 @@ fn fineness(alloc: Global, m: &Machine) -> Result<Fineness, EvalFault>
 }
 
 /// A solid, or an extrusion, stands outside of every extrusion alone.
-#[tactic(auto, unfolding(crate::specs::Made::judge_solid, scad_machine::specs::State::fault))]
+#[tactic(auto, unfolding(crate::specs::Products::judge_solid, scad_machine::specs::State::fault))]
 fn judge_solid(alloc: Global, at: Place, space: Space) -> Result<(), EvalFault>
     ensures { (s : State) → Does nothing (judge_solid at space s) result s }
 {
@@ -110,7 +110,7 @@ fn judge_solid(alloc: Global, at: Place, space: Space) -> Result<(), EvalFault>
 }
 
 /// A flat shape stands inside of an extrusion alone.
-#[tactic(auto, unfolding(crate::specs::Made::judge_flat, scad_machine::specs::State::fault))]
+#[tactic(auto, unfolding(crate::specs::Products::judge_flat, scad_machine::specs::State::fault))]
 fn judge_flat(alloc: Global, at: Place, space: Space) -> Result<(), EvalFault>
     ensures { (s : State) → Does nothing (judge_flat at space s) result s }
 {

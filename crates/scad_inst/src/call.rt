@@ -5,7 +5,7 @@ ghost use Rattle.scad_ast.specs.Scope.{items};
 ghost use Rattle.scad_ast.specs.Tree.{call_of};
 ghost use Rattle.scad_ast.specs.View.{arguments};
 ghost use Rattle.scad_tree.specs.Solid.{Solid};
-ghost use Rattle.scad_scope.specs.Stored.{envs};
+ghost use Rattle.scad_scope.specs.FrameStore.{envs};
 ghost use Rattle.scad_modules.specs.declared.module.Name.TheVariants.{For, Let};
 ghost use Rattle.scad_expr.specs.Machine.{held, env_in, along_in, state_of};
 ghost use Rattle.scad_expr.specs.State.{Outcome};

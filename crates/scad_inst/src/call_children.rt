@@ -1,7 +1,7 @@
 //! The children of a module's call.
 
 ghost use Rattle.std.specs.Prelude.{◌≡◌, ◌<◌, Some, length, option_map};
-ghost use Rattle.scad_scope.specs.Stored.{stored_at, env_at, envs, children_in};
+ghost use Rattle.scad_scope.specs.FrameStore.{stored_at, env_at, envs, children_in};
 ghost use Rattle.scad_scope.specs.View.{stored, children_stored};
 ghost use Rattle.scad_expr.specs.Machine.{held, env_in};
 ghost use Rattle.scad_inst.specs.Modules.{kept_children};

@@ -4,7 +4,7 @@ ghost use Rattle.std.specs.Prelude.{◌≡◌, [], IfErr, option_map};
 ghost use Rattle.scad_ast.specs.Scope.{item_of, items};
 ghost use Rattle.scad_tree.specs.Solid.{Solid};
 ghost use Rattle.scad_scope.specs.Env.{children};
-ghost use Rattle.scad_scope.specs.Stored.{env_at, envs};
+ghost use Rattle.scad_scope.specs.FrameStore.{env_at, envs};
 ghost use Rattle.scad_modules.specs.View.{datum_in};
 ghost use Rattle.scad_machine.specs.declared.fault.EvalFault.TheVariants.{Memory};
 ghost use Rattle.scad_expr.specs.Machine.{Held, held, env_in, along_in, state_of};

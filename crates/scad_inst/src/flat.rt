@@ -13,7 +13,7 @@ ghost use Rattle.scad_expr.specs.Answers.{Does, nothing};
 ghost use Rattle.scad_expr.specs.Machine.{held, state_of};
 ghost use Rattle.scad_expr.specs.State.{State};
 ghost use Rattle.scad_inst.specs.FlatLeaves.{linear_leaf, judge_points, judge_sides, swept, turned_leaf, leaf_in, flat_leaves};
-ghost use Rattle.scad_inst.specs.Made.{count_triangles};
+ghost use Rattle.scad_inst.specs.Products.{count_triangles};
 ghost use Rattle.scad_inst.specs.Portions.{profile_made, profile_turned};
 ghost use Rattle.scad_inst.specs.View.{trees_in};
 
@@ -32,7 +32,7 @@ use scad_tree::Tree;
 use std::alloc::Global;
 
 /// Counts the triangles of a prism over an outline of so many points.
-#[tactic(auto, unfolding(crate::specs::Made::count_triangles, scad_machine::specs::State::over, scad_machine::specs::Machine::state_of, scad_machine::specs::Machine::held))]
+#[tactic(auto, unfolding(crate::specs::Products::count_triangles, scad_machine::specs::State::over, scad_machine::specs::Machine::state_of, scad_machine::specs::Machine::held))]
 fn count_prism<'p>(points: usize, at: Place, m: &mut Machine<'p>) -> Result<(), EvalFault>
     requires { 3 ≤ points }
     ensures does { Does nothing (count_triangles (triangles_in (Prism points)) at (state_of m.old)) result

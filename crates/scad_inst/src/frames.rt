@@ -5,14 +5,14 @@ ghost use Rattle.scad_ast.specs.Scope.{items};
 ghost use Rattle.scad_ast.specs.View.{arguments, expression_of};
 ghost use Rattle.scad_ast.specs.Tree.{argument, no_arguments};
 ghost use Rattle.scad_value.specs.View.{datum_of, data_in, data_of};
-ghost use Rattle.scad_scope.specs.Stored.{env_at, envs};
+ghost use Rattle.scad_scope.specs.FrameStore.{env_at, envs};
 ghost use Rattle.scad_expr.specs.Answers.{Does, nothing, done_at};
 ghost use Rattle.scad_expr.specs.Machine.{held, env_in, along_in, state_of};
-ghost use Rattle.scad_expr.specs.Opened.{bound_in, left, last_of, opened_in, outer, IsInner};
+ghost use Rattle.scad_expr.specs.OpenFrames.{bound_in, left, last_of, opened_in, outer, IsInner};
 ghost use Rattle.scad_expr.specs.Meaning.{meaning, bound_in_order};
 ghost use Rattle.scad_expr.specs.Variables.{empty, is_dollar, within};
 ghost use Rattle.scad_inst.specs.Frames.{below_of, with_depth, scope_held, IsScope};
-ghost use Rattle.scad_inst.specs.Opened.{dollars_of};
+ghost use Rattle.scad_inst.specs.OpenFrames.{dollars_of};
 ghost use Rattle.scad_inst.specs.Portions.{own_opened};
 ghost use Rattle.scad_inst.specs.View.{found_at};
 
@@ -145,7 +145,7 @@ fn is_dollar(name: &[u8]) -> bool
 }
 
 /// Sets the name of an argument in the last frames, where it begins with `$`.
-#[tactic(auto, using(scad_machine::proofs::OpenFrames::inner), unfolding(crate::specs::Opened::dollars_of))]
+#[tactic(auto, using(scad_machine::proofs::OpenFrames::inner), unfolding(crate::specs::OpenFrames::dollars_of))]
 fn set_dollar<'p>(
     alloc: Global,
     arg: &Arg,

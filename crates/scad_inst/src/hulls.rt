@@ -50,7 +50,7 @@ fn refusal(at: Place, why: HullFault) -> EvalFault
 }
 
 /// The solid round the corners of a tree's leaves.
-#[tactic(auto, using(crate::proofs::HullsMade::hulls), unfolding(crate::specs::Hulls::hulled))]
+#[tactic(auto, using(crate::proofs::HullFacts::hulls), unfolding(crate::specs::Hulls::hulled))]
 fn solid_round(alloc: Global, at: Place, tree: &Tree) -> Result<Option<Triangles>, EvalFault>
     ensures does { (s : State) → Does (λ o. o) (hulled at (hull_of (points_of (solid_of tree.now))) s) result s }
     ensures some { IfOk result (λ o. IfSome o (λ t. 0 < length t)) }
@@ -98,7 +98,7 @@ fn solid_hull<'p>(
 }
 
 /// The ring round the points of profiles from a number on.
-#[tactic(auto, using(crate::proofs::HullsMade::hulls), unfolding(crate::specs::Hulls::hulled))]
+#[tactic(auto, using(crate::proofs::HullFacts::hulls), unfolding(crate::specs::Hulls::hulled))]
 fn ring_round<'p>(
     alloc: Global,
     at: Place,

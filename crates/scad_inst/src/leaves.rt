@@ -12,7 +12,7 @@ ghost use Rattle.scad_tree.specs.View.{solid_of};
 ghost use Rattle.scad_expr.specs.Answers.{Does, nothing};
 ghost use Rattle.scad_expr.specs.Machine.{held, state_of};
 ghost use Rattle.scad_expr.specs.State.{State};
-ghost use Rattle.scad_inst.specs.Made.{count_leaf, count_triangles, placed, leaf};
+ghost use Rattle.scad_inst.specs.Products.{count_leaf, count_triangles, placed, leaf};
 
 use crate::refusals::{fault, over};
 use scad_expr::{EvalFault, Machine};
@@ -30,7 +30,7 @@ const LEAF_LIMIT: u32 = 4096;
 pub(crate) const TRIANGLE_LIMIT: u64 = 200_000;
 
 /// Counts a leaf.
-#[tactic(auto, unfolding(crate::specs::Made::count_leaf, scad_machine::specs::State::over, scad_machine::specs::Machine::state_of, scad_machine::specs::Machine::held))]
+#[tactic(auto, unfolding(crate::specs::Products::count_leaf, scad_machine::specs::State::over, scad_machine::specs::Machine::state_of, scad_machine::specs::Machine::held))]
 pub(crate) fn count_leaf<'p>(at: Place, m: &mut Machine<'p>) -> Result<(), EvalFault>
     ensures does { Does nothing (count_leaf at (state_of m.old)) result (state_of m.new) }
     ensures kept { held m.new ≡ held m.old }
@@ -43,7 +43,7 @@ pub(crate) fn count_leaf<'p>(at: Place, m: &mut Machine<'p>) -> Result<(), EvalF
 }
 
 /// Counts so many triangles of a leaf, also where they are 2^64 - 1 because they are more.
-#[tactic(auto, unfolding(crate::specs::Made::count_triangles, scad_machine::specs::State::over, scad_machine::specs::Machine::state_of, scad_machine::specs::Machine::held))]
+#[tactic(auto, unfolding(crate::specs::Products::count_triangles, scad_machine::specs::State::over, scad_machine::specs::Machine::state_of, scad_machine::specs::Machine::held))]
 pub(crate) fn count_triangles<'p>(
     count: u64,
     at: Place,
@@ -61,7 +61,7 @@ pub(crate) fn count_triangles<'p>(
 }
 
 /// Counts the triangles of a primitive.
-#[tactic(auto, unfolding(crate::specs::Made::count_triangles, scad_machine::specs::State::over))]
+#[tactic(auto, unfolding(crate::specs::Products::count_triangles, scad_machine::specs::State::over))]
 fn count_primitive<'p>(p: &Primitive, at: Place, m: &mut Machine<'p>) -> Result<(), EvalFault>
     requires { is_primitive (primitive p.now) ≡ true }
     ensures does { Does nothing (count_triangles (triangles_in (primitive p.now)) at (state_of m.old)) result
@@ -73,7 +73,7 @@ fn count_primitive<'p>(p: &Primitive, at: Place, m: &mut Machine<'p>) -> Result<
 }
 
 /// A placed solid as a tree, or why there is none.
-#[tactic(auto, unfolding(crate::specs::Made::placed, scad_machine::specs::State::fault))]
+#[tactic(auto, unfolding(crate::specs::Products::placed, scad_machine::specs::State::fault))]
 pub(crate) fn placed(
     alloc: Global,
     at: Place,
@@ -92,7 +92,7 @@ pub(crate) fn placed(
 }
 
 /// A leaf: it is counted, then its triangles, and then it is placed.
-#[tactic(auto, unfolding(crate::specs::Made::leaf))]
+#[tactic(auto, unfolding(crate::specs::Products::leaf))]
 pub(crate) fn leaf<'p>(
     alloc: Global,
     at: Place,

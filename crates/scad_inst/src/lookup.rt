@@ -2,7 +2,7 @@
 
 ghost use Rattle.std.specs.Prelude.{◌≡◌, ◌<◌, length, option_map, IfOk, IfSome};
 ghost use Rattle.scad_ast.specs.Scope.{item_of};
-ghost use Rattle.scad_scope.specs.Stored.{env_at, envs, stored_at};
+ghost use Rattle.scad_scope.specs.FrameStore.{env_at, envs, stored_at};
 ghost use Rattle.scad_scope.specs.View.{stored};
 ghost use Rattle.scad_expr.specs.Machine.{held, env_in, state_of};
 ghost use Rattle.scad_inst.specs.Modules.{defined_in, module_named};

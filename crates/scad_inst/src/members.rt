@@ -8,7 +8,7 @@ ghost use Rattle.scad_expr.specs.Arguments.{is_statement};
 ghost use Rattle.scad_expr.specs.Machine.{Held, held, env_in, along_in, state_of};
 ghost use Rattle.scad_expr.specs.State.{State, Outcome, and_then};
 ghost use Rattle.scad_inst.specs.Frames.{below_of};
-ghost use Rattle.scad_inst.specs.Made.{judged};
+ghost use Rattle.scad_inst.specs.Products.{judged};
 ghost use Rattle.scad_inst.specs.Meaning.{member, members_from, combined};
 ghost use Rattle.scad_inst.specs.Operation.{operated};
 ghost use Rattle.scad_inst.specs.Stack.{Goes, Starts, rest, made_in, goes_on, listed, onward};

@@ -4,7 +4,7 @@ ghost use Rattle.std.specs.Prelude.{◌≡◌, pos, int_div, option_map};
 ghost use Rattle.scad_num.specs.Number.{one};
 ghost use Rattle.scad_ast.specs.Scope.{item_of, items};
 ghost use Rattle.scad_value.specs.View.{datum_of};
-ghost use Rattle.scad_inst.specs.Chosen.{child_of, child_named};
+ghost use Rattle.scad_inst.specs.Choice.{child_of, child_named};
 
 use crate::item::child_at;
 use scad_ast::{Item, Scope};

@@ -4,7 +4,7 @@ ghost use Rattle.std.specs.Prelude.{◌≡◌, IfOk};
 ghost use Rattle.scad_tree.specs.View.{solid_of, solids};
 ghost use Rattle.scad_expr.specs.Answers.{Does};
 ghost use Rattle.scad_expr.specs.State.{State};
-ghost use Rattle.scad_inst.specs.Made.{judged};
+ghost use Rattle.scad_inst.specs.Products.{judged};
 ghost use Rattle.scad_inst.specs.Operation.{operated};
 
 use crate::operation::Operation;
@@ -29,7 +29,7 @@ fn operated(alloc: Global, operation: Operation, members: Vec<Tree>) -> Result<T
 }
 
 /// Depth where the parts of the tree lie too deep in one another.
-#[tactic(auto, unfolding(crate::specs::Made::judged, scad_machine::specs::State::over))]
+#[tactic(auto, unfolding(crate::specs::Products::judged, scad_machine::specs::State::over))]
 fn judged(at: Place, tree: Tree) -> Result<Tree, EvalFault>
     ensures { (s : State) → Does solid_of (judged at (solid_of tree) s) result s }
 {

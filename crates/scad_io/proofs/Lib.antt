@@ -1,6 +1,6 @@
 -- Of the pieces that a desk sends and takes, and of the files that they make.
 mod Files
 mod Pieces
-pub mod Sent
-mod Taken
+pub mod Output
+mod Input
 pub mod Unfailing

@@ -4,9 +4,9 @@ use Rattle.std.proofs.lemmas.Bool.Decides.{nat_tests}
 use Rattle.std.proofs.lemmas.List.{append-nil, take-append-drop, length-drop}
 use Rattle.std.proofs.Math.Seq.{take-length}
 use Rattle.scad_io.specs.Desk.{View, sent, after_write}
-use Rattle.scad_io.specs.Sent.{SentPartly, SentBut}
+use Rattle.scad_io.specs.Output.{SentPartly, SentBut}
 use Rattle.scad_io.specs.declared.desk.Out.{Out}
-use Rattle.scad_io.proofs.Sent.{goes_on, stops, as_rest}
+use Rattle.scad_io.proofs.Output.{goes_on, stops, as_rest}
 
 -- some of it went out
 pub goes_on_by : {out : Out} {text rest : List ℕ} (n : ℕ) {old now new : View}

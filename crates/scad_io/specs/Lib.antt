@@ -3,5 +3,5 @@ pub mod Desk
 pub mod Memory
 pub mod Null
 pub mod Reading
-pub mod Sent
+pub mod Output
 pub mod Shelf

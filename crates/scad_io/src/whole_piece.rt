@@ -1,7 +1,7 @@
 //! Writing a whole piece.
 ghost use Rattle.std.specs.Prelude.{◌≡◌, ◌≢◌, true, false, [], OnOk, OnErr};
 ghost use Rattle.scad_io.specs.Desk.{side, sent, HasCause};
-ghost use Rattle.scad_io.specs.Sent.{SentPartly};
+ghost use Rattle.scad_io.specs.Output.{SentPartly};
 
 use crate::{Desk, Failed, Out};
 

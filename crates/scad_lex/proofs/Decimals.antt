@@ -13,7 +13,7 @@ use Rattle.scad_num.specs.Literal.{digits_len}
 use Rattle.scad_num.specs.Number.{one}
 use Rattle.scad_num.specs.Text.{decimals_of}
 use Rattle.scad_num.proofs.Digits.{digit_value-decimal}
-use Rattle.scad_num.proofs.Scaled.{digits_value_after-split}
+use Rattle.scad_num.proofs.Scale.{digits_value_after-split}
 
 abbrev pub AreDigits : List ℕ → Type 0
 AreDigits [] = Unit {0}

@@ -6,7 +6,7 @@ use Rattle.std.proofs.lemmas.List.{get_or-take, get_or_append_left}
 use Rattle.scad_lex.specs.Character.{is_scalar, tail_at, two_tails_at, form_of, two_bytes, three_bytes, four_bytes}
 use Rattle.scad_lex.specs.Character.{character_at}
 use Rattle.scad_lex.specs.Escape.{digit_at, two_digits, four_digits, six_digits, coded, escape_at}
-use Rattle.scad_lex.specs.Quoted.{element_at}
+use Rattle.scad_lex.specs.StringLiteral.{element_at}
 
 -- an element, where there is one, has so many bytes
 abbrev HasSize : ℕ → Option (ℕ × ℕ) → Type 0

@@ -13,7 +13,7 @@ use Rattle.scad_lex.specs.Gap.{is_blank, closed_len}
 use Rattle.scad_lex.specs.Classes.{is_of}
 use Rattle.scad_lex.specs.Front.{front_of, comment_of, string_of, numeral_of, word_of, sign_of}
 use Rattle.scad_lex.specs.Keys.{key_of}
-use Rattle.scad_lex.specs.Quoted.{quoted}
+use Rattle.scad_lex.specs.StringLiteral.{quoted}
 use Rattle.scad_lex.specs.Signs.{two_byte_sign, one_byte_sign}
 use Rattle.scad_lex.specs.Words.{word_len, begins_word}
 

@@ -20,7 +20,7 @@ use Rattle.scad_lex.specs.Gap.{is_blank, closed_len}
 use Rattle.scad_lex.specs.Character.{is_scalar, tail_at, two_tails_at, form_of, two_bytes, three_bytes, four_bytes}
 use Rattle.scad_lex.specs.Character.{character_at}
 use Rattle.scad_lex.specs.Escape.{coded, escape_at, two_digits, four_digits, six_digits}
-use Rattle.scad_lex.specs.Quoted.{element_at, behind, begun, quoted_from, others as others_of}
+use Rattle.scad_lex.specs.StringLiteral.{element_at, behind, begun, quoted_from, others as others_of}
 use Rattle.scad_lex.specs.Words.{word_len}
 use Rattle.scad_lex.specs.Keys.{key_of}
 use Rattle.scad_lex.specs.Signs.{two_byte_sign, one_byte_sign}

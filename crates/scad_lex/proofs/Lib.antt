@@ -1,4 +1,4 @@
-pub mod Closed
+pub mod CommentEnd
 mod CutNames
 mod Decimals
 mod Elements
@@ -8,11 +8,11 @@ pub mod Longest
 mod LongestPiece
 mod LongestString
 mod PieceFits
-mod PieceFormed
+mod PieceForm
 mod Pieces
 mod Quotes
 pub mod Refusals
-pub mod Spelled
+pub mod TokenText
 mod SpelledNumbers
 mod SpelledSigns
 mod SpelledStrings

@@ -8,7 +8,7 @@ use Rattle.scad_lex.specs.declared.front.Front.TheVariants.{Gap, Cut, Bad, TooLa
 use Rattle.scad_lex.specs.Front.{front_of}
 use Rattle.scad_lex.specs.Longest.{IsPiece, taken, PiecesAreLongest, NoPieceIsMissed}
 use Rattle.scad_lex.proofs.PieceFits.{Fits, piece-fits}
-use Rattle.scad_lex.proofs.PieceFormed.{Formed, IsFound, front-formed}
+use Rattle.scad_lex.proofs.PieceForm.{Formed, IsFound, front-formed}
 
 found : (bytes : List ℕ) (front : Front) (n : ℕ) → Formed bytes front → taken bytes front ≡ Some n → IsFound bytes n
 found bytes (Gap m) n is e = let same : m ≡ n = cc in subst (IsFound bytes) same is

@@ -8,7 +8,7 @@ use Rattle.std.proofs.lemmas.Bool.Decides.{nat_tests}
 use Rattle.std.proofs.lemmas.List.{length-take}
 use Rattle.scad_lex.specs.declared.string_body.Quoted.{Quoted}
 use Rattle.scad_lex.specs.declared.string_body.Quoted.TheVariants.{Closed, Unclosed, Broken}
-use Rattle.scad_lex.specs.Quoted.{element_at, behind, quoted_from}
+use Rattle.scad_lex.specs.StringLiteral.{element_at, behind, quoted_from}
 use Rattle.scad_lex.specs.Longest.{IsElement, IsQuoted, closing, element}
 use Rattle.scad_lex.proofs.Elements.{element-some, element-take, element-append}
 use Rattle.scad_lex.proofs.Quotes.{quoted_from-element, quoted_from-broken, quoted_from-closed}

@@ -11,7 +11,7 @@ use Rattle.std.proofs.lemmas.Bool.Decides.{nat_tests}
 use Rattle.std.proofs.lemmas.List.{length-take, get_or_past, get_or_append_left}
 use Rattle.scad_num.specs.declared.fault.NumFault.{NumFault}
 use Rattle.scad_num.specs.Literal.{Literal, literal_len, mantissa_len, exponent_len, literal_number, is_literal}
-use Rattle.scad_num.proofs.Recognised.{literals_are_longest, literals_are_recognised}
+use Rattle.scad_num.proofs.Recognition.{literals_are_longest, literals_are_recognised}
 use Rattle.scad_lex.specs.declared.token.Key.{Key as KeyName}
 use Rattle.scad_lex.specs.declared.token.Sign.{Sign as SignName}
 use Rattle.scad_lex.specs.declared.token.Sign.TheVariants.{OpenRound, CloseRound, OpenSquare, CloseSquare, OpenCurly}
@@ -27,13 +27,13 @@ use Rattle.scad_lex.specs.Gap.{is_blank, closed_len, closes_at}
 use Rattle.scad_lex.specs.Classes.{is_of}
 use Rattle.scad_lex.specs.Front.{front_of, comment_of, string_of, numeral_of, word_of, sign_of}
 use Rattle.scad_lex.specs.Keys.{key_of}
-use Rattle.scad_lex.specs.Quoted.{quoted_from}
+use Rattle.scad_lex.specs.StringLiteral.{quoted_from}
 use Rattle.scad_lex.specs.Signs.{two_byte_sign, one_byte_sign, mark_sign, operator_sign}
 use Rattle.scad_lex.specs.Spelling.{sign_spelling}
 use Rattle.scad_lex.specs.Words.{begins_word, word_len}
 use Rattle.scad_lex.specs.Longest.{AreOf, IsClosed, IsName, IsQuoted, IsPiece, blanks, line_comment, comment, string}
 use Rattle.scad_lex.specs.Longest.{number, name, sign}
-use Rattle.scad_lex.proofs.Closed.{comments_are_longest, closes-next, closes-within}
+use Rattle.scad_lex.proofs.CommentEnd.{comments_are_longest, closes-next, closes-within}
 use Rattle.scad_lex.proofs.Fronts.{IsPlain, front_by, front_plain, no_literal, given, name_plain}
 use Rattle.scad_lex.proofs.Longest.{front-longest, name-longest, names_are_longest}
 use Rattle.scad_lex.proofs.LongestString.{quoted-read}

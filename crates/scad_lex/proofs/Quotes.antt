@@ -4,7 +4,7 @@ use Rattle.std.proofs.Common.{◌∙◌, arith, drop, append_assoc, length, ◌<
 use Rattle.std.proofs.Common.{length-drop, add-zero}
 use Rattle.std.proofs.lemmas.List.{drop-drop, drop_all, append-nil}
 use Rattle.std.proofs.lemmas.Bool.{ne_eqb}
-use Rattle.scad_lex.specs.Quoted.{behind, others, begun, quoted_from, element_at}
+use Rattle.scad_lex.specs.StringLiteral.{behind, others, begun, quoted_from, element_at}
 use Rattle.scad_lex.specs.declared.string_body.Quoted.{Quoted}
 use Rattle.scad_lex.specs.declared.string_body.Quoted.TheVariants.{Closed, Unclosed, Broken}
 

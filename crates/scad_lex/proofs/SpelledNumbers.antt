@@ -18,7 +18,7 @@ use Rattle.scad_num.specs.Literal.{tens_up, tens_down, literal_len, literal_mill
 use Rattle.scad_num.specs.Number.{one, most, number_of}
 use Rattle.scad_num.specs.Rounding.{half_up}
 use Rattle.scad_num.specs.Text.{decimals_of, fraction_text, size_text, number_text}
-use Rattle.scad_num.proofs.Scaled.{digits_value-append}
+use Rattle.scad_num.proofs.Scale.{digits_value-append}
 use Rattle.scad_lex.specs.declared.token.TokenKind.TheVariants.{Number}
 use Rattle.scad_lex.specs.declared.front.Front.TheVariants.{Cut}
 use Rattle.scad_lex.specs.Front.{front_of, numeral_of}
@@ -26,7 +26,7 @@ use Rattle.scad_lex.specs.Spelling.{blank_behind}
 use Rattle.scad_lex.proofs.Fronts.{front_number}
 use Rattle.scad_lex.proofs.Decimals.{AreDigits, digits_len-before, take_digits, are_digits, end_in_six, decimals_are}
 use Rattle.scad_lex.proofs.Decimals.{decimals_value}
-use Rattle.scad_num.proofs.Capped.{ten_pow_pos}
+use Rattle.scad_num.proofs.Caps.{ten_pow_pos}
 
 -- ---- what may stand behind a number
 record Ends (more : List ℕ) : Type 0 where

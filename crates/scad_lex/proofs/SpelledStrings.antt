@@ -16,7 +16,7 @@ use Rattle.scad_lex.specs.declared.string_body.Quoted.TheVariants.{Closed}
 use Rattle.scad_lex.specs.Character.{is_scalar, tail_at, two_tails_at, form_of, two_bytes, three_bytes, four_bytes}
 use Rattle.scad_lex.specs.Character.{character_at}
 use Rattle.scad_lex.specs.Escape.{escape_at}
-use Rattle.scad_lex.specs.Quoted.{element_at, behind, quoted_from}
+use Rattle.scad_lex.specs.StringLiteral.{element_at, behind, quoted_from}
 use Rattle.scad_lex.specs.Front.{front_of, string_of}
 use Rattle.scad_lex.specs.Spelling.{character_spelling, AreScalars, blank_behind}
 use Rattle.scad_lex.proofs.Quotes.{quoted_from-element, quoted_from-closed}

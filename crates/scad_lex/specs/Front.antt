@@ -15,7 +15,7 @@ use Rattle.scad_lex.specs.declared.front.Front.TheVariants.{Gap, Cut, Bad, TooLa
 use Rattle.scad_lex.specs.Gap.{is_blank, closed_len}
 use Rattle.scad_lex.specs.Classes.{is_of}
 use Rattle.scad_lex.specs.declared.gap.Class.TheVariants.{Blank, WithinLine}
-use Rattle.scad_lex.specs.Quoted.{quoted}
+use Rattle.scad_lex.specs.StringLiteral.{quoted}
 use Rattle.scad_lex.specs.Words.{word_len}
 use Rattle.scad_lex.specs.Keys.{key_of}
 use Rattle.scad_lex.specs.Signs.{two_byte_sign, one_byte_sign}

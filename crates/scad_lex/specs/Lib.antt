@@ -5,7 +5,7 @@ pub mod Front
 pub mod Gap
 pub mod Keys
 pub mod Longest
-pub mod Quoted
+pub mod StringLiteral
 pub mod Signs
 pub mod Spelling
 pub mod Tokens

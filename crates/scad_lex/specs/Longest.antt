@@ -11,7 +11,7 @@ use Rattle.scad_lex.specs.declared.gap.Class.{Class}
 use Rattle.scad_lex.specs.declared.gap.Class.TheVariants.{Blank, WithinLine, WordByte}
 use Rattle.scad_lex.specs.Classes.{is_of}
 use Rattle.scad_lex.specs.Gap.{closed_len, closes_at}
-use Rattle.scad_lex.specs.Quoted.{element_at}
+use Rattle.scad_lex.specs.StringLiteral.{element_at}
 use Rattle.scad_lex.specs.Front.{front_of}
 use Rattle.scad_lex.specs.Spelling.{sign_spelling}
 use Rattle.scad_lex.specs.Words.{begins_word, word_len}

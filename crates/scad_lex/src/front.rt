@@ -3,7 +3,7 @@
 ghost use Rattle.std.specs.Prelude.{◌≡◌, ◌<◌, ◌≤◌, ◌+◌, ◌^◌, length, IfOk, slice_index, take, drop, true};
 ghost use Rattle.scad_lex.specs.Front.{front_of, comment_of, string_of, numeral_of, word_of, sign_of, IsWithin};
 ghost use Rattle.scad_lex.specs.Gap.{closed_len};
-ghost use Rattle.scad_lex.specs.Quoted.{quoted};
+ghost use Rattle.scad_lex.specs.StringLiteral.{quoted};
 ghost use Rattle.scad_lex.specs.Keys.{key_of};
 ghost use Rattle.scad_lex.specs.Signs.{two_byte_sign, one_byte_sign};
 ghost use Rattle.scad_num.specs.Literal.{literal_len, literal_number, is_literal};

@@ -4,7 +4,7 @@ ghost use Rattle.scad_lex.specs.Spelling.{SpelledTokensAreRead, TokensHaveSpelli
 
 /// The text of tokens, each as it is spelled and a blank or a line feed behind it, has these tokens
 /// at their places, and no others.
-#[tactic(auto, using(crate::proofs::Spelled::spelled_tokens_are_read))]
+#[tactic(auto, using(crate::proofs::TokenText::spelled_tokens_are_read))]
 pub fn spelled_tokens_are_read()
     ensures { SpelledTokensAreRead }
 {}

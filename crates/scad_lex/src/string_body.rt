@@ -1,7 +1,7 @@
 //! What stands behind the opening quote of a string.
 
 ghost use Rattle.std.specs.Prelude.{◌≡◌, ◌+◌, ◌≤◌, ◌<◌, length, IfSome, IfOk};
-ghost use Rattle.scad_lex.specs.Quoted.{element_at, quoted, len_of};
+ghost use Rattle.scad_lex.specs.StringLiteral.{element_at, quoted, len_of};
 
 use crate::bytes::{behind, byte_at};
 use crate::character::character_at;
@@ -20,7 +20,7 @@ pub(crate) enum Quoted {
 }
 
 /// The character or the escape that the bytes begin with, and its number of bytes.
-#[tactic(auto, unfolding(crate::specs::Quoted::element_at))]
+#[tactic(auto, unfolding(crate::specs::StringLiteral::element_at))]
 fn element_at(bytes: &[u8]) -> Option<(char, usize)>
     ensures value { result ≡ element_at bytes.now }
     ensures bound { IfSome result (λ found. (0 < found.1) × (found.1 ≤ 8)) }

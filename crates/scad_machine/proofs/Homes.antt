@@ -14,7 +14,7 @@ use Rattle.scad_ast.proofs.ScopeRows.{module_view}
 use Rattle.scad_scope.specs.Definitions.{function_word, defining, last_item, function_in}
 use Rattle.scad_scope.specs.Env.{outside, or_else}
 use Rattle.scad_scope.specs.Names.{is_same_name}
-use Rattle.scad_scope.specs.Stored.{Stored, pushed, stored_at, env_at, env_round, env_of, envs}
+use Rattle.scad_scope.specs.FrameStore.{Stored, pushed, stored_at, env_at, env_round, env_of, envs}
 use Rattle.scad_scope.proofs.Outwards.{env_at-number, length-envs, round-before, round-past}
 use Rattle.scad_machine.specs.Functions.{Function, found_in, defined, last_defined, defined_in, function_named}
 use Rattle.scad_machine.specs.View.{function_by}

@@ -7,11 +7,11 @@ use Rattle.scad_scope.specs.Names.{with_name}
 use Rattle.scad_scope.specs.Env.{outside}
 use Rattle.scad_scope.specs.Names.{Names}
 use Rattle.scad_scope.specs.Env.{inside, frame}
-use Rattle.scad_scope.specs.Stored.{Stored, StoredChildren, pushed, stored_at, with_name_in, with_name_in_last, env_at, env_round, env_of, envs, children_in}
+use Rattle.scad_scope.specs.FrameStore.{Stored, StoredChildren, pushed, stored_at, with_name_in, with_name_in_last, env_at, env_round, env_of, envs, children_in}
 use Rattle.scad_scope.proofs.Outwards.{envs-push, length-envs}
 use Rattle.scad_machine.specs.Machine.{Held, env_in, along_in}
 use Rattle.scad_machine.specs.Arguments.{set_all}
-use Rattle.scad_machine.specs.Opened.{last_of, opened, set_in_last, set_all_in_last, left, last_frame, bound_in, or_zero, outer, IsInner}
+use Rattle.scad_machine.specs.OpenFrames.{last_of, opened, set_in_last, set_all_in_last, left, last_frame, bound_in, or_zero, outer, IsInner}
 use Rattle.scad_machine.specs.Variables.{is_dollar, Bound, empty, within}
 use Rattle.scad_machine.specs.Variables.{set as set_name}
 

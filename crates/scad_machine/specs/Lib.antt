@@ -3,8 +3,8 @@ pub mod Arguments
 pub mod Functions
 pub mod Given
 pub mod Machine
-pub mod Opened
-pub mod Printed
+pub mod OpenFrames
+pub mod EchoLines
 pub mod State
 pub mod Variables
 pub mod View

@@ -1,7 +1,7 @@
 -- What a machine holds, apart from where it lies in memory.
 use Rattle.std.specs.Prelude.{ℕ, ◌-◌, List, length}
 use Rattle.scad_scope.specs.Env.{Env}
-use Rattle.scad_scope.specs.Stored.{Stored, env_at, envs}
+use Rattle.scad_scope.specs.FrameStore.{Stored, env_at, envs}
 use Rattle.scad_scope.specs.View.{stored}
 use Rattle.scad_machine.specs.declared.machine.Machine.{Machine}
 use Rattle.scad_machine.specs.State.{State, step_limit}

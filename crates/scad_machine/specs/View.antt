@@ -6,7 +6,7 @@ use Rattle.scad_ast.specs.Scope.{parameter}
 use Rattle.scad_ast.specs.Tree.{Item, function_of as defines}
 use Rattle.scad_ast.specs.View.{expression_of}
 use Rattle.scad_scope.specs.Env.{Env}
-use Rattle.scad_scope.specs.Stored.{env_at}
+use Rattle.scad_scope.specs.FrameStore.{env_at}
 use Rattle.scad_machine.specs.declared.functions.Defined.{Defined}
 use Rattle.scad_machine.specs.declared.functions.DefinedAt.{DefinedAt}
 use Rattle.scad_machine.specs.Functions.{Function, Found}

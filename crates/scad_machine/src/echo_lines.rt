@@ -3,7 +3,7 @@
 ghost use Rattle.std.specs.Prelude.{◌≡◌, ◌++◌, ◌≤◌, IfOk, OnOk};
 ghost use Rattle.scad_ast.specs.View.{arguments};
 ghost use Rattle.scad_value.specs.Texts.{comma};
-ghost use Rattle.scad_machine.specs.Printed.{label, echo_line};
+ghost use Rattle.scad_machine.specs.EchoLines.{label, echo_line};
 ghost use Rattle.scad_value.specs.View.{data_of};
 ghost use Rattle.scad_machine.specs.Answers.{Does, nothing};
 ghost use Rattle.scad_machine.specs.Machine.{held, state_of};
@@ -50,7 +50,7 @@ fn push_comma(out: &mut Vec<char>, first: bool) -> Result<(), AllocError>
 }
 
 /// The line of these arguments and values.
-#[tactic(auto, using(scad_value::proofs::Lists::lists), unfolding(crate::specs::Printed::echo_line))]
+#[tactic(auto, using(scad_value::proofs::Lists::lists), unfolding(crate::specs::EchoLines::echo_line))]
 fn echo_line(alloc: Global, args: &[Arg], values: &[Value]) -> Result<Vec<char>, AllocError>
     ensures { IfOk result (λ line. line.items ≡ echo_line (arguments args.now) (data_of values.now)) }
 {

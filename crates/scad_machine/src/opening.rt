@@ -9,7 +9,7 @@ ghost use Rattle.scad_machine.specs.Answers.{Does, nothing, done_at};
 ghost use Rattle.scad_machine.specs.Arguments.{given, set_all};
 ghost use Rattle.scad_machine.specs.Given.{missing, parameter_names, shown};
 ghost use Rattle.scad_machine.specs.Machine.{held, env_in, along_in, state_of};
-ghost use Rattle.scad_machine.specs.Opened.{last_of, opened, set_in_last, set_all_in_last, with_count, left, bound_in, outer, IsInner};
+ghost use Rattle.scad_machine.specs.OpenFrames.{last_of, opened, set_in_last, set_all_in_last, with_count, left, bound_in, outer, IsInner};
 ghost use Rattle.scad_machine.specs.Variables.{empty, within};
 ghost use Rattle.scad_machine.specs.Variables.{set as set_name};
 
@@ -52,7 +52,7 @@ impl<'p> Machine<'p> {
 
     /// Opens a frame inside the one of a number, and one for `$` names; names are then sought from the
     /// new one. Gives the number from which they were sought before.
-    #[tactic(auto, unfolding(crate::specs::Machine::held, crate::specs::Machine::state_of, crate::specs::Opened::opened))]
+    #[tactic(auto, unfolding(crate::specs::Machine::held, crate::specs::Machine::state_of, crate::specs::OpenFrames::opened))]
     fn enter(&mut self, home: u32, kept: Option<Kept<'p>>) -> Result<u32, EvalFault>
         ensures does { Does nothing (done_at (state_of self.old)) result (state_of self.new) }
         ensures steps { OnOk result (self.new.steps_left ≡ self.old.steps_left) }
@@ -195,7 +195,7 @@ impl<'p> Machine<'p> {
     }
 
     /// Takes the last frames away, and seeks names from a frame again.
-    #[tactic(auto, unfolding(crate::specs::Machine::held, crate::specs::Machine::state_of, crate::specs::Opened::left))]
+    #[tactic(auto, unfolding(crate::specs::Machine::held, crate::specs::Machine::state_of, crate::specs::OpenFrames::left))]
     pub fn leave(&mut self, back: u32)
         ensures same { state_of self.new ≡ state_of self.old }
         ensures steps { self.new.steps_left ≡ self.old.steps_left }

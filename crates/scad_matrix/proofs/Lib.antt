@@ -1,2 +1,2 @@
-pub mod Placed
-pub mod Reflected
+pub mod Products
+pub mod Reflection

@@ -10,6 +10,5 @@ pub mod Reading
 pub mod Shapes
 pub mod Transforms
 pub mod View
-
 -- What only the steps of the code promise to one another.
 pub mod Ids

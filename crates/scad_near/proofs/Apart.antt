@@ -15,7 +15,7 @@ use Rattle.scad_ring.specs.Octagon.{octagon}
 use Rattle.scad_ring.specs.Nearness.{Closed, IsClear}
 use Rattle.scad_near.specs.Tests.{offset, is_parted, crosses}
 use Rattle.scad_near.specs.Edges.{AreApart}
-use Rattle.scad_near.proofs.Held.{held_mirrored}
+use Rattle.scad_near.proofs.RegionTurns.{held_mirrored}
 use Rattle.scad_near.proofs.Exits.{Change, Stops, exit}
 use Rattle.scad_near.proofs.Spread.{spread, Weights, Way, weights_if_near, moved, end_near}
 

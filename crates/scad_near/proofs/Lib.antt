@@ -1,5 +1,5 @@
-pub mod Held
+pub mod RegionTurns
 pub mod Exits
 pub mod Spread
 pub mod Apart
-pub mod Crossed
+pub mod EdgeCrossing

@@ -12,7 +12,7 @@ use Rattle.scad_geom.proofs.Ring.{ring, num, ◌⊕◌, ◌⊖◌, ◌⊗◌, v0
 use Rattle.winding_laws.specs.Region.{HoldsOrigin}
 use Rattle.scad_ring.specs.Octagon.{octagon}
 use Rattle.scad_ring.specs.Nearness.{Closed, IsNear}
-use Rattle.scad_near.proofs.Held.{Held, held_times, held_nearer}
+use Rattle.scad_near.proofs.RegionTurns.{Held, held_times, held_nearer}
 
 -- how far the mean of r and z by k and l is past that of p and q by s and t, times the sum of the weights
 abbrev pub spread : ℤ → ℤ → ℤ → ℤ → ℤ → ℤ → ℤ → ℤ → ℤ

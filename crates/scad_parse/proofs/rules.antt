@@ -1,4 +1,4 @@
-pub mod Opened
+pub mod Openers
 pub mod OpenedStatements
 pub mod Room
 pub mod Statements

@@ -4,7 +4,7 @@ use Rattle.scad_fault.specs.declared.place.Place.{Place}
 use Rattle.scad_lex.specs.declared.token.Token.{Token}
 use Rattle.scad_parse.specs.declared.fault.ParseFault.{ParseFault}
 use Rattle.scad_parse.specs.declared.fault.ParseFault.TheVariants.{Memory, Syntax, Nesting, LeftOut}
-use Rattle.scad_grammar.specs.Judged.{Judged}
+use Rattle.scad_grammar.specs.Verdict.{Judged}
 use Rattle.scad_grammar.specs.Machine.{syntax_at, nesting_at, left_out_at}
 
 -- the fault is the one that the grammar gives these tokens, or there was no memory

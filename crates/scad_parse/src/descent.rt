@@ -2,7 +2,7 @@
 
 ghost use Rattle.std.specs.Prelude.{◌≡◌, [], Ok, Err, MatchResult};
 ghost use Rattle.scad_ast.specs.Scope.{program_of};
-ghost use Rattle.scad_grammar.specs.Judged.{Judged};
+ghost use Rattle.scad_grammar.specs.Verdict.{Judged};
 ghost use Rattle.scad_parse.specs.JudgedFault.{JudgedFault};
 
 use crate::fault::ParseFault;

@@ -3,7 +3,7 @@ pub mod Convex
 pub mod Octants
 pub mod Approaches
 pub mod Meetings
-pub mod Decided
+pub mod EdgeTests
 pub mod Steps
 pub mod Slants
 pub mod Offsets
@@ -25,4 +25,4 @@ pub mod SmallLeftRing
 pub mod Ways
 pub mod Examples
 pub mod Shapes
-pub mod Opened
+pub mod OpenNearness

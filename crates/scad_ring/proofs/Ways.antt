@@ -12,7 +12,7 @@ use Rattle.scad_ring.specs.Ring.{IsRing}
 use Rattle.scad_ring.specs.declared.direction.Direction.{Direction}
 use Rattle.scad_ring.specs.declared.direction.Direction.TheVariants.{Still, Flat, Right, DiagonalRight, SteepRight, Upright, SteepLeft, DiagonalLeft, Left}
 use Rattle.scad_ring.specs.Corners.{direction_of, runs_back, eight_sided, four_sided, corners_round, corners_of}
-use Rattle.scad_ring.proofs.Decided.{meets_back}
+use Rattle.scad_ring.proofs.EdgeTests.{meets_back}
 use Rattle.scad_ring.proofs.Offsets.{IsRingRound}
 use Rattle.scad_ring.proofs.StillRing.{still_round}
 use Rattle.scad_ring.proofs.FlatRing.{flat_round}

@@ -8,7 +8,7 @@ use Rattle.scad_script.specs.declared.refusal.Refusal.{Refusal}
 use Rattle.scad_script.specs.declared.stop.Stop.{Stop}
 use Rattle.scad_script.specs.Steps.{Step, Reads}
 use Rattle.scad_script.specs.Script.{Script, Refuses, first, ends, input_of}
-use Rattle.scad_script.specs.Played.{Left, Stops, HasRisen}
+use Rattle.scad_script.specs.Play.{Left, Stops, HasRisen}
 use Rattle.scad_script.proofs.Layers.{as_left}
 use Rattle.cli_text.specs.Cli.{Layer}
 use Rattle.cli_read.specs.declared.fault.CliFault.{CliFault}

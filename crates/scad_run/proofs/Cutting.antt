@@ -28,7 +28,7 @@ use Rattle.gcode_text.specs.Gcode.{head as program_head, layers_text}
 use Rattle.scad_slice.specs.Budgets.{layer_count}
 use Rattle.scad_slice.specs.Parts.{IsPart, layers_of}
 use Rattle.scad_slice.specs.Layer.{IsLayer}
-use Rattle.scad_slice.proofs.Parted.{slice_creates, plan_creates, slice_line, line_of_plan}
+use Rattle.scad_slice.proofs.ScriptCourse.{slice_creates, plan_creates, slice_line, line_of_plan}
 use Rattle.scad_slice.proofs.Texts.{slice_cut, plan_cut, program_cut}
 use Rattle.scad_run.specs.Words.{given_by}
 use Rattle.scad_run.specs.Answer.{Parts, Findings, follows, job_script, script_of, ArePartsOfTree, AreDrawn, AreFoundBy, AreFound}
@@ -39,10 +39,10 @@ use Rattle.scad_run.proofs.Place.{placed}
 use Rattle.scad_run.proofs.Sources.{sources_mean_solids, as_part}
 use Rattle.scad_run.proofs.Heights.{found_in_range}
 use Rattle.scad_run.proofs.Silent.{slice_is_silent}
-use Rattle.scad_run.proofs.Planned.{layouts, layouts_number, written_is, plans_are, layers_each}
-use Rattle.scad_run.proofs.Reached.{IsFollowed, Reaches, reached}
+use Rattle.scad_run.proofs.PrintLayers.{layouts, layouts_number, written_is, plans_are, layers_each}
+use Rattle.scad_run.proofs.ScriptReach.{IsFollowed, Reaches, reached}
 use Rattle.scad_run.proofs.Ends.{Cuts, IsDone, IsOver, EndsBy, follows_end}
-use Rattle.scad_run.proofs.Refused.{files_stand, many_quiet, sample_quiet}
+use Rattle.scad_run.proofs.Refusals.{files_stand, many_quiet, sample_quiet}
 
 -- ---- behind the tree
 module _ (s : SettingsOfRun) (tree : Solid) (in_range : AreInRange s) (solids : AreSolids tree) (budget : Budget)

@@ -21,8 +21,8 @@ use Rattle.scad_slice.specs.Parts.{AreMade}
 use Rattle.scad_io.specs.declared.desk.Out.TheVariants.{Cli, Gcode}
 use Rattle.scad_slice.specs.Script.{file_size, amount_below}
 use Rattle.scad_slice.specs.Laws.{IsWhole}
-use Rattle.scad_slice.proofs.Parted.{command_script, HasMany, IsDone as IsWritten, IsCut, script_goes, slice_creates, plan_creates, slice_line, line_of_plan}
-use Rattle.scad_run.specs.Told.{ok_line, sample_line, unwritten}
+use Rattle.scad_slice.proofs.ScriptCourse.{command_script, HasMany, IsDone as IsWritten, IsCut, script_goes, slice_creates, plan_creates, slice_line, line_of_plan}
+use Rattle.scad_run.specs.SourceReport.{ok_line, sample_line, unwritten}
 use Rattle.scad_run.specs.Answer.{Parts, follows}
 use Rattle.scad_run.specs.Causes.{HasManyLayers}
 

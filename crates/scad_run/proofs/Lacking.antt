@@ -11,7 +11,7 @@ use Rattle.scad_run.specs.Inputs.{Inputs}
 use Rattle.scad_run.specs.Causes.{IsMissing}
 use Rattle.scad_run.specs.Laws.{AnswersLackFiles}
 use Rattle.scad_run.proofs.Ends.{IsDone, IsOver, EndsBy, follows_end}
-use Rattle.scad_run.proofs.Reached.{EndsBefore, Reaches, reached}
+use Rattle.scad_run.proofs.ScriptReach.{EndsBefore, Reaches, reached}
 
 lacks : (steps : List Step) (ending : Ending) → answer_of (record { steps = steps; ending = ending }) ≡ None
     → ending ≡ Lacks

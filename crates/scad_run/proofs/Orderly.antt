@@ -28,7 +28,7 @@ use Rattle.scad_slice.specs.Budgets.{layer_count, layers_passed}
 use Rattle.scad_slice.proofs.Orderly.{DrawsInOrder, slice_draws, plan_draws}
 use Rattle.scad_run.specs.Words.{Case, model_of, case_of, both_named, given_names, given_of, given_by}
 use Rattle.scad_run.specs.Meaning.{source_means}
-use Rattle.scad_run.specs.Told.{echo_text, echoed, ok_line, check_end, told}
+use Rattle.scad_run.specs.SourceReport.{echo_text, echoed, ok_line, check_end, told}
 use Rattle.scad_run.specs.Judging.{judgement, whole_then}
 use Rattle.scad_run.specs.Answer.{Parts, Findings, follows, input_script, model_read_first, model_script, case_or, after_settings, job_script, script_of}
 use Rattle.scad_run.specs.Inputs.{Inputs, source_of}

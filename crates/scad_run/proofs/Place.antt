@@ -11,7 +11,7 @@ use Rattle.slice_work.specs.declared.want.Want.TheVariants.{Outlines as Outlines
 use Rattle.slice_work.specs.Part.{Part}
 use Rattle.scad_slice.specs.Parts.{IsPart, AreMade}
 use Rattle.scad_slice.specs.Supports.{PassesOfAll, IsPassedBefore}
-use Rattle.scad_slice.proofs.Parted.{IsKind, IsKindOfAll, IsOfLayer, IsOfAll, budget_of_layer, passed_by_all}
+use Rattle.scad_slice.proofs.ScriptCourse.{IsKind, IsKindOfAll, IsOfLayer, IsOfAll, budget_of_layer, passed_by_all}
 use Rattle.scad_run.specs.Promises.{IsOfLayers}
 use Rattle.scad_run.specs.Cut.{EndsAt}
 

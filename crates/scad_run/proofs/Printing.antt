@@ -20,10 +20,10 @@ use Rattle.scad_run.specs.Meaning.{MeansTree, Means}
 use Rattle.scad_run.specs.Printing.{PlanAddsPrint}
 use Rattle.scad_run.specs.Headline.{Prints, Headline}
 use Rattle.scad_run.proofs.Sources.{as_part, sources_mean_one}
-use Rattle.scad_run.proofs.Told.{source_is, settings_are}
-use Rattle.scad_run.proofs.Planned.{layouts, written_is, program_is, are_layers}
-use Rattle.scad_run.proofs.Printed.{words_finished}
-use Rattle.scad_run.proofs.Caused.{has_cause}
+use Rattle.scad_run.proofs.FileReport.{source_is, settings_are}
+use Rattle.scad_run.proofs.PrintLayers.{layouts, written_is, program_is, are_layers}
+use Rattle.scad_run.proofs.WrittenFiles.{words_finished}
+use Rattle.scad_run.proofs.Causes.{has_cause}
 
 module _ (words : List (List ℕ)) (files : Files) (inputs : Inputs) (found : Findings) (status : Status) (old new : View)
     (is : IsRead words files inputs) (of_all : AreFound words inputs found)

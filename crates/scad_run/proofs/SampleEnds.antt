@@ -6,7 +6,7 @@ use Rattle.scad_words.specs.declared.settings.Settings.{Settings as SettingsOfRu
 use Rattle.scad_script.specs.declared.refusal.Refusal.TheVariants.{Over}
 use Rattle.scad_script.specs.declared.stop.Stop.{Stop}
 use Rattle.scad_script.specs.Script.{Script, Finishes, Refuses, ends}
-use Rattle.scad_script.specs.Played.{Carries, HasRisen}
+use Rattle.scad_script.specs.Play.{Carries, HasRisen}
 use Rattle.scad_script.proofs.Playing.{begun}
 use Rattle.scad_tree.specs.Solid.{Solid}
 use Rattle.slice_work.specs.declared.want.Want.TheVariants.{Plan as WithPlan}
@@ -16,7 +16,7 @@ use Rattle.scad_io.specs.declared.desk.Out.TheVariants.{Cli, Gcode}
 use Rattle.scad_slice.specs.declared.summary.Written.{Written}
 use Rattle.scad_slice.specs.Budgets.{layer_count, layers_passed}
 use Rattle.scad_slice.specs.Script.{files, file_size, amount_below, IsWritten}
-use Rattle.scad_run.specs.Told.{sample_line, sample_end, unwritten, sample_script}
+use Rattle.scad_run.specs.SourceReport.{sample_line, sample_end, unwritten, sample_script}
 use Rattle.scad_run.specs.Playing.{IsEnd}
 
 module _ (n : ℕ) (s : SettingsOfRun) (part : Part) (tree : Solid) where

@@ -11,7 +11,7 @@ use Rattle.scad_script.specs.declared.loading.Input.TheVariants.{Whole, Long}
 use Rattle.scad_script.specs.declared.stop.Stop.{Stop}
 use Rattle.scad_script.specs.Steps.{Step, Reads}
 use Rattle.scad_script.specs.Script.{Script, Refuses, first, ends, input_of}
-use Rattle.scad_script.specs.Played.{Left, Stops}
+use Rattle.scad_script.specs.Play.{Left, Stops}
 use Rattle.scad_script.proofs.Layers.{as_left}
 use Rattle.scad_run.specs.Answer.{judged_script, read_script}
 use Rattle.scad_run.specs.Playing.{IsJudged, Settled, Settles}

@@ -12,7 +12,7 @@ use Rattle.slice_work.specs.Rates.{rates_of}
 use Rattle.gcode_text.specs.declared.rates.Rates.{Rates}
 use Rattle.scad_slice.specs.Script.{slice_script}
 use Rattle.scad_slice.proofs.Layers.{steps_of, written_from}
-use Rattle.scad_slice.proofs.Parted.{IsCut, slice_creates, slice_line}
+use Rattle.scad_slice.proofs.ScriptCourse.{IsCut, slice_creates, slice_line}
 use Rattle.scad_slice.proofs.Texts.{text_append}
 
 silent_layer : (rates : Rates) (volume i : ℕ) (layer : Result Layout Budget)

@@ -6,7 +6,7 @@ use Rattle.scad_lex.specs.declared.token.Token.{Token}
 use Rattle.scad_lex.specs.declared.fault.LexFault.{LexFault}
 use Rattle.scad_lex.specs.Tokens.{Answer, tokens, Refuses as LexRefuses}
 use Rattle.scad_ast.specs.Tree.{Items}
-use Rattle.scad_grammar.specs.Judged.{Judged}
+use Rattle.scad_grammar.specs.Verdict.{Judged}
 use Rattle.scad_grammar.specs.Machine.{Refusal as Judgement, outcome_of}
 use Rattle.scad_grammar.proofs.Unique.{judges_as_the_grammar}
 use Rattle.scad_parse.specs.declared.fault.ParseFault.{ParseFault}
@@ -14,7 +14,7 @@ use Rattle.scad_parse.specs.JudgedFault.{JudgedFault}
 use Rattle.scad_script.specs.declared.refusal.Refusal.{Refusal}
 use Rattle.scad_script.specs.declared.stop.Stop.{Stop}
 use Rattle.scad_script.specs.Script.{Script, Refuses, ends}
-use Rattle.scad_script.specs.Played.{Left, Stops, EndsIn}
+use Rattle.scad_script.specs.Play.{Left, Stops, EndsIn}
 use Rattle.scad_script.proofs.Layers.{as_left}
 use Rattle.scad_machine.specs.declared.fault.EvalFault.{EvalFault}
 use Rattle.scad_machine.specs.declared.fault.EvalFault.TheVariants.{Memory}
@@ -28,7 +28,7 @@ use Rattle.scad_inst.specs.Meaning.{means}
 use Rattle.scad_inst.specs.Model.{Makes}
 use Rattle.scad_run.specs.Meaning.{text_fault, tokens_fault, program_means, tokens_mean, source_means}
 use Rattle.scad_run.specs.View.{parse_fault}
-use Rattle.scad_run.specs.Told.{refusal_of, refusal_told, echoed, told}
+use Rattle.scad_run.specs.SourceReport.{refusal_of, refusal_told, echoed, told}
 use Rattle.scad_run.specs.Playing.{Brings, IsEnd}
 
 -- A text that has no tokens.

@@ -12,14 +12,14 @@ use Rattle.scad_script.specs.declared.loading.Input.TheVariants.{Whole}
 use Rattle.scad_script.specs.declared.refusal.Refusal.TheVariants.{Usage}
 use Rattle.scad_script.specs.declared.stop.Stop.{Stop}
 use Rattle.scad_script.specs.Script.{Script, Refuses, ends}
-use Rattle.scad_script.specs.Played.{Left, Stops, EndsIn, Completes}
+use Rattle.scad_script.specs.Play.{Left, Stops, EndsIn, Completes}
 use Rattle.scad_script.proofs.Playing.{begun}
 use Rattle.scad_script.proofs.Layers.{as_left}
 use Rattle.scad_tree.specs.Solid.{Solid}
 use Rattle.scad_expr.specs.State.{Outcome}
 use Rattle.scad_run.specs.Words.{Case, model_of, case_of}
 use Rattle.scad_run.specs.Meaning.{source_means, MeansTree}
-use Rattle.scad_run.specs.Told.{told}
+use Rattle.scad_run.specs.SourceReport.{told}
 use Rattle.scad_run.specs.Answer.{Parts, Findings, follows, input_script, model_read_first, model_script, settings_script}
 use Rattle.scad_run.specs.Answer.{case_or, after_settings}
 use Rattle.scad_run.specs.Answer.{command_script}

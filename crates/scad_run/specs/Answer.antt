@@ -22,7 +22,7 @@ use Rattle.scad_slice.specs.Layer.{IsLayer}
 use Rattle.scad_slice.specs.Script.{slice_script, plan_script}
 use Rattle.scad_run.specs.Words.{Case, model_of, case_of}
 use Rattle.scad_run.specs.Meaning.{source_means}
-use Rattle.scad_run.specs.Told.{check_script, tree_script, sample_script, told}
+use Rattle.scad_run.specs.SourceReport.{check_script, tree_script, sample_script, told}
 use Rattle.verdict_laws.specs.Opinion.{Opinions, AreRight}
 use Rattle.scad_run.specs.Judging.{judgement, case_script}
 use Rattle.scad_run.specs.Inputs.{source_long, Inputs, source_of, read_of, IsRead, source_in}

@@ -5,7 +5,7 @@ use Rattle.scad_lex.specs.declared.token.Token.{Token}
 use Rattle.scad_lex.specs.Tokens.{tokens}
 use Rattle.scad_ast.specs.Tree.{Items}
 use Rattle.scad_grammar.specs.Machine.{Refusal}
-use Rattle.scad_grammar.specs.Judged.{Judged}
+use Rattle.scad_grammar.specs.Verdict.{Judged}
 use Rattle.scad_run.specs.Meaning.{program_means, source_means}
 
 -- The grammar judges the tokens of a source in one way: by a program that they derive, or by the first fault that one

@@ -16,7 +16,7 @@ use Rattle.scad_script.specs.declared.loading.Input.{Input}
 use Rattle.scad_script.specs.declared.loading.Input.TheVariants.{Whole}
 use Rattle.scad_script.specs.Script.{input_of}
 use Rattle.scad_sample.specs.Sample.{sample_text}
-pub use Rattle.verdict_laws.specs.Printed.{file_limit}
+pub use Rattle.verdict_laws.specs.OwnOutlines.{file_limit}
 use Rattle.scad_run.specs.Words.{Case, model_of, case_of}
 
 -- the most bytes that a source may have

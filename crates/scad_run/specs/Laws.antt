@@ -17,7 +17,7 @@ use Rattle.scad_run.specs.Meaning.{source_means, Means}
 use Rattle.scad_run.specs.Answer.{Findings, script_of, AreFoundBy, AreFound}
 use Rattle.scad_run.specs.Inputs.{Inputs, settings_found}
 use Rattle.scad_run.specs.Causes.{IsMissing}
-use Rattle.scad_run.specs.Confirmed.{Confirms, ConfirmsPrints}
+use Rattle.scad_run.specs.Approval.{Confirms, ConfirmsPrints}
 
 -- the tree that a source means is of solids
 abbrev pub SourcesMeanSolids : Type 0

@@ -2,7 +2,7 @@
 pub mod Words
 pub mod Meant
 pub mod Meaning
-pub mod Told
+pub mod SourceReport
 pub mod Inputs
 pub mod Judging
 pub mod Answer
@@ -10,12 +10,11 @@ pub mod Playing
 pub mod Promises
 pub mod Causes
 pub mod Printing
-pub mod Verified
-pub mod Confirmed
+pub mod Assurance
+pub mod Approval
 pub mod Cut
 pub mod ByGrammar
 pub mod Headline
 pub mod Laws
-
 -- What only the steps of the code promise to one another.
 pub mod View

@@ -10,14 +10,14 @@ use Rattle.scad_script.specs.declared.loading.Input.{Input}
 use Rattle.scad_script.specs.declared.refusal.Refusal.TheVariants.{Usage, Settings as IsSettings}
 use Rattle.scad_script.specs.declared.stop.Stop.{Stop}
 use Rattle.scad_script.specs.Script.{Script, Finishes, Refuses, ends}
-use Rattle.scad_script.specs.Played.{Left, Stops, EndsIn, Completes}
+use Rattle.scad_script.specs.Play.{Left, Stops, EndsIn, Completes}
 use Rattle.scad_expr.specs.State.{Outcome}
 use Rattle.cli_read.specs.declared.fault.CliFault.{CliFault}
 use Rattle.cli_read.specs.declared.fault.CliFault.TheVariants.{Memory}
 use Rattle.scad_tree.specs.declared.tree.Tree.{Tree as TreeInMemory}
 use Rattle.scad_tree.specs.Solid.{Solid}
 use Rattle.scad_tree.specs.View.{solid_of}
-use Rattle.scad_run.specs.Told.{told}
+use Rattle.scad_run.specs.SourceReport.{told}
 use Rattle.scad_run.specs.Words.{Case, model_of}
 use Rattle.verdict_laws.specs.Opinion.{Opinions, AreRight}
 use Rattle.scad_run.specs.Judging.{outlines_refused, judgement, file_then, case_script}

@@ -2,7 +2,7 @@
 ghost use Rattle.std.specs.Prelude.{◌≡◌, ◌≤◌, IfOk};
 ghost use Rattle.scad_script.specs.Script.{ends};
 ghost use Rattle.scad_tree.specs.View.{solid_of};
-ghost use Rattle.scad_run.specs.Told.{ok_line, check_end, check_script, tree_script};
+ghost use Rattle.scad_run.specs.SourceReport.{ok_line, check_end, check_script, tree_script};
 ghost use Rattle.scad_run.specs.Playing.{IsEnd};
 
 use itoa::Buffer;
@@ -46,7 +46,7 @@ fn numbers(alloc: Global, leaves: u64, triangles: u64, layers: u32) -> Result<Te
 }
 
 /// `ok: L leaves, T triangles, N layers`
-#[tactic(auto, unfolding(crate::specs::Told::ok_line))]
+#[tactic(auto, unfolding(crate::specs::SourceReport::ok_line))]
 fn ok_line(alloc: Global, leaves: u64, triangles: u64, layers: u32) -> Result<Vec<u8>, AllocError>
     ensures { IfOk result (λ line. line.items ≡ ok_line leaves triangles layers) }
 {

@@ -4,12 +4,12 @@ ghost use Rattle.scad_io.specs.Desk.{View};
 ghost use Rattle.scad_io.specs.declared.desk.Out.TheVariants.{Report};
 ghost use Rattle.scad_script.specs.Steps.{Sends};
 ghost use Rattle.scad_script.specs.Script.{Script, first};
-ghost use Rattle.scad_script.specs.Played.{Left, Carries, HasRisen};
+ghost use Rattle.scad_script.specs.Play.{Left, Carries, HasRisen};
 ghost use Rattle.scad_script.specs.Run.{Sound, CreatesNone};
 ghost use Rattle.scad_tree.specs.Solid.{Solid};
 ghost use Rattle.scad_tree.specs.View.{solid_of};
 ghost use Rattle.scad_run.specs.Meaning.{source_means, MeansTree};
-ghost use Rattle.scad_run.specs.Told.{echo_text, refusal_of, told};
+ghost use Rattle.scad_run.specs.SourceReport.{echo_text, refusal_of, told};
 ghost use Rattle.scad_run.specs.Playing.{Tells};
 
 use crate::meaning::made;
@@ -76,7 +76,7 @@ fn echo<D: Desk>(alloc: Global, lines: &[Text], desk: &mut D) -> Result<(), Stop
 }
 
 /// The lines, each ended by a line feed.
-#[tactic(auto, unfolding(crate::specs::Told::echo_text))]
+#[tactic(auto, unfolding(crate::specs::SourceReport::echo_text))]
 fn echo_text(alloc: Global, lines: &[Text]) -> Result<Vec<u8>, AllocError>
     ensures { IfOk result (λ text. text.items ≡ echo_text lines.now) }
 {

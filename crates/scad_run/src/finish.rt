@@ -1,6 +1,6 @@
 //! What a command does with a source's tree.
 ghost use Rattle.std.specs.Prelude.{◌≡◌, ◌<◌, ◌≤◌, false, None};
-ghost use Rattle.scad_script.specs.Played.{Completes, HasRisen};
+ghost use Rattle.scad_script.specs.Play.{Completes, HasRisen};
 ghost use Rattle.scad_script.specs.Run.{Sound};
 ghost use Rattle.scad_tree.specs.View.{solid_of};
 ghost use Rattle.scad_tree.specs.Solids.{AreSolids};

@@ -1,7 +1,7 @@
 //! The work of `verify`: outlines and a printing program are read, and the program is judged by the outlines.
 ghost use Rattle.std.specs.Prelude.{◌≡◌, ◌≤◌, Ok, IfOk, OnOk};
 ghost use Rattle.scad_script.specs.Script.{ends};
-ghost use Rattle.scad_script.specs.Played.{HasRisen};
+ghost use Rattle.scad_script.specs.Play.{HasRisen};
 ghost use Rattle.scad_script.specs.Run.{Sound};
 ghost use Rattle.cli_read.specs.View.{layers_of};
 ghost use Rattle.plan_verify.specs.Stays.{AreWithin};

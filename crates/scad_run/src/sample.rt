@@ -3,7 +3,7 @@ ghost use Rattle.std.specs.Prelude.{◌≡◌, ◌++◌, decimal, IfOk, OnOk};
 ghost use Rattle.slice_work.specs.declared.want.Want.TheVariants.{Plan};
 ghost use Rattle.scad_tree.specs.View.{solid_of};
 ghost use Rattle.scad_slice.specs.Parts.{IsPart};
-ghost use Rattle.scad_run.specs.Told.{counts_text, sizes_text, sample_line, sample_script};
+ghost use Rattle.scad_run.specs.SourceReport.{counts_text, sizes_text, sample_line, sample_script};
 ghost use Rattle.scad_run.specs.Playing.{IsEnd};
 
 use gcode_text::push_hundred_thousandths;
@@ -35,7 +35,7 @@ pub fn sampled<R: Threads + Sync, G: Gate>(
 }
 
 /// `sample N: L layers, K loops, M moves, E e, C cli bytes, G gcode bytes`
-#[tactic(auto, unfolding(crate::specs::Told::sample_line))]
+#[tactic(auto, unfolding(crate::specs::SourceReport::sample_line))]
 fn sample_line(alloc: Global, n: u32, told: &Written) -> Result<Vec<u8>, AllocError>
     ensures { IfOk result (λ line. line.items ≡ sample_line n told.now.summary.layers told.now.summary.loops told.now.summary.moves
         told.now.summary.e told.now.cli told.now.gcode) }
@@ -49,7 +49,7 @@ fn sample_line(alloc: Global, n: u32, told: &Written) -> Result<Vec<u8>, AllocEr
 }
 
 /// `L layers, K loops, M moves, E e`
-#[tactic(auto, unfolding(crate::specs::Told::counts_text))]
+#[tactic(auto, unfolding(crate::specs::SourceReport::counts_text))]
 fn push_counts(line: &mut Vec<u8>, told: &Summary) -> Result<(), AllocError>
     ensures { OnOk result (line.new.items ≡ line.old.items ++ counts_text told.now.layers told.now.loops told.now.moves told.now.e) }
 {
@@ -63,7 +63,7 @@ fn push_counts(line: &mut Vec<u8>, told: &Summary) -> Result<(), AllocError>
 }
 
 /// `, C cli bytes, G gcode bytes`
-#[tactic(auto, unfolding(crate::specs::Told::sizes_text))]
+#[tactic(auto, unfolding(crate::specs::SourceReport::sizes_text))]
 fn push_sizes(line: &mut Vec<u8>, cli: u64, gcode: u64) -> Result<(), AllocError>
     ensures { OnOk result (line.new.items ≡ line.old.items ++ sizes_text cli gcode) }
 {

@@ -1,7 +1,7 @@
 //! The settings of a run.
 ghost use Rattle.std.specs.Prelude.{◌≡◌, ◌≤◌, ◌<◌, option_map, IfOk, OnOk};
 ghost use Rattle.scad_words.specs.Settings.{settings_of, AreInRange};
-ghost use Rattle.scad_script.specs.Played.{HasRisen};
+ghost use Rattle.scad_script.specs.Play.{HasRisen};
 ghost use Rattle.scad_script.specs.Run.{Sound, CreatesNone};
 ghost use Rattle.scad_run.specs.Playing.{Settles, IsJudged};
 

@@ -1,7 +1,7 @@
 //! The work of a command, up to the report's last line.
 ghost use Rattle.std.specs.Prelude.{◌≡◌, ◌<◌, ◌≤◌, ◌-◌, ◌^◌, false, Some, None, option_map, length, map, string_bytes, IfOk, IfErr, OnOk};
 ghost use Rattle.scad_script.specs.Script.{IsWithin};
-ghost use Rattle.scad_script.specs.Played.{Carries, Completes, HasRisen};
+ghost use Rattle.scad_script.specs.Play.{Carries, Completes, HasRisen};
 ghost use Rattle.scad_script.specs.Run.{Sound, CreatesNone};
 ghost use Rattle.scad_words.specs.Job.{job_of};
 ghost use Rattle.scad_run.specs.Words.{model_of, case_of};

@@ -6,7 +6,7 @@ use Rattle.scad_value.specs.Datum.{Datum}
 use Rattle.scad_value.specs.declared.value.Value.{Value}
 use Rattle.scad_value.specs.View.{datum_of}
 use Rattle.scad_scope.specs.Names.{Names, is_same_name, place_in, value_of_name, with_name}
-use Rattle.scad_scope.specs.Held.{named}
+use Rattle.scad_scope.specs.FrameNames.{named}
 use Rattle.scad_scope.proofs.Outwards.{same_key, named-insert}
 
 -- ---- a name that stands there

@@ -7,7 +7,7 @@ use Rattle.scad_scope.specs.Chain.{names_at, names_held, outwards}
 use Rattle.scad_scope.specs.Env.{sought}
 use Rattle.scad_scope.specs.Listing.{Listing, place_of}
 use Rattle.scad_scope.specs.Slots.{slot_onto, slots_from}
-use Rattle.scad_scope.specs.Stored.{Stored, env_at, envs, pushed, stored_at}
+use Rattle.scad_scope.specs.FrameStore.{Stored, env_at, envs, pushed, stored_at}
 use Rattle.scad_scope.specs.View.{frame_listed, frame_stored}
 
 -- ---- the slots of one frame

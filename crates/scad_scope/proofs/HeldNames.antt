@@ -8,12 +8,12 @@ use Rattle.std.proofs.lemmas.Option.{none-some}
 use Rattle.scad_value.specs.Datum.{Datum}
 use Rattle.scad_value.specs.declared.value.Value.{Value}
 use Rattle.scad_scope.specs.Chain.{are_listed, names_held}
-use Rattle.scad_scope.specs.Held.{is_nil}
+use Rattle.scad_scope.specs.FrameNames.{is_nil}
 use Rattle.scad_scope.specs.Listing.{Listing, place_of}
 use Rattle.scad_scope.specs.Names.{Names, is_same_name, place_in, value_of_name, with_name}
-use Rattle.scad_scope.specs.Placed.{ArePlaces, first_place, name_placed, or_unlisted, place_in_entry}
+use Rattle.scad_scope.specs.ListedValues.{ArePlaces, first_place, name_placed, or_unlisted, place_in_entry}
 use Rattle.scad_scope.proofs.Few.{set-unplaced}
-use Rattle.scad_scope.proofs.Placed.{first, others}
+use Rattle.scad_scope.proofs.ListedValues.{first, others}
 
 -- ---- no names behind the placed ones
 pub alone : (xs ys : Names) → is_nil ys ≡ true → xs ++ ys ≡ xs

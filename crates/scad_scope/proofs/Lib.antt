@@ -2,10 +2,10 @@ pub mod Few
 pub mod Finding
 pub mod HeldNames
 pub mod Listing
-pub mod Noted
+pub mod Notes
 pub mod OnLiterals
 pub mod Outwards
-pub mod Placed
-pub mod Resolved
+pub mod ListedValues
+pub mod FoundSlots
 pub mod Rows
 pub mod Tables

@@ -5,7 +5,7 @@ use Rattle.scad_value.specs.Datum.{undef}
 use Rattle.scad_scope.specs.Chain.{HoldNames, chain_at, names_at}
 use Rattle.scad_scope.specs.Listing.{Listing, with_listed}
 use Rattle.scad_scope.specs.Slots.{slots_of}
-use Rattle.scad_scope.specs.Stored.{Stored}
+use Rattle.scad_scope.specs.FrameStore.{Stored}
 
 abbrev program : Listing
 program = codes "f" ∷ codes "g" ∷ []

@@ -12,8 +12,8 @@ use Rattle.scad_value.specs.View.{datum_of}
 use Rattle.scad_scope.specs.declared.frame.Frame.{Frame}
 use Rattle.scad_scope.specs.Names.{value_of_name, with_name}
 use Rattle.scad_scope.specs.Env.{Env, outside, sought, or_else}
-use Rattle.scad_scope.specs.Stored.{Stored, pushed, stored_at, with_name_in, with_name_in_last, env_at, env_round, env_of, envs_onto, envs}
-use Rattle.scad_scope.specs.Held.{named}
+use Rattle.scad_scope.specs.FrameStore.{Stored, pushed, stored_at, with_name_in, with_name_in_last, env_at, env_round, env_of, envs_onto, envs}
+use Rattle.scad_scope.specs.FrameNames.{named}
 use Rattle.scad_scope.specs.View.{frame_listed, frame_stored}
 
 -- ---- names in memory

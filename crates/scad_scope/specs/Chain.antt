@@ -2,7 +2,7 @@
 use Rattle.std.specs.Prelude.{◌≡◌, ℕ, zero, suc, Bool, true, ◌&&◌, is_some, List, [], ◌∷◌, map, slice_index_or, Option, Some, None, if◌then◌else◌}
 use Rattle.scad_scope.specs.Listing.{Listing, place_of}
 use Rattle.scad_scope.specs.Names.{Names}
-use Rattle.scad_scope.specs.Stored.{Stored, stored_at}
+use Rattle.scad_scope.specs.FrameStore.{Stored, stored_at}
 
 -- whether each name that has a value is listed
 abbrev pub are_listed : Listing → Names → Bool

@@ -7,11 +7,11 @@ use Rattle.scad_scope.specs.declared.frame_names.FrameNames.{FrameNames}
 use Rattle.scad_scope.specs.declared.home.Home.{Home}
 use Rattle.scad_scope.specs.declared.home.Home.TheVariants.{Unscoped, Searched, Tabled}
 use Rattle.scad_scope.specs.declared.kept.Kept.{Kept}
-use Rattle.scad_scope.specs.Held.{named_in, placed_in}
+use Rattle.scad_scope.specs.FrameNames.{named_in, placed_in}
 use Rattle.scad_scope.specs.Listing.{Listing}
 use Rattle.scad_scope.specs.Names.{Names}
 use Rattle.scad_scope.specs.declared.frames.Frames.{Frames}
-use Rattle.scad_scope.specs.Stored.{Stored, StoredChildren}
+use Rattle.scad_scope.specs.FrameStore.{Stored, StoredChildren}
 
 -- the names of a frame with their values
 unfoldable pub names_in : FrameNames → Names

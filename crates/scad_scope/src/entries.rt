@@ -3,8 +3,8 @@
 ghost use Rattle.std.specs.Prelude.{◌≡◌, None, IfOk, OnOk, map, option_map};
 ghost use Rattle.scad_ast.specs.Scope.{item_of, items};
 ghost use Rattle.scad_scope.specs.Definitions.{defining, last_item};
-ghost use Rattle.scad_scope.specs.Noted.{noted, placed};
-ghost use Rattle.scad_scope.specs.Tabled.{word_in, tabled, item_by};
+ghost use Rattle.scad_scope.specs.Notes.{noted, placed};
+ghost use Rattle.scad_scope.specs.Tables.{word_in, tabled, item_by};
 
 use crate::kind::Kind;
 use indexmap::IndexMap;
@@ -60,7 +60,7 @@ pub fn last_item<'p>(kind: Kind, name: &[u8], scope: &'p Scope) -> Option<&'p It
 }
 
 /// Notes the item at a place: where it defines a name, it is the last one to define it so far.
-#[tactic(auto, using(crate::proofs::Noted::placed_insert))]
+#[tactic(auto, using(crate::proofs::Notes::placed_insert))]
 fn note<'p>(
     kind: Kind,
     item: &'p Item,

@@ -27,8 +27,8 @@ impl<'p> Frame<'p> {
     ghost use Rattle.scad_scope.specs.Listing.{Listing};
     ghost use Rattle.scad_scope.specs.Names.{value_of_name};
     ghost use Rattle.scad_scope.specs.Slots.{slots_from};
-    ghost use Rattle.scad_scope.specs.Stored.{with_name_in};
-    ghost use Rattle.scad_scope.specs.Tabled.{word_in};
+    ghost use Rattle.scad_scope.specs.FrameStore.{with_name_in};
+    ghost use Rattle.scad_scope.specs.Tables.{word_in};
     ghost use Rattle.scad_scope.specs.View.{frame_listed, frame_stored};
 
     /// Sets the name.

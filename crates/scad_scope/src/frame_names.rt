@@ -1,8 +1,8 @@
 //! The names of a frame with their values.
 
 ghost use Rattle.std.specs.Prelude.{◌≡◌, None};
-ghost use Rattle.scad_scope.specs.Held.{listing_of, named_in};
-ghost use Rattle.scad_scope.specs.Placed.{first_place};
+ghost use Rattle.scad_scope.specs.FrameNames.{listing_of, named_in};
+ghost use Rattle.scad_scope.specs.ListedValues.{first_place};
 
 use crate::named_values::NamedValues;
 use crate::names::Names;
@@ -23,7 +23,7 @@ impl<'p> FrameNames<'p> {
     ghost use Rattle.std.specs.Prelude.{ℕ, List, [], ◌≤◌, Some, length, option_map, OnOk, OnErr};
     ghost use Rattle.scad_value.specs.View.{datum_of};
     ghost use Rattle.scad_scope.specs.Chain.{names_held};
-    ghost use Rattle.scad_scope.specs.Held.{placed_in};
+    ghost use Rattle.scad_scope.specs.FrameNames.{placed_in};
     ghost use Rattle.scad_scope.specs.Listing.{Listing, place_of};
     ghost use Rattle.scad_scope.specs.Names.{place_in, value_of_name, with_name};
     ghost use Rattle.scad_scope.specs.View.{names_in};

@@ -31,8 +31,8 @@ impl<'p> Frames<'p> {
     ghost use Rattle.scad_scope.specs.Env.{sought};
     ghost use Rattle.scad_scope.specs.Listing.{Listing};
     ghost use Rattle.scad_scope.specs.Slots.{slots_of};
-    ghost use Rattle.scad_scope.specs.Stored.{pushed, stored_at, with_name_in_last, env_at, envs};
-    ghost use Rattle.scad_scope.specs.Tabled.{word_in};
+    ghost use Rattle.scad_scope.specs.FrameStore.{pushed, stored_at, with_name_in_last, env_at, envs};
+    ghost use Rattle.scad_scope.specs.Tables.{word_in};
     ghost use Rattle.scad_scope.specs.View.{listed, stored, children_stored};
 
     /// No frames. It takes no memory.

@@ -25,7 +25,7 @@ impl<'p> Home<'p> {
     ghost use Rattle.std.specs.Prelude.{◌≡◌, option_map};
     ghost use Rattle.scad_ast.specs.Scope.{item_of, items};
     ghost use Rattle.scad_scope.specs.Definitions.{item_in};
-    ghost use Rattle.scad_scope.specs.Tabled.{word_in};
+    ghost use Rattle.scad_scope.specs.Tables.{word_in};
     ghost use Rattle.scad_scope.specs.View.{scope_in};
 
     /// The home of a scope, where there is one. It takes no memory.

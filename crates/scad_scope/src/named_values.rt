@@ -2,7 +2,7 @@
 
 ghost use Rattle.std.specs.Prelude.{◌≡◌, map};
 ghost use Rattle.scad_scope.specs.Names.{place_in};
-ghost use Rattle.scad_scope.specs.Held.{named};
+ghost use Rattle.scad_scope.specs.FrameNames.{named};
 
 use indexmap::IndexMap;
 use scad_value::Value;
@@ -49,10 +49,10 @@ impl NamedValues {
     ghost use Rattle.std.specs.Prelude.{◌≡◌, ◌≤◌, [], length, option_map, OnOk, OnErr};
     ghost use Rattle.scad_value.specs.View.{datum_of};
     ghost use Rattle.scad_scope.specs.Names.{place_in, value_of_name, with_name};
-    ghost use Rattle.scad_scope.specs.Held.{few_in, is_nil, more_in, named_in};
+    ghost use Rattle.scad_scope.specs.FrameNames.{few_in, is_nil, more_in, named_in};
 
     /// No names. They take no memory.
-    #[tactic(auto, unfolding(crate::specs::Held::named_in))]
+    #[tactic(auto, unfolding(crate::specs::FrameNames::named_in))]
     pub fn new(alloc: Global) -> NamedValues
         ensures { named_in result ≡ [] }
     {
@@ -63,7 +63,7 @@ impl NamedValues {
     }
 
     /// Sets a name.
-    #[tactic(auto, unfolding(crate::specs::Held::named_in))]
+    #[tactic(auto, unfolding(crate::specs::FrameNames::named_in))]
     pub fn set(&mut self, alloc: Global, name: Vec<u8>, value: Value) -> Result<(), AllocError>
         ensures named { OnOk result (named_in self.new
             ≡ with_name name.items (datum_of value) (named_in self.old)) }
@@ -78,7 +78,7 @@ impl NamedValues {
     }
 
     /// Sets a name that isn't among the few.
-    #[tactic(auto, unfolding(crate::specs::Held::named_in))]
+    #[tactic(auto, unfolding(crate::specs::FrameNames::named_in))]
     fn add(&mut self, alloc: Global, name: Vec<u8>, value: Value) -> Result<(), AllocError>
         requires { length (few_in self.old) ≤ place_in name.items (few_in self.old) }
         ensures named { OnOk result (named_in self.new
@@ -97,7 +97,7 @@ impl NamedValues {
     }
 
     /// Puts a name behind the few.
-    #[tactic(auto, unfolding(crate::specs::Held::named_in))]
+    #[tactic(auto, unfolding(crate::specs::FrameNames::named_in))]
     fn append(&mut self, name: Vec<u8>, value: Value) -> Result<(), AllocError>
         requires absent { length (few_in self.old) ≤ place_in name.items (few_in self.old) }
         requires last { more_in self.old ≡ [] }

@@ -1,7 +1,7 @@
 //! Entries by their places.
 
 ghost use Rattle.std.specs.Prelude.{◌≡◌, map};
-ghost use Rattle.scad_scope.specs.Placed.{number_in, place_in_entry};
+ghost use Rattle.scad_scope.specs.ListedValues.{number_in, place_in_entry};
 
 use scad_value::Value;
 

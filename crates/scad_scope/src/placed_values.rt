@@ -2,7 +2,7 @@
 
 ghost use Rattle.std.specs.Prelude.{◌≡◌, true, map, option_map, vec_len};
 ghost use Rattle.std.specs.List.{range_with_len};
-ghost use Rattle.scad_scope.specs.Placed.{ArePlaces, or_unlisted, place_in_entry};
+ghost use Rattle.scad_scope.specs.ListedValues.{ArePlaces, or_unlisted, place_in_entry};
 
 use crate::names::Names;
 use crate::place_search::number_of;
@@ -30,11 +30,11 @@ pub struct PlacedValues<'p> {
 impl<'p> PlacedValues<'p> {
     ghost use Rattle.std.specs.Prelude.{ℕ, List, [], ◌∷◌, ◌++◌, ◌<◌, ◌≤◌, Some, None, length, OnOk, OnErr};
     ghost use Rattle.scad_value.specs.View.{datum_of};
-    ghost use Rattle.scad_scope.specs.Held.{listing_of, placed_in};
+    ghost use Rattle.scad_scope.specs.FrameNames.{listing_of, placed_in};
     ghost use Rattle.scad_scope.specs.Listing.{place_of, name_at};
     ghost use Rattle.scad_scope.specs.Names.{Names as NamesSet, place_in, value_of_name, with_name};
-    ghost use Rattle.scad_scope.specs.Placed.{number_in};
-    ghost use Rattle.scad_scope.specs.Found.{IsFound};
+    ghost use Rattle.scad_scope.specs.ListedValues.{number_in};
+    ghost use Rattle.scad_scope.specs.NameSearch.{IsFound};
 
     /// No values, at the places of these names. It takes no memory.
     pub fn new(alloc: Global, names: Option<&'p Names>) -> PlacedValues<'p>

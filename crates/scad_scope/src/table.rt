@@ -3,8 +3,8 @@
 ghost use Rattle.std.specs.Prelude.{◌≡◌, map};
 ghost use Rattle.scad_ast.specs.Scope.{items};
 ghost use Rattle.scad_scope.specs.Definitions.{function_word, module_word};
-ghost use Rattle.scad_scope.specs.Noted.{placed};
-ghost use Rattle.scad_scope.specs.Tabled.{tabled};
+ghost use Rattle.scad_scope.specs.Notes.{placed};
+ghost use Rattle.scad_scope.specs.Tables.{tabled};
 
 use crate::entries::{item_by, rows_of};
 use crate::kind::Kind;
@@ -26,7 +26,7 @@ impl<'p> Table<'p> {
     ghost use Rattle.std.specs.Prelude.{IfOk, None, option_map};
     ghost use Rattle.scad_ast.specs.Scope.{item_of};
     ghost use Rattle.scad_scope.specs.Definitions.{last_item};
-    ghost use Rattle.scad_scope.specs.Tabled.{word_in};
+    ghost use Rattle.scad_scope.specs.Tables.{word_in};
 
     /// The tables of a scope.
     pub fn of(alloc: Global, scope: &'p Scope) -> Result<Table<'p>, AllocError>

@@ -2,8 +2,8 @@
 
 ghost use Rattle.std.specs.Prelude.{◌≡◌, IfOk, OnOk, map};
 ghost use Rattle.scad_ast.specs.Scope.{item_of, items};
-ghost use Rattle.scad_scope.specs.Assigned.{assigned, bindings};
-ghost use Rattle.scad_scope.specs.Noted.{noted, placed, as_binding};
+ghost use Rattle.scad_scope.specs.Assignments.{assigned, bindings};
+ghost use Rattle.scad_scope.specs.Notes.{noted, placed, as_binding};
 
 use crate::binding::{Binding, Bindings};
 use indexmap::IndexMap;
@@ -12,7 +12,7 @@ use scad_fault::Text;
 use std::alloc::{AllocError, Global};
 
 /// Notes the item at a place: where it is an assignment, it is the last one to its name so far.
-#[tactic(auto, using(crate::proofs::Noted::placed_insert))]
+#[tactic(auto, using(crate::proofs::Notes::placed_insert))]
 fn note<'p>(
     last: &mut IndexMap<&'p [u8], usize>,
     item: &'p Item,
@@ -41,7 +41,7 @@ fn listed<'p>(alloc: Global, last: &IndexMap<&'p [u8], usize>) -> Result<Binding
 
 /// The names that the scope assigns, in the order of their first assignments, each with the place of
 /// the item that assigns it last.
-#[tactic(auto, using(crate::proofs::Rows::left, crate::proofs::Noted::listed_bindings))]
+#[tactic(auto, using(crate::proofs::Rows::left, crate::proofs::Notes::listed_bindings))]
 pub fn bindings(alloc: Global, scope: &Scope) -> Result<Bindings, AllocError>
     ensures { IfOk result (λ b. b ≡ bindings (items scope.now.items)) }
 {

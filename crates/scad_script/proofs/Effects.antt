@@ -8,9 +8,9 @@ use Rattle.scad_io.specs.declared.desk.Failed.{Failed}
 use Rattle.scad_io.specs.declared.desk.Out.{Out}
 use Rattle.scad_io.specs.declared.desk.Out.TheVariants.{Report, Cli, Gcode}
 use Rattle.scad_script.specs.Steps.{Step, Reads, Makes, Sends, is_same, piece_for}
-use Rattle.scad_script.specs.Played.{UsesInput, Takes, Fails}
+use Rattle.scad_script.specs.Play.{UsesInput, Takes, Fails}
 use Rattle.scad_script.specs.Promises.{Adds, IsFront}
-use Rattle.scad_io.proofs.Sent.{appended-nothing, appended-twice}
+use Rattle.scad_io.proofs.Output.{appended-nothing, appended-twice}
 
 pub same_is : (o out : Out) → is_same o out ≡ true → o ≡ out
 same_is Report Report same = refl

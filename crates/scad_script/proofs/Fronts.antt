@@ -10,7 +10,7 @@ use Rattle.scad_script.specs.declared.stop.Stop.{Stop}
 use Rattle.scad_script.specs.Steps.{Step, piece_for, text_of, reading, echoing, drawing}
 use Rattle.scad_script.specs.Script.{Script, Ending, Finishes, Refuses, Lacks, answer_by}
 use Rattle.scad_script.specs.Names.{OnlyReads}
-use Rattle.scad_script.specs.Played.{Went, Left, StopsAt, EndsIn}
+use Rattle.scad_script.specs.Play.{Went, Left, StopsAt, EndsIn}
 use Rattle.scad_script.specs.Run.{Tells, Reports}
 use Rattle.scad_script.specs.Promises.{Adds, IsFront}
 use Rattle.scad_script.specs.Laws.{FilesAreFronts}

@@ -10,7 +10,7 @@ use Rattle.scad_io.specs.declared.desk.Out.TheVariants.{Report, Cli, Gcode}
 use Rattle.scad_script.specs.Steps.{Step, Reads, Makes, Sends, piece_for, text_of, drawing}
 use Rattle.scad_script.specs.Script.{Script, Ending, Finishes, Refuses, Lacks, layer_then, layers}
 use Rattle.scad_script.specs.Names.{Given, AllFrom, AllStand, OnlyReads}
-use Rattle.scad_script.specs.Played.{Left}
+use Rattle.scad_script.specs.Play.{Left}
 
 -- the next layer, and those behind it
 pub next_layer : (layer : ℕ → Result (List Step) Budget) (i n : ℕ) (rest : Script) → i < n → layers layer i (n - i) rest

@@ -7,7 +7,7 @@ use Rattle.scad_script.specs.Steps.{Step, Reads, Makes, Sends, stage, reading, d
 use Rattle.scad_script.specs.Names.{Given, UsesGiven, AllFrom, AllUpTo, Stands, AllStand}
 use Rattle.scad_script.specs.declared.stop.Stop.{Stop}
 use Rattle.scad_script.specs.Script.{Script, first}
-use Rattle.scad_script.specs.Played.{Fails, Went, Left, StopsAt, EndsIn}
+use Rattle.scad_script.specs.Play.{Fails, Went, Left, StopsAt, EndsIn}
 use Rattle.scad_script.proofs.Effects.{read_each}
 
 from_each : (least : ℕ) (steps : List Step) (step : Step) (rest : List Step) → AllFrom least (steps ++ step ∷ rest)

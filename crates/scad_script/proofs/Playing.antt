@@ -3,7 +3,7 @@ use Rattle.std.proofs.Common.{◌++◌, List, [], ◌∷◌, refl, ap, ◌∙◌
 use Rattle.scad_io.specs.Desk.{View}
 use Rattle.scad_script.specs.Steps.{Step}
 use Rattle.scad_script.specs.Script.{Script, first}
-use Rattle.scad_script.specs.Played.{Takes, Went, Left}
+use Rattle.scad_script.specs.Play.{Takes, Went, Left}
 
 -- one more step behind those that were taken
 pub then_takes : (done : List Step) (step : Step) (old mid new : View) → Went done old mid → Takes step mid new

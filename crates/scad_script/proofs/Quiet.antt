@@ -7,7 +7,7 @@ use Rattle.scad_script.specs.declared.stop.Stop.{Stop}
 use Rattle.scad_script.specs.Steps.{Step, Reads, Makes, Sends, stage, echoing}
 use Rattle.scad_script.specs.Script.{Script, first}
 use Rattle.scad_script.specs.Names.{AllUpTo}
-use Rattle.scad_script.specs.Played.{Takes, Fails, Went, Left, StopsAt, EndsIn}
+use Rattle.scad_script.specs.Play.{Takes, Fails, Went, Left, StopsAt, EndsIn}
 use Rattle.scad_script.proofs.Effects.{read_each}
 
 -- an output other than the report

@@ -1,8 +1,8 @@
 pub mod Steps
 pub mod Script
 pub mod Names
-pub mod Played
+pub mod Play
 pub mod Run
-pub mod Kept
+pub mod Departure
 pub mod Promises
 pub mod Laws

@@ -4,12 +4,12 @@ use Rattle.scad_fault.specs.declared.status.Status.{Status}
 use Rattle.scad_fault.specs.declared.status.Status.TheVariants.{Done, Read, Write, Memory}
 use Rattle.scad_fault.specs.Line.{line_of}
 use Rattle.scad_io.specs.Desk.{View, sent}
-use Rattle.scad_io.specs.Sent.{SentPartly}
+use Rattle.scad_io.specs.Output.{SentPartly}
 use Rattle.scad_io.specs.declared.desk.Out.{Out}
 use Rattle.scad_io.specs.declared.desk.Out.TheVariants.{Report, Cli, Gcode}
 use Rattle.scad_script.specs.declared.stop.Stop.{Stop}
 use Rattle.scad_script.specs.Script.{Script, refused}
-use Rattle.scad_script.specs.Played.{EndsIn}
+use Rattle.scad_script.specs.Play.{EndsIn}
 
 -- no object of the desk has failed
 pub record Sound (v : View) : Type 0 where

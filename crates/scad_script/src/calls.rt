@@ -3,9 +3,9 @@ ghost use Rattle.std.specs.Prelude.{◌≡◌, ◌≢◌, ◌<◌, ◌≤◌, �
 ghost use Rattle.scad_io.specs.Desk.{side, HasCause};
 ghost use Rattle.scad_script.specs.Steps.{Makes, Sends};
 ghost use Rattle.scad_script.specs.Script.{first};
-ghost use Rattle.scad_script.specs.Played.{Carries, IsThere, stop_of};
+ghost use Rattle.scad_script.specs.Play.{Carries, IsThere, stop_of};
 ghost use Rattle.scad_script.specs.Run.{Sound, CreatesOne};
-ghost use Rattle.scad_script.specs.Kept.{Keeps};
+ghost use Rattle.scad_script.specs.Departure.{Keeps};
 
 use crate::Stop;
 use scad_io::{Desk, Failed, Out, write_all};

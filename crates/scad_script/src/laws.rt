@@ -3,7 +3,7 @@ ghost use Rattle.scad_script.specs.Laws.{StatusesKeepPromises, FilesAreFronts, N
 
 /// Each status keeps its promise: the whole answer, or the lines of the report and the objects that
 /// have failed.
-#[tactic(auto, using(crate::proofs::Promised::statuses_keep_promises))]
+#[tactic(auto, using(crate::proofs::StatusPromises::statuses_keep_promises))]
 pub fn statuses_keep_promises()
     ensures { StatusesKeepPromises }
 {}
@@ -24,7 +24,7 @@ pub fn created_for_bytes()
 {}
 
 /// A report that has failed makes the status Write.
-#[tactic(auto, using(crate::proofs::Promised::failed_reports_are_write))]
+#[tactic(auto, using(crate::proofs::StatusPromises::failed_reports_are_write))]
 pub fn failed_reports_are_write()
     ensures { FailedReportsAreWrite }
 {}

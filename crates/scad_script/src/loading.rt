@@ -2,9 +2,9 @@
 ghost use Rattle.std.specs.Prelude.{◌≡◌, ◌<◌, ◌≤◌, ◌∷◌, [], Some, IfOk, OnOk, IsErrOf, IfSome, option_map};
 ghost use Rattle.scad_script.specs.Steps.{Reads};
 ghost use Rattle.scad_script.specs.Script.{first, input_of, IsWithin};
-ghost use Rattle.scad_script.specs.Played.{Carries};
+ghost use Rattle.scad_script.specs.Play.{Carries};
 ghost use Rattle.scad_script.specs.Run.{Sound, CreatesNone};
-ghost use Rattle.scad_script.specs.Kept.{Keeps};
+ghost use Rattle.scad_script.specs.Departure.{Keeps};
 
 use crate::Stop;
 use scad_fault::Text;

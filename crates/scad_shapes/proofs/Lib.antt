@@ -3,4 +3,4 @@ mod HoldsExamples
 pub mod Holds
 pub mod Roundings
 pub mod Solids
-pub mod Counted
+pub mod TriangleCount

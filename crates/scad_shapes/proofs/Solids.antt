@@ -15,7 +15,7 @@ use Rattle.scad_solid.specs.Solid.{first_bad, names_points, closed_or_not, solid
 use Rattle.scad_solid.specs.Surface.{is_closed}
 use Rattle.scad_shapes.specs.declared.fault.ShapeFault.{ShapeFault}
 use Rattle.scad_shapes.specs.declared.fault.ShapeFault.TheVariants.{CoordinateRange, NotClosed, Memory}
-use Rattle.scad_shapes.specs.Pushed.{Pushes, Collects}
+use Rattle.scad_shapes.specs.Pushes.{Pushes, Collects}
 use Rattle.std.proofs.lemmas.List.FromFn.{length-range_with_len}
 use Rattle.std.proofs.lemmas.List.{length-map}
 use Rattle.scad_matrix.specs.declared.matrix.Matrix.{Matrix}

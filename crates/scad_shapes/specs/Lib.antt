@@ -5,4 +5,4 @@ pub mod Rings
 pub mod Polyhedron
 pub mod Count
 pub mod Laws
-pub mod Pushed
+pub mod Pushes

@@ -5,7 +5,7 @@ ghost use Rattle.scad_shapes.specs.Faults.{is_memory};
 ghost use Rattle.scad_solid.specs.Stack.{stacked, are_alike, rings_in_range};
 ghost use Rattle.scad_geom.specs.PointRange.{is_in_range};
 ghost use Rattle.scad_matrix.specs.Matrix.{placed_point};
-ghost use Rattle.scad_shapes.specs.Pushed.{Pushes};
+ghost use Rattle.scad_shapes.specs.Pushes.{Pushes};
 ghost use Rattle.scad_shapes.specs.Rings.{placed_ring, ring_if_in_range};
 
 use crate::fault::ShapeFault;

@@ -7,7 +7,7 @@ ghost use Rattle.scad_shapes.specs.Count.{triangles_of, face_triangles};
 ghost use Rattle.std.specs.List.{list_all};
 ghost use Rattle.scad_geom.specs.PointRange.{is_in_range};
 ghost use Rattle.scad_solid.specs.Solid.{fans, corners};
-ghost use Rattle.scad_shapes.specs.Pushed.{Collects};
+ghost use Rattle.scad_shapes.specs.Pushes.{Collects};
 ghost use Rattle.scad_shapes.specs.Polyhedron.{placed_points, name_points, if_closed, polyhedron_of};
 
 use crate::fault::ShapeFault;

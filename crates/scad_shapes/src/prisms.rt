@@ -65,7 +65,7 @@ pub fn cylinder(
 }
 
 /// The solid between an outline at a lower and one at an upper height.
-#[tactic(auto, using(crate::proofs::Counted::prism_count, scad_geom::proofs::Casts::casts))]
+#[tactic(auto, using(crate::proofs::TriangleCount::prism_count, scad_geom::proofs::Casts::casts))]
 pub fn prism(
     alloc: Global,
     m: &Matrix,

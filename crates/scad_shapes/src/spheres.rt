@@ -7,7 +7,7 @@ ghost use Rattle.scad_shapes.specs.declared.count.Form.TheVariants.{Sphere};
 ghost use Rattle.scad_shapes.specs.Count.{triangles_of};
 ghost use Rattle.scad_shapes.specs.Outline.{sphere_rings, polar_angle};
 ghost use Rattle.scad_shapes.specs.Rings.{sphere_ring, sphere_ring_at, sphere_rings_of, ring_if_in_range, solid_of_rings};
-ghost use Rattle.scad_shapes.specs.Pushed.{Pushes, Collects, ring_in_range};
+ghost use Rattle.scad_shapes.specs.Pushes.{Pushes, Collects, ring_in_range};
 
 use crate::fault::ShapeFault;
 use crate::outline::{circle, part_of};
@@ -19,7 +19,7 @@ use scad_solid::{Ring, Triangles};
 use std::alloc::Global;
 
 /// A sphere round the origin: rings of `n` vertices, `(n + 1) / 2` of them from the top downwards.
-#[tactic(auto, using(crate::proofs::Counted::sphere_count, scad_geom::proofs::Casts::casts))]
+#[tactic(auto, using(crate::proofs::TriangleCount::sphere_count, scad_geom::proofs::Casts::casts))]
 pub fn sphere(alloc: Global, r: Num, n: u32, m: &Matrix) -> Result<Triangles, ShapeFault>
     requires some { 3 ≤ n }
     requires few { n ≤ triangle_limit }

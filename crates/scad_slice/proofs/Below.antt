@@ -15,7 +15,7 @@ use Rattle.plan_support.specs.Supports.{AreSupports}
 use Rattle.slice_layer.specs.Outlines.{AreLayerOutlines}
 use Rattle.outline_laws.proofs.OneLayer.{layers_have_one_outlines}
 use Rattle.support_laws.specs.Supports.{AreSupportsBelow}
-use Rattle.support_laws.proofs.Covered.{runs_are_supports}
+use Rattle.support_laws.proofs.Shelter.{runs_are_supports}
 use Rattle.slice_work.specs.declared.want.Want.{Want}
 use Rattle.slice_work.specs.declared.want.Want.TheVariants.{Outlines, Plan}
 use Rattle.scad_slice.specs.Budgets.{layer_count}

@@ -11,7 +11,7 @@ use Rattle.scad_io.specs.declared.desk.Out.{Out}
 use Rattle.scad_io.specs.declared.desk.Out.TheVariants.{Cli, Gcode}
 use Rattle.scad_script.specs.Steps.{Step, text_of}
 use Rattle.scad_script.specs.Script.{Script, Ending, Finishes, first, ends, layer_then, layers}
-use Rattle.scad_script.specs.Played.{Left, Carries}
+use Rattle.scad_script.specs.Play.{Left, Carries}
 use Rattle.scad_words.specs.declared.settings.Settings.{Settings}
 use Rattle.slice_work.specs.declared.want.Want.{Want}
 use Rattle.slice_work.specs.declared.summary.Summary.{Summary}

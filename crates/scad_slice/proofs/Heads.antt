@@ -4,7 +4,7 @@ use Rattle.scad_io.specs.Desk.{View}
 use Rattle.scad_io.specs.declared.desk.Out.TheVariants.{Cli, Gcode}
 use Rattle.scad_script.specs.Steps.{Sends}
 use Rattle.scad_script.specs.Script.{Script, first}
-use Rattle.scad_script.specs.Played.{Left}
+use Rattle.scad_script.specs.Play.{Left}
 use Rattle.scad_words.specs.declared.settings.Settings.{Settings}
 use Rattle.cli_text.specs.Cli as outline
 use Rattle.gcode_text.specs.Gcode as program

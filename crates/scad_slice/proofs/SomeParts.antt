@@ -10,7 +10,7 @@ use Rattle.plan_layer.specs.declared.fault.PlanFault.{PlanFault}
 use Rattle.plan_layer.specs.declared.fault.PlanFault.TheVariants.{Memory, Edges, Crossings, Moves}
 use Rattle.plan_layer.specs.There.{HasAccepted, HasRefusal}
 use Rattle.plan_layer.specs.Refusal.{IsRefused}
-use Rattle.plan_layer.proofs.Decided.{plans_are_decided}
+use Rattle.plan_layer.proofs.PlanDecision.{plans_are_decided}
 use Rattle.slice_work.specs.declared.want.Want.{Want}
 use Rattle.slice_work.specs.declared.want.Want.TheVariants.{Outlines, Plan}
 use Rattle.slice_work.specs.Part.{Layout}

@@ -3,7 +3,7 @@ use Rattle.std.proofs.Common.{◌≡◌, List, ℕ, Result, Err, sym, subst}
 use Rattle.scad_io.specs.Desk.{View}
 use Rattle.scad_script.specs.declared.stop.Stop.{Stop}
 use Rattle.scad_script.specs.Script.{Script}
-use Rattle.scad_script.specs.Played.{Stops, Plays, EndsIn}
+use Rattle.scad_script.specs.Play.{Stops, Plays, EndsIn}
 
 pub stops_part : {T : Type 0} (whole rest : Script) (result : Result T Stop) (stop : Stop) (old new : View)
     → result ≡ Err stop → Stops whole stop old new → Plays whole rest result old new

@@ -26,7 +26,7 @@ use Rattle.scad_slice.specs.Parts.{layer_at, layers_of, plans_of}
 use Rattle.scad_slice.specs.Script.{slice_script, plan_script}
 use Rattle.scad_slice.specs.Laws.{SlicesAreWhole, PlansAreWhole, ProgramsAreWhole}
 use Rattle.scad_slice.proofs.Layers.{steps_of, AreMadeFrom, written_from, made_from}
-use Rattle.scad_slice.proofs.Parted.{IsCut, slice_creates, plan_creates, slice_line, line_of_plan, whole_goes}
+use Rattle.scad_slice.proofs.ScriptCourse.{IsCut, slice_creates, plan_creates, slice_line, line_of_plan, whole_goes}
 
 pub text_append : (out : Out) (a b : List Step) → text_of out (a ++ b) ≡ text_of out a ++ text_of out b
 text_append out a b = flat_map-append (piece_for out) a b

@@ -7,6 +7,5 @@ pub mod Parts
 pub mod Script
 pub mod Membership
 pub mod Laws
-
 -- What only the steps of the code promise to one another.
-pub mod Drawn
+pub mod LayerEnd

@@ -2,7 +2,7 @@
 use Rattle.std.specs.Prelude.{◌≡◌, ◌<◌, ◌≤◌, ◌+◌, ◌*◌, ℕ, false, List, length, IsSomeAnd, slice_get}
 use Rattle.scad_geom.specs.Point.{Point}
 use Rattle.scad_tree.specs.Solid.{Solid}
-use Rattle.scad_tree.specs.Contained.{contained_at}
+use Rattle.scad_tree.specs.Containment.{contained_at}
 use Rattle.slice_layer.specs.Membership.{HoldCentres}
 use Rattle.slice_layer.specs.Border.{AreNearSectionBorder}
 use Rattle.cli_text.specs.Cli.{Layer}

@@ -11,7 +11,7 @@ ghost use Rattle.slice_work.specs.declared.layer.LayerEnd.TheVariants.{Over};
 ghost use Rattle.slice_work.specs.declared.want.Want.TheVariants.{Plan};
 ghost use Rattle.slice_work.specs.Part.{EndsWithin};
 ghost use Rattle.scad_slice.specs.Covers.{CoversFit};
-ghost use Rattle.scad_slice.specs.Drawn.{DrawsLayer, LaysOut};
+ghost use Rattle.scad_slice.specs.LayerEnd.{DrawsLayer, LaysOut};
 ghost use Rattle.scad_slice.specs.Parts.{IsPart};
 ghost use Rattle.scad_slice.specs.Supports.{AreSupportsOf};
 

@@ -3,9 +3,9 @@ ghost use Rattle.std.specs.Prelude.{◌≡◌, ◌≢◌, ◌≤◌, ◌<◌, �
 ghost use Rattle.scad_io.specs.declared.desk.Out.TheVariants.{Cli, Gcode};
 ghost use Rattle.scad_script.specs.Steps.{Sends, text_of};
 ghost use Rattle.scad_script.specs.Script.{first};
-ghost use Rattle.scad_script.specs.Played.{Carries, IsThere};
+ghost use Rattle.scad_script.specs.Play.{Carries, IsThere};
 ghost use Rattle.scad_script.specs.Run.{Sound};
-ghost use Rattle.scad_script.specs.Kept.{Keeps};
+ghost use Rattle.scad_script.specs.Departure.{Keeps};
 ghost use Rattle.cli_text.specs.Cli as outline;
 ghost use Rattle.gcode_text.specs.Gcode as program;
 ghost use Rattle.slice_work.specs.Script.{AreThere};

@@ -1,6 +1,6 @@
 //! What follows the tree of a source that is sliced.
 ghost use Rattle.std.specs.Prelude.{◌≡◌, ◌≤◌, false};
-ghost use Rattle.scad_script.specs.Played.{Completes, HasRisen};
+ghost use Rattle.scad_script.specs.Play.{Completes, HasRisen};
 ghost use Rattle.scad_script.specs.Run.{Sound};
 ghost use Rattle.scad_tree.specs.View.{solid_of};
 ghost use Rattle.slice_work.specs.declared.want.Want.TheVariants.{Outlines};

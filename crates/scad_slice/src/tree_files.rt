@@ -1,9 +1,9 @@
 //! The files of a tree.
 ghost use Rattle.std.specs.Prelude.{◌≡◌, ◌+◌, ◌≤◌, ◌<◌, IfOk, IfSome};
 ghost use Rattle.scad_script.specs.Script.{layers};
-ghost use Rattle.scad_script.specs.Played.{Carries};
+ghost use Rattle.scad_script.specs.Play.{Carries};
 ghost use Rattle.scad_script.specs.Run.{Sound};
-ghost use Rattle.scad_script.specs.Kept.{Keeps};
+ghost use Rattle.scad_script.specs.Departure.{Keeps};
 ghost use Rattle.scad_tree.specs.View.{solid_of};
 ghost use Rattle.slice_work.specs.Part.{layer_limit};
 ghost use Rattle.slice_work.specs.Script.{AreThere, layer_steps, stop_of};

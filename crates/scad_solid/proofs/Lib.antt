@@ -5,7 +5,7 @@ pub mod Faces
 pub mod Heights
 pub mod InRange
 pub mod Flow
-pub mod Wrapped
+pub mod ClosedWays
 pub mod Parts
 pub mod Segments
 pub mod Prism

@@ -14,7 +14,7 @@ use Rattle.scad_geom.specs.Point.{Point, whole}
 use Rattle.scad_geom.specs.Segment.{Segment, segments}
 use Rattle.scad_geom.specs.Winding.{turn, wind}
 use Rattle.scad_geom.proofs.Crossing.{side_of, crossing, scaled, times_point}
-use Rattle.scad_geom.proofs.Doubled.{turn_scaled}
+use Rattle.scad_geom.proofs.CommonDivisor.{turn_scaled}
 use Rattle.scad_geom.proofs.Ring.{Term, ring, var, num, plus, less, times}
 use Rattle.scad_solid.specs.declared.triangle.Triangle.{Triangle}
 use Rattle.scad_solid.specs.Cut.{is_above, is_below, point_between, cut_between, cut_of, cuts_of}

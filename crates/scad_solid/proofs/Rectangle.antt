@@ -8,7 +8,7 @@ use Rattle.scad_geom.specs.Point.{halves}
 use Rattle.scad_geom.specs.Segment.{segments}
 use Rattle.scad_geom.specs.Winding.{counted, wind}
 use Rattle.scad_geom.proofs.Crossing.{side_of, crossing, doubled_edge}
-use Rattle.scad_geom.proofs.Doubled.{wind_halves}
+use Rattle.scad_geom.proofs.CommonDivisor.{wind_halves}
 use Rattle.scad_geom.specs.Loop.{sides}
 use Rattle.scad_geom.proofs.Ring.{Term, ring, var, num, less, times}
 use Rattle.scad_solid.specs.Laws.{rectangle}

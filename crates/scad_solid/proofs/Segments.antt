@@ -5,7 +5,7 @@ use Rattle.scad_geom.specs.declared.point.Edge.{Edge}
 use Rattle.scad_geom.specs.Point.{Point}
 use Rattle.scad_geom.specs.Winding.{is_over, side_by, turn}
 use Rattle.scad_geom.proofs.Crossing.{side_of, crossing}
-use Rattle.scad_geom.proofs.Doubled.{turn_by}
+use Rattle.scad_geom.proofs.CommonDivisor.{turn_by}
 use Rattle.scad_base.proofs.Products.{positive_product}
 use Rattle.scad_geom.proofs.Ring.{ring, var, less, times}
 use Rattle.scad_solid.proofs.Parts.{gap_sign, sign_up_by}

@@ -11,7 +11,7 @@ use Rattle.scad_solid.proofs.Above.{nothing_above}
 use Rattle.scad_tree.specs.Solid.{Solid, Solids, nothing, surface, union, intersection, difference, none, member}
 use Rattle.scad_tree.specs.Member.{some_hold, all_hold}
 use Rattle.scad_tree.specs.Height.{lower_of, top_of, greatest, least, is_below_top, layers_below, layers_to}
-use Rattle.scad_tree.specs.Contained.{contained}
+use Rattle.scad_tree.specs.Containment.{contained}
 use Rattle.scad_tree.specs.Laws.{is_below, LayersHold}
 use Rattle.scad_tree.proofs.Layers.{below_count}
 

@@ -16,7 +16,7 @@ use Rattle.scad_tree.specs.Normal.{is_union, is_kept, are_kept, are_kept_apart, 
 use Rattle.scad_tree.specs.Member.{holds, some_hold, all_hold}
 use Rattle.scad_tree.specs.Order.{surfaces, all_surfaces, leaves, all_leaves}
 use Rattle.scad_tree.specs.Laws.{ShapesHold}
-use Rattle.scad_tree.specs.Numbered.{Numbered, Numbereds, blank, leaf, join, meet, minus, end, next, numbered_from, all_numbered, numbered_of, row_of, shapes_onto, numbers, all_numbers, surface_at}
+use Rattle.scad_tree.specs.LeafNumbers.{Numbered, Numbereds, blank, leaf, join, meet, minus, end, next, numbered_from, all_numbered, numbered_of, row_of, shapes_onto, numbers, all_numbers, surface_at}
 
 -- ---- rows as lists
 rows : (m : _) (r : Row_of-Shape m) → row_of r ≡ shapes_onto (items-the_row-Shape m r) end

@@ -8,9 +8,9 @@ use Rattle.scad_solid.specs.declared.triangle.Triangle.{Triangle}
 use Rattle.scad_tree.specs.Solid.{Solid}
 use Rattle.scad_tree.specs.Normal.{united, intersected, subtracted, has_triangles, is_normal}
 use Rattle.scad_tree.specs.Order.{surfaces, leaves}
-use Rattle.scad_tree.specs.Numbered.{numbered_of, numbered_from, numbers, surface_at}
+use Rattle.scad_tree.specs.LeafNumbers.{numbered_of, numbered_from, numbers, surface_at}
 use Rattle.scad_tree.specs.Height.{is_below_top, top_of, layers}
-use Rattle.scad_tree.specs.Contained.{contained_at}
+use Rattle.scad_tree.specs.Containment.{contained_at}
 use Rattle.scad_tree.specs.Member.{holds, any_holds, each_holds, has_items, first_alone_holds}
 
 -- a tree of set operations holds what the operations of its members say: the union what some member holds, the

@@ -2,7 +2,7 @@ pub mod Solid
 pub mod View
 pub mod Normal
 pub mod Member
-pub mod Contained
+pub mod Containment
 pub mod Nesting
 pub mod Height
 pub mod Order
@@ -11,5 +11,5 @@ pub mod Solids
 pub mod Sizes
 pub mod Text
 pub mod Sections
-pub mod Numbered
+pub mod LeafNumbers
 pub mod Laws

@@ -2,7 +2,7 @@
 ghost use Rattle.std.specs.Prelude.{◌≡◌, not, ◌&&◌};
 ghost use Rattle.scad_geom.specs.Half.{meant};
 ghost use Rattle.scad_solid.specs.Cut.{plane_of, contains};
-ghost use Rattle.scad_tree.specs.Contained.{contained_at};
+ghost use Rattle.scad_tree.specs.Containment.{contained_at};
 ghost use Rattle.scad_tree.specs.Member.{holds, some_hold, all_hold};
 ghost use Rattle.scad_tree.specs.Normal.{are_some};
 ghost use Rattle.scad_tree.specs.Solid.{members};

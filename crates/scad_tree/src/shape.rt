@@ -1,6 +1,6 @@
 //! The shape of a tree over numbered leaves.
 ghost use Rattle.std.specs.Prelude.{◌≡◌, ◌+◌, IfOk};
-ghost use Rattle.scad_tree.specs.Numbered.{numbered_from, all_numbered, numbered_of, shapes_onto, end};
+ghost use Rattle.scad_tree.specs.LeafNumbers.{numbered_from, all_numbered, numbered_of, shapes_onto, end};
 ghost use Rattle.scad_tree.specs.Order.{leaves, all_leaves};
 ghost use Rattle.scad_tree.specs.Solid.{members};
 ghost use Rattle.scad_tree.specs.View.{solid_of, solids};

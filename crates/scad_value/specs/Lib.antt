@@ -12,6 +12,5 @@ pub mod Operators
 pub mod Products
 pub mod Texts
 pub mod View
-
 -- What only the steps of the code promise to one another.
 pub mod Actions

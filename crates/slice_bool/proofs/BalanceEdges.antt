@@ -13,7 +13,7 @@ use Rattle.scad_geom.specs.declared.level.LeafEdge.{LeafEdge}
 use Rattle.scad_geom.specs.declared.shape.Shape.{Shape}
 use Rattle.scad_geom.specs.Balance.{IsBalanced}
 use Rattle.scad_geom.specs.Segment.{segments}
-use Rattle.scad_geom.proofs.Balanced.{once, same_place, whole_balance, same_place-is, same_place-itself}
+use Rattle.scad_geom.proofs.Balance.{once, same_place, whole_balance, same_place-is, same_place-itself}
 use Rattle.scad_geom.proofs.Leaves.{held_alike}
 use Rattle.std.specs.Prelude.{count_by, filter}
 use Rattle.std.proofs.Common.{map}

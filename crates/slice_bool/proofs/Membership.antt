@@ -27,17 +27,17 @@ use Rattle.slice_snap.specs.declared.piece.Piece.{Piece}
 use Rattle.slice_snap.specs.Spots.{point_of}
 use Rattle.slice_snap.specs.Pieces.{way_of, ways_of, wind_pieces}
 use Rattle.slice_snap.specs.Rounding.{rounded_edges}
-use Rattle.slice_snap.proofs.Balanced.{merged_balanced}
+use Rattle.slice_snap.proofs.Balance.{merged_balanced}
 use Rattle.slice_loops.proofs.Winding.{outlines_keep_winding}
 use Rattle.slice_bool.specs.Pieces.{ArePieces}
 use Rattle.slice_bool.specs.Outlines.{AreMadeOf}
 use Rattle.slice_bool.specs.Membership.{IsClearByHalf, OutlinesHoldPoints, OutlinesHoldCentres}
-use Rattle.slice_bool.proofs.Named.{pieces_are_named}
+use Rattle.slice_bool.proofs.PieceNames.{pieces_are_named}
 use Rattle.slice_bool.proofs.OnEdges.{pieces_lie_on_edges}
 use Rattle.slice_bool.proofs.BalanceLevels.{pieces_are_balanced}
 use Rattle.slice_bool.proofs.Walk.{pieces_wind}
 use Rattle.slice_bool.proofs.Centre.{centres_are_held}
-use Rattle.slice_bool.proofs.Made.{IsPlaced, placed_proper, merged_placed, merged_wind}
+use Rattle.slice_bool.proofs.PieceWinding.{IsPlaced, placed_proper, merged_placed, merged_wind}
 
 -- the pieces of a border are placed
 pub pieces_are_placed : (es : List LeafEdge) (shape : Shape) (pieces : List Piece) → ArePieces es shape pieces

@@ -39,9 +39,9 @@ use Rattle.slice_snap.specs.Cancelling.{AreCancelled}
 use Rattle.slice_bool.specs.Pieces.{ArePieces}
 use Rattle.slice_bool.specs.BorderPoints.{IsBorderPoint}
 use Rattle.slice_bool.specs.NearBorder.{HasBorderNear, OutlinesAreNearBorder}
-use Rattle.slice_bool.proofs.Named.{pieces_are_named}
+use Rattle.slice_bool.proofs.PieceNames.{pieces_are_named}
 use Rattle.slice_bool.proofs.BorderPoints.{pieces_are_border}
-use Rattle.slice_bool.proofs.Made.{IsPlaced, placed_proper, one, two, second_on, joined_placed, merged_placed}
+use Rattle.slice_bool.proofs.PieceWinding.{IsPlaced, placed_proper, one, two, second_on, joined_placed, merged_placed}
 use Rattle.slice_bool.proofs.Membership.{pieces_are_placed}
 use Rattle.slice_bool.proofs.Sides.{OfPoints, OfAllPoints, outlines_have}
 

@@ -39,7 +39,7 @@ use Rattle.slice_bool.proofs.Middle.{size_of, half_point}
 use Rattle.slice_bool.proofs.Winding.{IsSpotAt, stops_at}
 use Rattle.slice_bool.proofs.Within.{by_weights, weights_add}
 use Rattle.slice_bool.proofs.Walk.{UpTo, at_first, at_next, neighbours_next}
-use Rattle.slice_bool.proofs.Named.{found}
+use Rattle.slice_bool.proofs.PieceNames.{found}
 use Rattle.scad_base.proofs.Tests.{int_eq-true, int_le-true}
 
 -- a spot stands for a point of an edge

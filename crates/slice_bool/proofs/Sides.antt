@@ -21,7 +21,7 @@ use Rattle.slice_loops.specs.Corners.{bend, advance, is_between, last, corners_b
 use Rattle.slice_loops.specs.Outlines.{outlines_of, AreOutlines}
 use Rattle.slice_loops.proofs.Straight.{IsAhead, ahead_itself, ahead_on, still_between, straight}
 use Rattle.slice_loops.proofs.Least.{IsAtLeast, least_is_corner, loop_at_least, itself_at_least, last_at_least}
-use Rattle.slice_loops.proofs.Rearranged.{sides_are_edges}
+use Rattle.slice_loops.proofs.LoopSides.{sides_are_edges}
 use Rattle.scad_base.proofs.Integers.{both_positive}
 
 -- ---- a vertex between its neighbours is a point of the way from one to the other

@@ -22,7 +22,7 @@ use Rattle.slice_snap.specs.Spots.{point_of}
 use Rattle.slice_bool.specs.declared.beside.Valued.{Valued}
 use Rattle.slice_bool.specs.Beside.{AreLeftValues, RisesFirst, passing, is_right_of}
 use Rattle.slice_bool.specs.BothSides.{TellBeside, IsSide}
-use Rattle.slice_bool.proofs.Bundled.{left_is, rises_first, first_value, outside_right}
+use Rattle.slice_bool.proofs.BundleValues.{left_is, rises_first, first_value, outside_right}
 use Rattle.slice_bool.proofs.Middle.{scaled, lower_scaled, at_most_scaled, scaled_below, scaled_at_most}
 use Rattle.slice_bool.proofs.Passing.{Around}
 use Rattle.slice_bool.proofs.Values.{is_in_passing}

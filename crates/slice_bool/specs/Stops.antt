@@ -1,7 +1,7 @@
 -- The stops of a level, in the order of the code: by x, each place once.
 use Rattle.std.specs.Prelude.{Bool, List, [], ◌∷◌, map, ⊤}
 use Rattle.scad_geom.specs.Level.{IsAtMost}
-use Rattle.slice_events.specs.Collected.{is_lower}
+use Rattle.slice_events.specs.Collection.{is_lower}
 use Rattle.slice_snap.specs.declared.piece.Spot.{Spot}
 use Rattle.slice_bool.specs.declared.stop.Stop.{Stop}
 use Rattle.slice_bool.specs.Pieces.{across}

@@ -2,12 +2,12 @@
 ghost use Rattle.slice_bool.specs.Laws.{PiecesWindOnce};
 ghost use Rattle.slice_bool.specs.Ends.{HeightsHaveOneLevel};
 ghost use Rattle.slice_bool.specs.Within.{SpotsAreWithin};
-ghost use Rattle.slice_bool.specs.Named.{PiecesAreNamed};
+ghost use Rattle.slice_bool.specs.PieceNames.{PiecesAreNamed};
 ghost use Rattle.slice_bool.specs.OnEdges.{PiecesLieOnEdges};
 ghost use Rattle.slice_bool.specs.Balance.{BordersAreBalanced};
-ghost use Rattle.slice_bool.specs.Covered.{StretchesAreCovered};
+ghost use Rattle.slice_bool.specs.Cover.{StretchesAreCovered};
 ghost use Rattle.slice_bool.specs.BorderPoints.{PiecesAreBorder};
-ghost use Rattle.slice_bool.specs.OneMade.{MadeAreOne};
+ghost use Rattle.slice_bool.specs.NothingOpen.{MadeAreOne};
 ghost use Rattle.slice_bool.specs.Membership.{OutlinesHoldPoints, OutlinesHoldCentres};
 ghost use Rattle.slice_bool.specs.NearBorder.{OutlinesAreNearBorder};
 ghost use Rattle.slice_bool.specs.Centre.{CentresAreWoundOnce, CentresAreHeld};

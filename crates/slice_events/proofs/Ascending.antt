@@ -17,8 +17,8 @@ use Rattle.scad_geom.specs.Heights.{meetings, heights}
 use Rattle.scad_geom.proofs.Heights.{at_most_chain, lower_then_at_most, heights_positive}
 use Rattle.slice_events.specs.declared.height.Height.{Height}
 use Rattle.slice_events.specs.Levels.{IsRising, HasHeight, AreLevels}
-use Rattle.slice_events.specs.Collected.{levels_in, is_lower, IsClimbing, end_levels}
-use Rattle.slice_events.specs.Found.{AreOtherHeights}
+use Rattle.slice_events.specs.Collection.{levels_in, is_lower, IsClimbing, end_levels}
+use Rattle.slice_events.specs.AllPairs.{AreOtherHeights}
 use Rattle.slice_events.specs.Distinct.{distinct_by}
 use Rattle.slice_events.proofs.Repeats.{distinct_all}
 

@@ -12,12 +12,12 @@ use Rattle.scad_geom.specs.Line.{low, high, rise, run, offset, x_at, left_of, le
 use Rattle.scad_geom.specs.Level.{level_of, IsSameHeight}
 use Rattle.scad_geom.specs.Sign.{is_zero}
 use Rattle.scad_geom.specs.Meeting.{meets, meeting}
-use Rattle.scad_geom.proofs.Balanced.{same_whole, same_place-is}
+use Rattle.scad_geom.proofs.Balance.{same_whole, same_place-is}
 use Rattle.scad_geom.proofs.Ring.{ring, num, ◌⊕◌, ◌⊖◌, ◌⊗◌, v0, v1, v2, v3, v4, v5, v6, v7}
 use Rattle.scad_geom.proofs.Integers.{neg_mul}
 use Rattle.scad_geom.proofs.Signs.{zero_true}
 use Rattle.slice_events.specs.Levels.{share_end, crosses}
-use Rattle.slice_events.specs.Kept.{is_beside, is_rising, are_ends_beside, is_kept}
+use Rattle.slice_events.specs.KeptHeights.{is_beside, is_rising, are_ends_beside, is_kept}
 
 -- ---- the gap of two lines at the height of a point, by where the point lies to them
 gap_at : (u c r v b s x y : ℤ) → (u *ℤ s -ℤ v *ℤ r) *ℤ y +ℤ (c *ℤ s -ℤ b *ℤ r)

@@ -11,7 +11,7 @@ use Rattle.scad_geom.specs.Within.{IsEdgeWithin}
 use Rattle.scad_geom.specs.declared.level.Level.{Level}
 use Rattle.scad_geom.specs.declared.level.LeafEdge.{LeafEdge}
 use Rattle.scad_geom.specs.Level.{level_of}
-use Rattle.slice_events.specs.Collected.{end_ys, end_levels}
+use Rattle.slice_events.specs.Collection.{end_ys, end_levels}
 
 of_ys : (es : List LeafEdge) → map level_of (end_ys es) ≡ end_levels es
 of_ys [] = refl

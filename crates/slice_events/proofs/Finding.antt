@@ -18,8 +18,8 @@ use Rattle.slice_events.specs.Boxes.{left_end}
 use Rattle.slice_events.specs.Lines.{edges_in, edges_of_leaves}
 use Rattle.slice_events.specs.Stays.{bucket_of, later_stays, stays_of, all_stays, edge_at, IsStayOf}
 use Rattle.slice_events.specs.Yields.{yield_among, HasRoom, HasYielded}
-use Rattle.slice_events.specs.Found.{IsEmpty, IsFoundOf}
-use Rattle.slice_events.proofs.AllFound.{has_room, all_found}
+use Rattle.slice_events.specs.AllPairs.{IsEmpty, IsFoundOf}
+use Rattle.slice_events.proofs.AllPairs.{has_room, all_found}
 
 -- ---- each stay names its edge
 there : (es fs : List Edge) (e : Edge) (i : ℕ) → drop i es ≡ e ∷ fs

@@ -13,7 +13,7 @@ use Rattle.scad_geom.specs.Limits.{coordinate_limit}
 use Rattle.scad_geom.specs.Within.{IsEdgeWithin}
 use Rattle.scad_geom.specs.declared.point.Edge.{Edge}
 use Rattle.scad_geom.specs.Line.{low, high, rise}
-use Rattle.scad_geom.proofs.Balanced.{once}
+use Rattle.scad_geom.proofs.Balance.{once}
 use Rattle.scad_geom.proofs.Bounds.{low_within, high_within, rise_at_least}
 use Rattle.slice_events.specs.declared.stay.Stay.{Stay}
 use Rattle.slice_events.specs.Boxes.{left_end, right_end, boxes_meet}

@@ -1,4 +1,4 @@
-pub mod Turned
+pub mod TestOrder
 pub mod Steps
 pub mod Repeats
 pub mod Pairs
@@ -9,7 +9,7 @@ pub mod AtEnds
 pub mod Early
 pub mod Homes
 pub mod Stays
-pub mod AllFound
+pub mod AllPairs
 pub mod Finding
 pub mod EndHeights
 pub mod Ascending

@@ -6,12 +6,12 @@ use Rattle.std.proofs.lemmas.List.{append-nil, at_drop_more}
 use Rattle.std.proofs.lemmas.Bool.{true≢false}
 use Rattle.scad_geom.specs.declared.point.Edge.{Edge}
 use Rattle.scad_geom.specs.declared.level.Level.{Level}
-use Rattle.scad_geom.proofs.Balanced.{once}
+use Rattle.scad_geom.proofs.Balance.{once}
 use Rattle.slice_events.specs.declared.stay.Stay.{Stay}
 use Rattle.slice_events.specs.declared.found.Found.{Found}
 use Rattle.slice_events.specs.Limits.{crossing_limit}
 use Rattle.slice_events.specs.Boxes.{boxes_meet}
-use Rattle.slice_events.specs.Collected.{levels_in}
+use Rattle.slice_events.specs.Collection.{levels_in}
 use Rattle.slice_events.specs.Stays.{at_home, edge_at, are_at_home}
 use Rattle.slice_events.specs.Pairs.{pairs}
 use Rattle.slice_events.specs.Yields.{Yield, nothing, and_then, yield_of, yield_at, yield_with, yield_of_first, yield_among, HasRoom, HasYielded, IsLeft}

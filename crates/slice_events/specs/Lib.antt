@@ -4,14 +4,13 @@ pub mod Levels
 pub mod Refusal
 pub mod Common
 pub mod Boxes
-
 -- What only the steps of the code promise to one another.
 pub mod Distinct
-pub mod Collected
+pub mod Collection
 pub mod Reading
 pub mod Lines
-pub mod Kept
+pub mod KeptHeights
 pub mod Stays
 pub mod Pairs
 pub mod Yields
-pub mod Found
+pub mod AllPairs

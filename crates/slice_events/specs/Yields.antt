@@ -7,9 +7,9 @@ use Rattle.slice_events.specs.declared.stay.Stay.{Stay}
 use Rattle.slice_events.specs.declared.found.Found.{Found}
 use Rattle.slice_events.specs.Limits.{crossing_limit}
 use Rattle.slice_events.specs.Levels.{crosses}
-use Rattle.slice_events.specs.Kept.{is_kept}
+use Rattle.slice_events.specs.KeptHeights.{is_kept}
 use Rattle.slice_events.specs.Boxes.{boxes_meet}
-use Rattle.slice_events.specs.Collected.{levels_in}
+use Rattle.slice_events.specs.Collection.{levels_in}
 use Rattle.slice_events.specs.Stays.{edge_at, at_home}
 
 pub record Yield : Type 0 where

@@ -3,7 +3,7 @@ ghost use Rattle.std.specs.Prelude.{◌≡◌, ◌<◌, length, OnOk, IfOk, All}
 ghost use Rattle.std.specs.List.Sorted.{IsPermutation};
 ghost use Rattle.scad_geom.specs.Limits.{coordinate_limit};
 ghost use Rattle.scad_geom.specs.Level.{IsLevelWithin};
-ghost use Rattle.slice_events.specs.Collected.{levels_in, is_lower, IsClimbing};
+ghost use Rattle.slice_events.specs.Collection.{levels_in, is_lower, IsClimbing};
 ghost use Rattle.slice_events.specs.Distinct.{distinct_by, stays_by};
 
 use crate::height::Height;

@@ -4,7 +4,7 @@ ghost use Rattle.std.specs.List.Sorted.{IsPermutation};
 ghost use Rattle.scad_geom.specs.Limits.{coordinate_limit};
 ghost use Rattle.scad_geom.specs.Within.{IsEdgeWithin};
 ghost use Rattle.scad_geom.specs.Level.{level_of};
-ghost use Rattle.slice_events.specs.Collected.{levels_in, end_ys, end_levels};
+ghost use Rattle.slice_events.specs.Collection.{levels_in, end_ys, end_levels};
 
 use crate::height::Height;
 use scad_geom::{LeafEdge, Level};

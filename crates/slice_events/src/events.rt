@@ -7,8 +7,8 @@ ghost use Rattle.slice_events.specs.Limits.{crossing_limit};
 ghost use Rattle.slice_events.specs.Levels.{crossings, AreLevels};
 ghost use Rattle.slice_events.specs.Refusal.{IsCrossings, IsAfterAll};
 ghost use Rattle.slice_events.specs.Boxes.{comparisons, raised};
-ghost use Rattle.slice_events.specs.Collected.{levels_in};
-ghost use Rattle.slice_events.specs.Found.{IsEmpty, IsFoundOf, AreOtherHeights};
+ghost use Rattle.slice_events.specs.Collection.{levels_in};
+ghost use Rattle.slice_events.specs.AllPairs.{IsEmpty, IsFoundOf, AreOtherHeights};
 
 use crate::buckets::compare_all;
 use crate::distinct::{distinct, sort};

@@ -8,7 +8,7 @@ ghost use Rattle.scad_geom.specs.Meeting.{straddles, meets, meeting};
 ghost use Rattle.scad_geom.specs.Level.{IsLevelWithin};
 ghost use Rattle.scad_geom.specs.Point.{whole, is_same_point};
 ghost use Rattle.slice_events.specs.Levels.{share_end, crosses};
-ghost use Rattle.slice_events.specs.Kept.{is_beside, is_rising, are_ends_beside, is_kept};
+ghost use Rattle.slice_events.specs.KeptHeights.{is_beside, is_rising, are_ends_beside, is_kept};
 
 use crate::line::Line;
 use scad_geom::{Edge, Level, Pt};
@@ -26,7 +26,7 @@ fn share_end(e: &Edge, f: &Edge) -> bool
     (are_same(e.a, f.a) || are_same(e.a, f.b)) || (are_same(e.b, f.a) || are_same(e.b, f.b))
 }
 
-#[tactic(auto, using(scad_geom::proofs::Balanced::same_whole))]
+#[tactic(auto, using(scad_geom::proofs::Balance::same_whole))]
 fn are_same(p: Pt, q: Pt) -> bool
     ensures { result ≡ is_same_point (whole p) (whole q) }
 {
@@ -34,7 +34,7 @@ fn are_same(p: Pt, q: Pt) -> bool
 }
 
 // Whether two edges that aren't parallel have a common point. Few pairs are parallel, so that is asked last.
-#[tactic(auto, using(crate::proofs::Turned::both_then_third), unfolding(scad_geom::specs::Meeting::meets))]
+#[tactic(auto, using(crate::proofs::TestOrder::both_then_third), unfolding(scad_geom::specs::Meeting::meets))]
 fn meets(e: &Line, f: &Line) -> bool
     ensures { result ≡ meets e.now.edge f.now.edge }
 {
@@ -62,21 +62,21 @@ fn are_apart(s: i64, t: i64) -> bool
 }
 
 /// Whether two edges cross at a height that isn't one of an end.
-#[tactic(auto, unfolding(crate::specs::Kept::is_kept))]
+#[tactic(auto, unfolding(crate::specs::KeptHeights::is_kept))]
 pub(crate) fn is_kept(e: &Line, f: &Line) -> bool
     ensures { result ≡ is_kept e.now.edge f.now.edge }
 {
     crosses(e, f) && ((is_rising(e) && is_rising(f)) && are_ends_beside(e, f))
 }
 
-#[tactic(auto, unfolding(crate::specs::Kept::are_ends_beside))]
+#[tactic(auto, unfolding(crate::specs::KeptHeights::are_ends_beside))]
 fn are_ends_beside(e: &Line, f: &Line) -> bool
     ensures { result ≡ are_ends_beside e.now.edge f.now.edge }
 {
     (is_beside(e, f.low) && is_beside(e, f.high)) && (is_beside(f, e.low) && is_beside(f, e.high))
 }
 
-#[tactic(auto, using(scad_geom::proofs::Casts::casts), unfolding(crate::specs::Kept::is_beside))]
+#[tactic(auto, using(scad_geom::proofs::Casts::casts), unfolding(crate::specs::KeptHeights::is_beside))]
 fn is_beside(e: &Line, p: Pt) -> bool
     requires { IsWithin coordinate_limit p }
     ensures { result ≡ is_beside e.now.edge p }
@@ -84,7 +84,7 @@ fn is_beside(e: &Line, p: Pt) -> bool
     e.left_of(p) != 0
 }
 
-#[tactic(auto, using(scad_geom::proofs::Casts::casts), unfolding(crate::specs::Kept::is_rising))]
+#[tactic(auto, using(scad_geom::proofs::Casts::casts), unfolding(crate::specs::KeptHeights::is_rising))]
 fn is_rising(e: &Line) -> bool
     ensures { result ≡ is_rising e.now.edge }
 {

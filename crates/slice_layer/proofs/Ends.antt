@@ -19,8 +19,8 @@ use Rattle.scad_solid.specs.Cut.{falls, rises, is_above, is_below, weighted, poi
 use Rattle.winding_laws.specs.Nearness.{IsProper}
 use Rattle.slice_section.specs.Section.{nearest_point, rounded}
 use Rattle.slice_section.specs.Through.{IsThrough}
-use Rattle.slice_section.proofs.Found.{falls_through_if, rises_through_if}
-use Rattle.slice_section.proofs.Weighted.{weighted_range}
+use Rattle.slice_section.proofs.SideCuts.{falls_through_if, rises_through_if}
+use Rattle.slice_section.proofs.WeightedMean.{weighted_range}
 
 -- ---- they are points
 -- what is found passes the test

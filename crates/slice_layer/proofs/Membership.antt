@@ -22,16 +22,16 @@ use Rattle.winding_laws.proofs.Lengths.{lengths_keep_winding}
 use Rattle.slice_section.specs.Section.{rounded, section_of}
 use Rattle.scad_tree.specs.Solid.{Solid}
 use Rattle.scad_tree.specs.Order.{surfaces}
-use Rattle.scad_tree.specs.Numbered.{surface_at}
+use Rattle.scad_tree.specs.LeafNumbers.{surface_at}
 use Rattle.scad_tree.specs.Sections.{tree_section}
-use Rattle.scad_tree.specs.Contained.{contained_at}
+use Rattle.scad_tree.specs.Containment.{contained_at}
 use Rattle.slice_bool.specs.Membership.{IsClearByHalf}
 use Rattle.slice_bool.proofs.Membership as border
 use Rattle.scad_tree.specs.Solids.{AreClosed}
 use Rattle.slice_layer.specs.Outlines.{StandsFor}
 use Rattle.slice_layer.specs.Cuts.{cuts_at, IsClearOfCuts}
 use Rattle.slice_layer.specs.Laws.{OutlinesHoldPoints, OutlinesHoldCentres}
-use Rattle.slice_section.proofs.Marked.{cuts_balanced}
+use Rattle.slice_section.proofs.CutBalance.{cuts_balanced}
 use Rattle.slice_layer.proofs.Sections.{leaf_edges, surface_closed, leaves_balanced, sections_have}
 use Rattle.slice_layer.proofs.Clear.{IsClearCut, IsClearEdge, cuts_clear, edges_clear}
 

@@ -13,10 +13,10 @@ use Rattle.scad_solid.specs.declared.triangle.Triangle.{Triangle}
 use Rattle.scad_solid.specs.Surface.{is_closed}
 use Rattle.scad_solid.specs.Cut.{cuts_of, plane_of}
 use Rattle.slice_section.specs.Section.{rounded, has_length, section_of}
-use Rattle.slice_section.proofs.Balanced.{IsBalanced-section_of}
+use Rattle.slice_section.proofs.Balance.{IsBalanced-section_of}
 use Rattle.scad_tree.specs.Solid.{Solid}
 use Rattle.scad_tree.specs.Order.{surfaces}
-use Rattle.scad_tree.specs.Numbered.{surface_at}
+use Rattle.scad_tree.specs.LeafNumbers.{surface_at}
 use Rattle.scad_geom.proofs.LeafEdges.{edges_of-append}
 use Rattle.scad_tree.proofs.LeafSections.{of_leaf}
 use Rattle.scad_tree.specs.Sections.{leaf_edge, leaf_section, sections_from, tree_section}

@@ -32,7 +32,7 @@ use Rattle.slice_snap.specs.Pieces.{way_of, ways_of}
 use Rattle.slice_snap.specs.Cancelling.{AreCancelled}
 use Rattle.slice_snap.specs.Rounding.{rounded_edges}
 use Rattle.slice_bool.specs.Outlines.{AreOutlinesOf}
-use Rattle.slice_bool.proofs.Made.{IsPlaced, placed_proper, merged_placed}
+use Rattle.slice_bool.proofs.PieceWinding.{IsPlaced, placed_proper, merged_placed}
 use Rattle.slice_bool.proofs.Membership.{pieces_are_placed}
 use Rattle.slice_bool.proofs.Sides.{OfPoints, OfAllPoints, outlines_have}
 use Rattle.scad_tree.specs.Sections.{tree_section}

@@ -7,7 +7,7 @@ use Rattle.scad_geom.specs.Segment.{segments}
 use Rattle.scad_geom.specs.Winding.{wind, counted}
 use Rattle.scad_geom.specs.Loop.{sides}
 use Rattle.scad_tree.specs.Solid.{Solid}
-use Rattle.scad_tree.specs.Contained.{contained_at}
+use Rattle.scad_tree.specs.Containment.{contained_at}
 use Rattle.slice_layer.specs.Cuts.{IsClearOfCuts}
 
 -- outlines wind once round a point that the tree contains at the layer, and not at all round one that it doesn't

@@ -6,7 +6,7 @@ use Rattle.scad_geom.specs.Shape.{shape_holds}
 use Rattle.scad_solid.specs.declared.triangle.Triangle.{Triangle}
 use Rattle.scad_tree.specs.Solid.{Solid}
 use Rattle.scad_tree.specs.Order.{surfaces}
-use Rattle.scad_tree.specs.Numbered.{surface_at}
+use Rattle.scad_tree.specs.LeafNumbers.{surface_at}
 use Rattle.scad_tree.specs.Member.{holds}
 use Rattle.scad_tree.specs.Sections.{tree_section}
 use Rattle.slice_bool.specs.Outlines.{AreOutlinesOf}

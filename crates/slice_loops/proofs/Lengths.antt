@@ -21,7 +21,7 @@ use Rattle.slice_loops.specs.Outlines.{outlines_of}
 use Rattle.slice_loops.specs.Lengths.{HasLength, SidesHaveLengths}
 use Rattle.slice_loops.proofs.Straight.{IsAhead, ahead_itself, ahead_on, still_between, straight}
 use Rattle.slice_loops.proofs.Least.{IsAtLeast, least_is_corner, loop_at_least, last_at_least}
-use Rattle.slice_loops.proofs.Rearranged.{sides_are_edges}
+use Rattle.slice_loops.proofs.LoopSides.{sides_are_edges}
 
 -- ---- ends that differ
 -- to the point itself nothing advances

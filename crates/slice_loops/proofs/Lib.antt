@@ -1,10 +1,10 @@
 pub mod Points
-pub mod Taken
-pub mod Found
-pub mod Closed
+pub mod Marks
+pub mod LeastEdge
+pub mod LoopClosure
 pub mod Ways
-pub mod Joined
-pub mod Rearranged
+pub mod LoopByLoop
+pub mod LoopSides
 pub mod Unique
 pub mod Straight
 pub mod Parts

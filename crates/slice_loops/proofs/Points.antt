@@ -6,7 +6,7 @@ use Rattle.std.proofs.lemmas.List.Sorted.{ranks_by}
 use Rattle.std.proofs.lemmas.Bool.{not-false, false_from_ne_true}
 use Rattle.scad_geom.specs.declared.point.Pt.{Pt}
 use Rattle.scad_geom.specs.declared.point.Edge.{Edge}
-use Rattle.scad_geom.proofs.Balanced.{same_place, same_place-is, same_place-itself}
+use Rattle.scad_geom.proofs.Balance.{same_place, same_place-is, same_place-itself}
 use Rattle.slice_loops.specs.Order.{point_cmp, edge_cmp, is_less}
 
 pub differ : (p q : Pt) → (p ≡ q → ⊥) → same_place p q ≡ false

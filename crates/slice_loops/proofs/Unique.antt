@@ -11,7 +11,7 @@ use Rattle.std.proofs.lemmas.List.Sorted.{sum_by-IsPermutation}
 use Rattle.std.specs.Cmp.{IsTotalOrder, tied_itself}
 use Rattle.scad_geom.specs.declared.point.Pt.{Pt}
 use Rattle.scad_geom.specs.declared.point.Edge.{Edge}
-use Rattle.scad_geom.proofs.Balanced.{once}
+use Rattle.scad_geom.proofs.Balance.{once}
 use Rattle.scad_geom.proofs.Places.{same_edge, same_edge_then_equal, same_edge_itself}
 use Rattle.slice_loops.specs.Order.{point_cmp, edge_cmp, is_less}
 use Rattle.slice_loops.specs.Drawing.{TakesLeastFrom, LeadsBack, IsLoop, AreDrawn}

@@ -19,7 +19,7 @@ use Rattle.slice_loops.proofs.Straight.{IsAhead, ahead_itself, ahead_on, still_b
 use Rattle.slice_loops.proofs.Parts.{parts_turn, opposites_cancel}
 use Rattle.slice_loops.proofs.Least.{IsAtLeast, least_is_corner, loop_at_least, itself_at_least, last_at_least}
 use Rattle.scad_geom.proofs.Sums.{sum_z, sum_z-permutation}
-use Rattle.slice_loops.proofs.Rearranged.{sides_are_edges}
+use Rattle.slice_loops.proofs.LoopSides.{sides_are_edges}
 use Rattle.std.proofs.Math.IntN.{+ℤ_idr}
 
 module _ (above right : Bool) (q : Point) where

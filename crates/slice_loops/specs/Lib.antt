@@ -5,7 +5,6 @@ pub mod Corners
 pub mod Outlines
 pub mod Laws
 pub mod Lengths
-
 -- What only the steps of the code promise to one another.
 pub mod Ascending
 pub mod Remaining

@@ -3,7 +3,7 @@ ghost use Rattle.slice_loops.specs.Laws.{SidesAreEdges, LoopsAreOne, OutlinesAre
 ghost use Rattle.slice_loops.specs.Lengths.{SidesHaveLengths};
 
 /// The sides of the loops that are drawn from edges are these edges in another order.
-#[tactic(auto, using(crate::proofs::Rearranged::sides_are_edges))]
+#[tactic(auto, using(crate::proofs::LoopSides::sides_are_edges))]
 pub fn sides_are_edges()
     ensures { SidesAreEdges }
 {}

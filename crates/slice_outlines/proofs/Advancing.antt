@@ -29,7 +29,7 @@ use Rattle.slice_snap.specs.Rounding.{rounded_edges}
 use Rattle.slice_bool.specs.Pieces.{whole_spot, passes_at, is_flat_at, spots_at, GoRight, HasSpot, IsOneOf}
 use Rattle.slice_bool.specs.Beside.{left_value, passing}
 use Rattle.slice_bool.specs.Tally.{headings, is_held}
-use Rattle.slice_bool.proofs.Bundled.{are_members}
+use Rattle.slice_bool.proofs.BundleValues.{are_members}
 use Rattle.slice_sweep.specs.declared.change.Change.{Change}
 use Rattle.slice_sweep.specs.Changes.{Group, Tell, all_below, all_above, AreChanges}
 use Rattle.slice_sweep.specs.Front.{bundles_in, IsReadyFor, IsBegunTo}
@@ -68,7 +68,7 @@ use Rattle.slice_outlines.specs.Level.{AreFlatsOn, IsAtLevel, IsValuedAt, AreSpo
 use Rattle.slice_outlines.specs.Sweep.{HasSwept, IsFrontBelow, ArePassedBelow}
 use Rattle.slice_outlines.proofs.Beginning.{all_above_first}
 use Rattle.slice_outlines.proofs.Placing.{AreNamed, zip_append}
-use Rattle.slice_outlines.proofs.GroupsMet.{HeadPasses}
+use Rattle.slice_outlines.proofs.GroupHeights.{HeadPasses}
 use Rattle.slice_outlines.proofs.LevelAhead.{zip_front}
 use Rattle.slice_outlines.proofs.Grouping.{value_end}
 use Rattle.slice_outlines.proofs.Fitting.{named_size}

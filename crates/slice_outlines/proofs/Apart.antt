@@ -27,7 +27,7 @@ use Rattle.slice_outlines.specs.Ahead.{first_spot, group_spots, IsSameSpot}
 use Rattle.slice_outlines.proofs.EndPoints.{passes_then_rises, passes_there}
 use Rattle.slice_outlines.proofs.Placing.{AreNamed, all_append}
 use Rattle.slice_outlines.proofs.LevelAhead.{IsMet, mark_spot}
-use Rattle.slice_outlines.proofs.GroupsMet.{HeadPasses, groups_met}
+use Rattle.slice_outlines.proofs.GroupHeights.{HeadPasses, groups_met}
 use Rattle.slice_outlines.proofs.Across.{IsClosed, left_chain, weakly, same_not_right, same_then_left, closed_right}
 
 -- ---- lists of groups

@@ -8,7 +8,7 @@ use Rattle.slice_outlines.specs.declared.run.Run.{Run}
 use Rattle.slice_outlines.specs.declared.groups.Passed.{Passed}
 use Rattle.slice_outlines.specs.Runs.{first, after, run_of}
 use Rattle.slice_outlines.specs.Heights.{IsCountOf}
-use Rattle.slice_outlines.specs.Reached.{CanCount}
+use Rattle.slice_outlines.specs.Arrival.{CanCount}
 use Rattle.slice_outlines.proofs.Taking.{no_change}
 
 -- ---- past a change

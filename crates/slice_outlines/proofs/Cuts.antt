@@ -40,7 +40,7 @@ use Rattle.slice_outlines.specs.Level.{HasNumber, AreFlatsOn, IsValuedAt}
 use Rattle.slice_outlines.proofs.EndPoints.{passes_then_rises, passes_there}
 use Rattle.slice_outlines.proofs.Placing.{AreNamed, all_append}
 use Rattle.slice_outlines.proofs.LevelAhead.{mark_spot}
-use Rattle.slice_outlines.proofs.GroupsMet.{HeadPasses}
+use Rattle.slice_outlines.proofs.GroupHeights.{HeadPasses}
 use Rattle.slice_outlines.proofs.Balancing.{balanced_by, IsFirstRight, right_part}
 use Rattle.slice_outlines.proofs.Sought.{by_places, scaled_order}
 use Rattle.slice_outlines.proofs.WayCovers.{flat_rise, grouped, by_spot, past_spot}

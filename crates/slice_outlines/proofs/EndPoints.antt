@@ -19,7 +19,7 @@ use Rattle.scad_geom.specs.Within.{IsEdgeWithin}
 use Rattle.scad_geom.specs.Level.{IsLevelWithin}
 use Rattle.scad_geom.specs.Line.{low, high, rise, run, offset, x_at}
 use Rattle.scad_geom.specs.Rounding.{half_down, IsNearest}
-use Rattle.scad_geom.proofs.Balanced.{same_whole, same_place-is}
+use Rattle.scad_geom.proofs.Balance.{same_whole, same_place-is}
 use Rattle.scad_geom.proofs.Bounds.{low_within, high_within}
 use Rattle.scad_geom.proofs.Nearest.{IsNearest-half_down}
 use Rattle.scad_geom.proofs.Ring.{ring, num, ◌⊕◌, ◌⊖◌, ◌⊗◌, v0, v1, v2, v3, v4}

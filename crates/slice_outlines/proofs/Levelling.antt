@@ -29,7 +29,7 @@ use Rattle.slice_outlines.specs.Ahead.{group_spots, between, AreBetween, AreStra
 use Rattle.slice_outlines.specs.Level.{AreFlatsOn, IsAtLevel, IsValuedAt, AreSpotsOf}
 use Rattle.slice_outlines.proofs.Placing.{AreNamed, all_append}
 use Rattle.slice_outlines.proofs.LevelAhead.{ahead_by, between_by, IsAhead}
-use Rattle.slice_outlines.proofs.GroupsMet.{heads_pass}
+use Rattle.slice_outlines.proofs.GroupHeights.{heads_pass}
 use Rattle.slice_outlines.proofs.Fitting.{named_past, named_size}
 use Rattle.slice_outlines.proofs.Across.{weakly, by_chain, by_then_left, left_then_by}
 use Rattle.slice_outlines.proofs.Apart.{IsPlaced, AreApart, at_group, groups_placed, groups_apart, are_met, below-append, above-append, groups_go_right, groups_sound}

@@ -1,5 +1,5 @@
 mod Parts
-mod Begun
+mod StrandStarts
 mod Ending
 mod EndPoints
 mod Tallying
@@ -19,13 +19,13 @@ mod Waiting
 mod LevelSteps
 mod Grouping
 mod WayCovers
-mod Stretched
+mod StretchStops
 mod Beginning
 mod Steady
 mod Counting
 mod Passage
 mod LevelAhead
-mod GroupsMet
+mod GroupHeights
 mod Balancing
 mod Fitting
 mod Climbing
@@ -40,4 +40,4 @@ mod LevelEnds
 mod Asides
 mod FlatsOn
 mod Advancing
-mod Ended
+mod SweepEnd

@@ -32,7 +32,7 @@ use Rattle.slice_snap.specs.Spots.{point_of}
 use Rattle.slice_outlines.specs.Marks.{mark_at, no_mark, spot_at, names_in, left_of_first, IsNamed, IsKept, AreKept}
 use Rattle.slice_outlines.specs.Heights.{Onwards, IsRunOf, IsBalancedBefore, AreValuedIn, AreValuedTo, MeetAt, MeetAcross, IsGroupAt, IsCountOf, IsOf, marks_of}
 use Rattle.slice_outlines.specs.Along.{value_over, LeadTo, HasComeOver}
-use Rattle.slice_outlines.specs.Reached.{HasReached}
+use Rattle.slice_outlines.specs.Arrival.{HasReached}
 use Rattle.slice_outlines.specs.Stretch.{HasReachedStops}
 use Rattle.slice_outlines.specs.Ahead.{IsSameSpot, AreMarksAt, LieAhead, IsBehind, AreBetween, between, HasComeTo, AreBalancedFrom, AreStrandsAhead, KeepsRight, HasPassed, AreSkipped, first_spot, group_spots}
 use Rattle.slice_outlines.specs.Ahead.LieAhead.{none as no_more, stays as one_stays, changes as one_changes}

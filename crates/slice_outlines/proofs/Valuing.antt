@@ -5,7 +5,7 @@ use Rattle.std.proofs.lemmas.List.{length-set, take-set-le, drop-set-lt}
 use Rattle.slice_outlines.specs.declared.mark.Mark.{Mark}
 use Rattle.slice_outlines.specs.declared.run.Run.{Run}
 use Rattle.slice_outlines.specs.Marks.{mark_at}
-use Rattle.slice_outlines.specs.Valued.{valued}
+use Rattle.slice_outlines.specs.MarkValue.{valued}
 use Rattle.slice_outlines.specs.Heights.{KeepsMarks}
 
 -- ---- one value

@@ -12,10 +12,10 @@ pub mod Cursors
 pub mod Flats
 pub mod Stops
 pub mod Heights
-pub mod Valued
+pub mod MarkValue
 pub mod Along
 pub mod Stretch
-pub mod Reached
+pub mod Arrival
 pub mod Ahead
 pub mod Sweep
 pub mod Level

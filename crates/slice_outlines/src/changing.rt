@@ -4,7 +4,7 @@ ghost use Rattle.scad_geom.specs.declared.shape.Shape.{Shape};
 ghost use Rattle.slice_sweep.specs.Front.{bundles_in};
 ghost use Rattle.slice_bool.specs.Beside.{AreMembers, left_value};
 ghost use Rattle.slice_outlines.specs.Cursors.{StandOn, StandForSome, StayOn};
-ghost use Rattle.slice_outlines.specs.Valued.{valued};
+ghost use Rattle.slice_outlines.specs.MarkValue.{valued};
 ghost use Rattle.slice_outlines.specs.Heights.{IsRunOf, IsBalancedBefore, AreValuedIn, KeepsMarks};
 
 use crate::height::{Height, Open};

@@ -11,7 +11,7 @@ ghost use Rattle.slice_outlines.specs.Stops.{AllPass};
 ghost use Rattle.slice_outlines.specs.Cursors.{StandOn, StandForSome, StayOn};
 ghost use Rattle.slice_outlines.specs.Heights.{Onwards, IsOf, IsBalancedBefore, IsGroupAt, IsNameOf, MeetAt, MeetAcross, IsCountOf};
 ghost use Rattle.slice_outlines.specs.Along.{HasComeOver};
-ghost use Rattle.slice_outlines.specs.Reached.{HasReached, CanCount};
+ghost use Rattle.slice_outlines.specs.Arrival.{HasReached, CanCount};
 ghost use Rattle.slice_outlines.specs.Ahead.{AreBetween, AreStrandsAhead, HasComeTo, HasPassed, AreSkipped, KeepsRight, between, group_spots};
 ghost use Rattle.slice_outlines.specs.declared.height.Height.{Height};
 ghost use Rattle.slice_outlines.specs.declared.mark.Mark.{Mark};

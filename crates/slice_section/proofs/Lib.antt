@@ -1,6 +1,6 @@
-pub mod Weighted
-pub mod Found
+pub mod WeightedMean
+pub mod SideCuts
 pub mod Edges
 pub mod Wound
-pub mod Marked
-pub mod Balanced
+pub mod CutBalance
+pub mod Balance

@@ -4,6 +4,6 @@ pub mod Bundling
 pub mod Live
 pub mod KeptOrder
 pub mod Times
-pub mod Chosen
+pub mod Choice
 pub mod Beginning
 pub mod Standing

@@ -20,7 +20,7 @@ use Rattle.slice_slab.specs.Touching.{touches, touching}
 use Rattle.slice_slab.specs.Starts.{AreRising, IsStartOf, numbers_of, all_numbers, begun_at, pending_at}
 use Rattle.slice_slab.specs.Active.{times, CoverHeight}
 use Rattle.slice_slab.proofs.Times.{times-append, times_permuted, times_kept, times_lost, standing, from_times}
-use Rattle.slice_slab.proofs.Chosen.{numbers_where, touching_is, reaching_is, numbers_are, stand_from_first, filtered, all_where, once_where, none_where}
+use Rattle.slice_slab.proofs.Choice.{numbers_where, touching_is, reaching_is, numbers_are, stand_from_first, filtered, all_where, once_where, none_where}
 use Rattle.slice_slab.proofs.Beginning.{parted, begun_too, pending_too, all_begun, all_pending, of_numbers}
 
 -- ---- edges and heights

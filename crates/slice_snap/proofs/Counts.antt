@@ -4,7 +4,7 @@ use Rattle.std.specs.Prelude.{count_by, IsPermutation}
 use Rattle.std.proofs.lemmas.List.Elements.{All-head, All-tail}
 use Rattle.std.proofs.lemmas.List.Sums.{sum_by-cons}
 use Rattle.std.proofs.lemmas.List.Sorted.{IsPermutation-refl, IsPermutation-sym, IsPermutation-trans, IsPermutation-cons, IsPermutation-middle, sum_by-IsPermutation}
-use Rattle.scad_geom.proofs.Balanced.{once}
+use Rattle.scad_geom.proofs.Balance.{once}
 
 some_more : (m n : ℕ) → 1 ≤ m → m ≡ 0 + n → 1 ≤ n
 some_more m n h e = omega arith

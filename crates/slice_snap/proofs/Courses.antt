@@ -20,7 +20,7 @@ use Rattle.slice_snap.specs.Pieces.{way_of, IsPieceWithin}
 use Rattle.slice_snap.specs.Naming.{LiesAlong, HasLength, AreApart, AreApartByName, AllPairs, AreNamed}
 use Rattle.slice_snap.specs.Merging.{joined, MeetAlone}
 use Rattle.slice_snap.proofs.GoingOn.{pieces_go_on}
-use Rattle.slice_snap.proofs.Balanced.{proper_within}
+use Rattle.slice_snap.proofs.Balance.{proper_within}
 use Rattle.scad_geom.specs.declared.point.Edge.{Edge}
 use Rattle.scad_geom.proofs.Heights.{lower_chain, lower_same, same_lower, same_chain}
 

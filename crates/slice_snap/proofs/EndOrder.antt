@@ -19,7 +19,7 @@ use Rattle.scad_geom.specs.Level.{IsLower, IsSameHeight}
 use Rattle.scad_geom.specs.Balance.{starts_at, ends_at}
 use Rattle.scad_geom.specs.Limits.{coordinate_limit}
 use Rattle.scad_geom.proofs.Heights.{lower_chain, same_lower, lower_same, same_chain}
-use Rattle.scad_geom.proofs.Balanced.{once, starts-cons, ends-cons}
+use Rattle.scad_geom.proofs.Balance.{once, starts-cons, ends-cons}
 use Rattle.slice_snap.specs.declared.piece.Spot.{Spot}
 use Rattle.slice_snap.specs.declared.piece.Piece.{Piece}
 use Rattle.slice_snap.specs.declared.end.End.{End}

@@ -5,7 +5,7 @@ use Rattle.std.specs.Option.{IfNone}
 use Rattle.std.proofs.lemmas.List.{get_or_default}
 use Rattle.scad_geom.specs.Point.{Point, is_same_point}
 use Rattle.scad_geom.specs.Balance.{starts_at, ends_at}
-use Rattle.scad_geom.proofs.Balanced.{once, starts-cons}
+use Rattle.scad_geom.proofs.Balance.{once, starts-cons}
 use Rattle.slice_snap.specs.declared.piece.Spot.{Spot}
 use Rattle.slice_snap.specs.declared.piece.Piece.{Piece}
 use Rattle.slice_snap.specs.declared.end.End.{End}

@@ -7,7 +7,7 @@ use Rattle.std.proofs.lemmas.List.Sorted.{IsPermutation-refl, IsPermutation-sym,
 use Rattle.scad_geom.specs.declared.point.Edge.{Edge}
 use Rattle.winding_laws.specs.Edges.{turned}
 use Rattle.slice_snap.specs.Cancelling.{NoneOpposite, AreCancelled, IsOppositeAt}
-use Rattle.scad_geom.proofs.Removed.{all_removed}
+use Rattle.scad_geom.proofs.Removal.{all_removed}
 
 pub leaves_nothing : AreCancelled [] []
 leaves_nothing = record { pairs = []; taken = IsPermutation-refl []; none = tt }

@@ -13,7 +13,7 @@ use Rattle.slice_snap.specs.Spots.{point_of}
 use Rattle.slice_snap.specs.Pieces.{ends_of, ways_of, HaveOneLevel, IsPieceWithin}
 use Rattle.slice_snap.specs.Merging.{joined, MeetAlone, AreMerged, all_joined, two_join}
 use Rattle.slice_snap.specs.Joining.{AreOfOneLevel, IsComparable}
-use Rattle.slice_snap.proofs.Stuck.{starts_permuted, ends_permuted}
+use Rattle.slice_snap.proofs.ChainEnds.{starts_permuted, ends_permuted}
 
 -- ---- what holds of all ends holds of both ends of each piece
 both_ends : (P : Spot → Type 0) (qs : List Piece) → AllByRecursion P (ends_of qs)

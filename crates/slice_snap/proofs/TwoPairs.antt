@@ -4,7 +4,7 @@ use Rattle.std.specs.Prelude.{IsPermutation, Contains, remove}
 use Rattle.std.proofs.lemmas.List.Sorted.{IsPermutation-refl, IsPermutation-sym, IsPermutation-trans, IsPermutation-cons, IsPermutation-middle, IsPermutation-remove, Contains-permutation}
 use Rattle.scad_geom.specs.Point.{Point, is_same_point}
 use Rattle.scad_geom.specs.Balance.{starts_at, ends_at}
-use Rattle.scad_geom.proofs.Balanced.{once, starts-cons, ends-cons}
+use Rattle.scad_geom.proofs.Balance.{once, starts-cons, ends-cons}
 use Rattle.winding_laws.specs.Nearness.{IsProper}
 use Rattle.winding_laws.proofs.Sameness.{same_itself, same_through}
 use Rattle.slice_snap.specs.declared.piece.Piece.{Piece}
@@ -13,7 +13,7 @@ use Rattle.slice_snap.specs.Pieces.{way_of, ways_of}
 use Rattle.slice_snap.specs.Merging.{joined, MeetAlone}
 use Rattle.slice_snap.proofs.SamePieces.{same_piece, piece_is, piece_itself}
 use Rattle.slice_snap.proofs.Counts.{without_first}
-use Rattle.slice_snap.proofs.Stuck.{starts_permuted, ends_permuted, fewer_starts, fewer_ends}
+use Rattle.slice_snap.proofs.ChainEnds.{starts_permuted, ends_permuted, fewer_starts, fewer_ends}
 use Rattle.slice_snap.proofs.Courses.{KeepCourse, turn_same, first_or_later, is_first, is_later}
 
 -- ---- lists of pieces in another order

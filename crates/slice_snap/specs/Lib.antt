@@ -7,7 +7,6 @@ pub mod Merging
 pub mod Rounding
 pub mod Cancelling
 pub mod Laws
-
 -- What only the steps of the code promise to one another.
 pub mod Spans
 pub mod Joining

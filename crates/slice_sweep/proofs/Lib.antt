@@ -8,9 +8,9 @@ mod Telling
 mod Placing
 mod Groups
 mod Waking
-mod Lifted
+mod HeightStep
 mod Starts
-mod Begun
+mod EdgeStarts
 mod RayOrder
 mod RayBundles
 mod RaySteps

@@ -5,7 +5,6 @@ pub mod Strands
 pub mod LowerEnds
 pub mod Front
 pub mod Changes
-
 -- What only the steps of the code promise to one another.
 pub mod Mending
 pub mod Rays

@@ -5,7 +5,7 @@ use Rattle.scad_io.specs.Desk.{View}
 use Rattle.scad_script.specs.declared.refusal.Refusal.TheVariants.{Over}
 use Rattle.scad_script.specs.Steps.{Step}
 use Rattle.scad_script.specs.Script.{Script, Refuses, first, ends, layer_then, layers}
-use Rattle.scad_script.specs.Played.{Left, Plays, Carries}
+use Rattle.scad_script.specs.Play.{Left, Plays, Carries}
 use Rattle.scad_script.specs.declared.stop.Stop.{Stop}
 use Rattle.scad_script.proofs.Layers.{as_left}
 use Rattle.gcode_text.specs.declared.rates.Rates.{Rates}

@@ -6,5 +6,5 @@ mod Rounds
 mod Counting
 mod Written
 mod Stopping
-mod Surveyed
-mod Pooled
+mod LayerRows
+mod GroupPool

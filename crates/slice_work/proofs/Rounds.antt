@@ -3,7 +3,7 @@ use Rattle.std.proofs.Common.{◌≡◌, ℕ, Result, sym, subst}
 use Rattle.scad_io.specs.Desk.{View}
 use Rattle.scad_script.specs.declared.stop.Stop.{Stop}
 use Rattle.scad_script.specs.Script.{first, layers}
-use Rattle.scad_script.specs.Played.{Carries}
+use Rattle.scad_script.specs.Play.{Carries}
 use Rattle.gcode_text.specs.declared.rates.Rates.{Rates}
 use Rattle.slice_work.specs.declared.want.Want.{Want}
 use Rattle.slice_work.specs.declared.sums.Sums.{Sums}

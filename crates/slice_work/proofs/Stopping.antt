@@ -2,7 +2,7 @@
 use Rattle.std.proofs.Common.{◌≡◌, Result, Err, sym, subst}
 use Rattle.scad_io.specs.Desk.{View}
 use Rattle.scad_script.specs.Script.{Script}
-use Rattle.scad_script.specs.Played.{Stops, Plays}
+use Rattle.scad_script.specs.Play.{Stops, Plays}
 use Rattle.slice_work.specs.declared.fault.WorkFault.{WorkFault}
 use Rattle.slice_work.specs.Script.{stop_of, stopped}
 

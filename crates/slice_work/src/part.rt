@@ -1,9 +1,9 @@
 //! All layers of a part.
 ghost use Rattle.std.specs.Prelude.{◌≡◌, ◌+◌, ◌<◌, ◌≤◌, IfOk};
 ghost use Rattle.scad_script.specs.Script.{layers};
-ghost use Rattle.scad_script.specs.Played.{Carries};
+ghost use Rattle.scad_script.specs.Play.{Carries};
 ghost use Rattle.scad_script.specs.Run.{Sound};
-ghost use Rattle.scad_script.specs.Kept.{Keeps};
+ghost use Rattle.scad_script.specs.Departure.{Keeps};
 ghost use Rattle.slice_work.specs.Part.{Part, layer_limit};
 ghost use Rattle.slice_work.specs.Shares.{AreDrawnOf};
 ghost use Rattle.slice_work.specs.Rounds.{IsWhole};

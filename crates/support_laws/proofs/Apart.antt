@@ -16,7 +16,7 @@ use Rattle.scad_geom.proofs.Signs.{at_least_mul, at_least_left}
 use Rattle.winding_laws.specs.Nearness.{IsClearSegment}
 use Rattle.winding_laws.proofs.OneWinding.{squares_have_one_winding}
 use Rattle.plan_infill.specs.Quotient.{IsFloor}
-use Rattle.plan_sides.proofs.Closed.{sides_balanced}
+use Rattle.plan_sides.proofs.Closure.{sides_balanced}
 use Rattle.plan_support.specs.Spans.{point_at}
 use Rattle.plan_support.specs.Supports.{IsFree}
 use Rattle.support_laws.specs.Apart.{StandsApart}

@@ -8,12 +8,12 @@ use Rattle.std.proofs.lemmas.List.Elements.{All-weaker, All-contains}
 use Rattle.scad_geom.proofs.Rising.{by_order, order}
 use Rattle.plan_infill.specs.declared.run.Run.{Run}
 use Rattle.plan_infill.specs.Sweep as tested
-use Rattle.plan_infill.proofs.Searched.{stretches_of}
+use Rattle.plan_infill.proofs.StretchSearch.{stretches_of}
 use Rattle.plan_support.specs.On.{is_on}
 use Rattle.plan_support.specs.Stretches.{IsStretch, AreStretches}
 use Rattle.plan_support.proofs.Canonical.{run_there, place_on}
 use Rattle.plan_support.proofs.Wholly.{HasStart, HasEnd, start_of, end_of}
-use Rattle.support_laws.proofs.Decided.{IsDecided, holds, held, holding, failing}
+use Rattle.support_laws.proofs.LineDecision.{IsDecided, holds, held, holding, failing}
 
 -- what a stretch covers holds
 pub if_on : (Holds : ℤ → Type 0) (least : ℕ) (rs : List Run) → AreStretches Holds least rs → (x : ℤ)

@@ -1,13 +1,13 @@
 pub mod Rows
 pub mod One
-pub mod Decided
+pub mod LineDecision
 pub mod Extents
 pub mod Complete
 pub mod OnLines
-pub mod Covered
+pub mod Shelter
 pub mod Between
 pub mod Apart
 pub mod Paths
-pub mod Kept
+pub mod SupportClearance
 pub mod SomeRows
 pub mod There

@@ -9,8 +9,8 @@ use Rattle.plan_infill.specs.declared.run.Run.{Run}
 use Rattle.plan_infill.specs.Runs.{GoUp}
 use Rattle.plan_support.specs.Stretches.{IsStretch, AreStretches}
 use Rattle.plan_support.specs.Rows.{Row, runs_at, GoUpwards, AreRowsOf}
-use Rattle.plan_support.proofs.Listed.{own_row}
-use Rattle.plan_support.proofs.Supported.{same_stretches}
+use Rattle.plan_support.proofs.HeightRows.{own_row}
+use Rattle.plan_support.proofs.SupportRuns.{same_stretches}
 use Rattle.plan_layer.proofs.Ascending.{Ascends, one_list, first_in, other_in}
 
 -- ---- the stretches of one height

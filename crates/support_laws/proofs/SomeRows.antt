@@ -13,9 +13,9 @@ use Rattle.plan_support.specs.Multiple.{IsMultiple}
 use Rattle.plan_support.specs.Rows.{Row, runs_at, GoUpwards, AreRowsOf}
 use Rattle.plan_support.specs.Spans.{row_of}
 use Rattle.plan_support.specs.Stretches.{AreStretches}
-use Rattle.plan_support.proofs.Listed.{none_above, others_stay, last_row, upwards_push}
+use Rattle.plan_support.proofs.HeightRows.{none_above, others_stay, last_row, upwards_push}
 use Rattle.plan_support.proofs.Multiples.{next_multiple, multiples_apart}
-use Rattle.plan_support.proofs.Stretched.{no_stretches}
+use Rattle.plan_support.proofs.Stretches.{no_stretches}
 use Rattle.support_laws.proofs.Complete.{HasStretches, some_stretches}
 use Rattle.support_laws.proofs.OnLines.{IsOnLines}
 

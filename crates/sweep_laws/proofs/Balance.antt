@@ -41,7 +41,7 @@ use Rattle.slice_bool.proofs.BalanceTurns.{gap, is_right, is_level, ahead, step_
 use Rattle.slice_bool.proofs.Middle.{scaled, lower_scaled, at_most_scaled, scaled_below, scaled_at_most}
 use Rattle.slice_bool.proofs.Passing.{Around}
 use Rattle.sweep_laws.specs.Balance.{StaysAside, HeadingsAreBalanced, ValuesAreKept}
-use Rattle.sweep_laws.proofs.Counted.{counted_right}
+use Rattle.sweep_laws.proofs.WindingCount.{counted_right}
 
 -- ---- the same points lie ahead alike
 gap_zero : (a b c d : ℤ) → a *ℤ b ≡ c *ℤ d → c *ℤ d -ℤ a *ℤ b ≡ pos 0

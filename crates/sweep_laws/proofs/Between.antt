@@ -12,13 +12,13 @@ use Rattle.winding_laws.specs.Nearness.{IsPoint}
 use Rattle.slice_snap.specs.declared.piece.Piece.{Piece}
 use Rattle.slice_snap.specs.Spots.{point_of}
 use Rattle.slice_snap.specs.Joining.{GoesOn, IsStuck}
-use Rattle.slice_snap.proofs.Stuck.{starts_permuted, ends_permuted}
+use Rattle.slice_snap.proofs.ChainEnds.{starts_permuted, ends_permuted}
 use Rattle.sweep_laws.specs.Ways.{Way, piece_of, pieces_of, IsAt, IsAway, AreOfDifferentNames}
 use Rattle.sweep_laws.specs.Visits.{OneGoesOn, Visit, outs_of, IsAtOne, Leads, IsPlan}
 use Rattle.sweep_laws.proofs.Touches.{ComesIn, GoesOut, LiesAway}
 use Rattle.sweep_laws.proofs.OnePlace.{stuck_here}
 use Rattle.sweep_laws.proofs.Meeting.{by_end}
-use Rattle.sweep_laws.proofs.Rearranged.{parted, parted_ended}
+use Rattle.sweep_laws.proofs.Order.{parted, parted_ended}
 use Rattle.sweep_laws.proofs.Away.{AwayFromAll, AreElsewhere, all_away, points, away_at_one, not_first, outs_away, pieces_away}
 
 -- ---- between two places

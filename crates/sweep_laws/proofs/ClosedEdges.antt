@@ -10,9 +10,9 @@ use Rattle.winding_laws.proofs.Order.{order_keeps_balance}
 use Rattle.winding_laws.proofs.Rounding.{rounding_keeps_balance}
 use Rattle.slice_snap.specs.Pieces.{way_of, ways_of}
 use Rattle.slice_snap.specs.Rounding.{rounded_edges}
-use Rattle.slice_snap.proofs.Balanced.{merged_balanced}
+use Rattle.slice_snap.proofs.Balance.{merged_balanced}
 use Rattle.slice_bool.proofs.BalanceLevels.{pieces_are_balanced}
-use Rattle.slice_bool.proofs.Made.{IsPlaced, placed_proper, merged_placed}
+use Rattle.slice_bool.proofs.PieceWinding.{IsPlaced, placed_proper, merged_placed}
 use Rattle.slice_bool.proofs.Membership.{pieces_are_placed}
 use Rattle.sweep_laws.specs.Sweeps.{MergedEdgesAreBalanced}
 

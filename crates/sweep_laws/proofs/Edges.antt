@@ -4,7 +4,7 @@ use Rattle.std.specs.Prelude.{filter}
 use Rattle.std.proofs.lemmas.List.{map-append}
 use Rattle.std.proofs.lemmas.List.Elements.{filter-append}
 use Rattle.scad_geom.specs.declared.point.Edge.{Edge}
-use Rattle.scad_geom.proofs.Balanced.{same_whole, same_place-is}
+use Rattle.scad_geom.proofs.Balance.{same_whole, same_place-is}
 use Rattle.winding_laws.specs.Edges.{rounded, rounded_edge, has_length}
 use Rattle.winding_laws.proofs.Rounding.{rounded_same}
 use Rattle.slice_snap.specs.declared.piece.Spot.{Spot}

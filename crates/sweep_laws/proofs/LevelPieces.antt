@@ -25,7 +25,7 @@ use Rattle.slice_snap.specs.Spots.{point_of}
 use Rattle.slice_bool.specs.Pieces.{spot_on, across, IsLeft, piece_between, bundle_piece, slab_pieces}
 use Rattle.slice_bool.specs.Beside.{left_value, RisesFirst, passing, lies_left}
 use Rattle.slice_bool.proofs.Middle.{size_of, value_left, value_right}
-use Rattle.slice_bool.proofs.Bundled.{left_is, outside_right}
+use Rattle.slice_bool.proofs.BundleValues.{left_is, outside_right}
 use Rattle.slice_bool.proofs.RightOf.{right_of}
 use Rattle.slice_bool.proofs.Winding.{IsSpotAt}
 use Rattle.sweep_laws.specs.Ways.{Way, pieces_of, way_between, piece_of}
@@ -33,7 +33,7 @@ use Rattle.sweep_laws.specs.Visits.{outs_of}
 use Rattle.sweep_laws.specs.Fronts.{Strand, bundles_of, value_before, way_from, ways_from, AreValued}
 use Rattle.sweep_laws.specs.Crossing.{Place, spots_of, all_below, all_above, flat_way, visits_at, MeetsAt}
 use Rattle.sweep_laws.proofs.Spots.{spot_at}
-use Rattle.sweep_laws.proofs.Rearranged.{crossed_lists}
+use Rattle.sweep_laws.proofs.Order.{crossed_lists}
 use Rattle.sweep_laws.proofs.Strands.{froms_append}
 
 -- ---- the pieces of ways

@@ -25,13 +25,13 @@ use Rattle.slice_bool.specs.Pieces.{spot_on, is_flat_at, covers}
 use Rattle.slice_bool.specs.Beside.{RisesFirst}
 use Rattle.slice_bool.proofs.Winding.{IsSpotAt}
 use Rattle.slice_bool.proofs.BalanceFlat.{spot_divisor}
-use Rattle.slice_bool.proofs.Named.{found}
+use Rattle.slice_bool.proofs.PieceNames.{found}
 use Rattle.sweep_laws.specs.Ways.{Way, IsAt, IsAway, AreOfDifferentNames}
 use Rattle.sweep_laws.specs.Visits.{Visit, Walk, over, visit}
 use Rattle.sweep_laws.specs.Fronts.{value_before, ways_up}
 use Rattle.sweep_laws.specs.Crossing.{Place, spots_of, all_below, all_above, all_closed, flat_way, outs_from, visits_at, ArePassed, MeetsAt}
 use Rattle.sweep_laws.proofs.Spots.{spot_at, same_place, lower_away}
-use Rattle.sweep_laws.proofs.Rearranged.{second_first, crossed_lists, turned_lists}
+use Rattle.sweep_laws.proofs.Order.{second_first, crossed_lists, turned_lists}
 use Rattle.sweep_laws.proofs.Strands.{UpHas, of_ways_up, FromHas, AlongHas, of_flat_way, ups_append, HeadsDiffer, differ_front, differ_back, names_up, IsRisingWay, IsFlatWay, with_flat, flat_names}
 
 -- ---- walks over the same ways in another order

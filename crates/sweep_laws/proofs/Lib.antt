@@ -1,7 +1,7 @@
 pub mod Touches
 pub mod OnePlace
 pub mod Meeting
-pub mod Rearranged
+pub mod Order
 pub mod Away
 pub mod Between
 pub mod Walking
@@ -13,7 +13,7 @@ pub mod LevelPieces
 pub mod FlatPieces
 pub mod Lifting
 pub mod Sweeping
-pub mod Counted
+pub mod WindingCount
 pub mod Balance
 pub mod HeightByHeight
 pub mod Staying

@@ -26,7 +26,7 @@ use Rattle.slice_snap.specs.Spots.{point_of}
 use Rattle.slice_bool.specs.Pieces.{spot_on, passes_at, spots_at, IsLeft, GoRight, HasSpot, flat_pieces}
 use Rattle.slice_bool.specs.Beside.{left_value, RisesFirst}
 use Rattle.slice_bool.specs.BothSides.{TellBeside}
-use Rattle.slice_bool.proofs.Bundled.{outside_right, rises_first}
+use Rattle.slice_bool.proofs.BundleValues.{outside_right, rises_first}
 use Rattle.slice_bool.proofs.BalanceSpots.{passing_spot}
 use Rattle.slice_bool.proofs.Middle.{scaled, at_most_scaled}
 use Rattle.slice_bool.proofs.Telling.{tell_above, tell_below}

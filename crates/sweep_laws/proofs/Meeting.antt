@@ -5,14 +5,14 @@ use Rattle.std.specs.List.{AllByRecursion}
 use Rattle.std.specs.List.Sorted.{IsPermutation}
 use Rattle.std.proofs.lemmas.List.Sorted.{IsPermutation-trans}
 use Rattle.scad_geom.specs.Point.{Point}
-use Rattle.scad_geom.proofs.Balanced.{once}
+use Rattle.scad_geom.proofs.Balance.{once}
 use Rattle.winding_laws.specs.Nearness.{IsPoint}
 use Rattle.slice_snap.specs.declared.piece.Spot.{Spot}
 use Rattle.slice_snap.specs.declared.piece.Piece.{Piece}
 use Rattle.slice_snap.specs.Spots.{point_of}
 use Rattle.slice_snap.specs.Pieces.{ways_of}
 use Rattle.slice_snap.specs.Merging.{MeetAlone}
-use Rattle.slice_snap.proofs.Stuck.{point_alike}
+use Rattle.slice_snap.proofs.ChainEnds.{point_alike}
 use Rattle.slice_snap.proofs.TwoPairs.{swap}
 use Rattle.sweep_laws.specs.Ways.{Way, piece_of, IsAt, IsAway}
 use Rattle.sweep_laws.specs.Visits.{IsOneCourse}

@@ -18,7 +18,7 @@ use Rattle.scad_geom.proofs.Ring.{crossed}
 use Rattle.slice_bool.specs.Pieces.{spot_on, IsLeft, IsSameAcross}
 use Rattle.slice_bool.proofs.Middle.{size_of, scaled, lower_scaled, scaled_below}
 use Rattle.slice_bool.proofs.Winding.{IsSpotAt}
-use Rattle.slice_bool.proofs.Named.{stop_left}
+use Rattle.slice_bool.proofs.PieceNames.{stop_left}
 use Rattle.sweep_laws.specs.Ways.{IsAt, IsAway}
 
 -- where an edge that rises meets a height

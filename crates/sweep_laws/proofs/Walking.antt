@@ -13,7 +13,7 @@ use Rattle.slice_snap.specs.Spots.{point_of}
 use Rattle.slice_snap.specs.Merging.{joined, MeetAlone, AreMerged, all_joined, two_join}
 use Rattle.slice_snap.specs.Joining.{GoesOn, IsStuck}
 use Rattle.slice_snap.proofs.Pairs.{permuted_merged}
-use Rattle.slice_snap.proofs.Stuck.{stays_stuck, none_meet_alone}
+use Rattle.slice_snap.proofs.ChainEnds.{stays_stuck, none_meet_alone}
 use Rattle.sweep_laws.specs.Ways.{Way, piece_of, pieces_of, IsAt, IsAway, AreOfDifferentNames}
 use Rattle.sweep_laws.specs.Visits.{grown, IsOneCourse, Pass, goes_on, all_end, Visit, outs_of, IsAtOne, Leads, IsPlan, Walk, over, visit, WalksMerge}
 use Rattle.sweep_laws.proofs.Touches.{ComesIn, GoesOut, LiesAway}

@@ -19,9 +19,9 @@ use Rattle.gcode_text.specs.declared.rates.Rates.{Rates}
 use Rattle.gcode_text.specs.Amount.{square, length_of, move_volume, moves_volume, path_volume, paths_volume, layers_volume, filament}
 use Rattle.gcode_text.specs.Gcode.{target, print_line, travel_line, number_line, height_line, supports_line, moves_text, path_text, paths_text, Printed, printed_paths, supports_text, printed_text, layers_text, head, end, gcode}
 use Rattle.gcode_text.specs.Moves.{surface}
-use Rattle.print_laws.proofs.Extruded.{both_volumes}
+use Rattle.print_laws.proofs.Extrusion.{both_volumes}
 use Rattle.print_laws.proofs.Points.{all_front, all_back}
-use Rattle.verdict_laws.specs.Printed.{file_limit}
+use Rattle.verdict_laws.specs.OwnOutlines.{file_limit}
 
 -- ---- a move
 -- its volume in cubic micrometres is at most this: 3 m long, 2 mm wide and 1 mm high

@@ -16,15 +16,15 @@ use Rattle.scad_geom.specs.Segment.{segments}
 use Rattle.scad_geom.specs.Sign.{is_zero}
 use Rattle.scad_geom.specs.Winding.{wind}
 use Rattle.scad_geom.proofs.Signs.{zero_true}
-use Rattle.plan_sides.proofs.Closed.{sides_balanced}
+use Rattle.plan_sides.proofs.Closure.{sides_balanced}
 use Rattle.scad_ring.specs.Octagon.{reach, octagon}
 use Rattle.scad_ring.specs.Nearness.{Closed, Meets, IsClear}
-use Rattle.scad_ring.proofs.Decided.{SeenPasses, edge_meets, edge_is_clear}
+use Rattle.scad_ring.proofs.EdgeTests.{SeenPasses, edge_meets, edge_is_clear}
 use Rattle.scad_near.specs.Edges.{ComeNear, AreApart}
 use Rattle.scad_near.specs.Tests.{crosses}
-use Rattle.scad_near.proofs.Held.{octagon_holds_origin}
+use Rattle.scad_near.proofs.RegionTurns.{octagon_holds_origin}
 use Rattle.scad_near.proofs.Apart.{apart}
-use Rattle.scad_near.proofs.Crossed.{near_at_end, come_near_back, near_if_cross}
+use Rattle.scad_near.proofs.EdgeCrossing.{near_at_end, come_near_back, near_if_cross}
 use Rattle.cli_text.specs.Cli.{Layer}
 use Rattle.gcode_text.specs.declared.fault.GFault.{GFault}
 use Rattle.gcode_text.specs.declared.fault.GFault.TheVariants.{UnknownWord}

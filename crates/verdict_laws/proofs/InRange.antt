@@ -17,7 +17,7 @@ use Rattle.gcode_text.specs.Reading.{lines, without_return, without_comment, wor
 use Rattle.gcode_text.specs.Machine.{State, any, limited, command_of, plain_commands, takes, was_given, with_number, with_word, with_words, words_line, counting, line_step}
 use Rattle.gcode_text.specs.Moves.{IsShort, IsShortPoint}
 use Rattle.gcode_text.proofs.Lines.{AreWords, spaced, line_back, no_feed_in, travel_words, travel_line_is, travel_are_words, print_words, print_line_is, print_are_words, height_words, height_line_is, height_are_words, heat_words, heat_line_is, heat_are_words, in_word, decimal_no_feed, comment_back}
-use Rattle.gcode_text.proofs.Printed.{millimetres_back, thousandths_back, amount_back, decimal_back}
+use Rattle.gcode_text.proofs.NumberText.{millimetres_back, thousandths_back, amount_back, decimal_back}
 
 -- ---- lines
 -- the line's numbers are in range, so that both machines do the same

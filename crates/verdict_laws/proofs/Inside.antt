@@ -6,7 +6,7 @@ use Rattle.scad_geom.specs.declared.point.Pt.{Pt}
 use Rattle.scad_geom.specs.declared.point.Edge.{Edge}
 use Rattle.scad_geom.specs.Loop.{sides}
 use Rattle.scad_words.specs.declared.settings.Settings.{Settings}
-use Rattle.plan_walls.specs.Kept as plan
+use Rattle.plan_walls.specs.Clearance as plan
 use Rattle.slice_work.specs.Part.{Layout}
 use Rattle.gcode_text.specs.declared.machine.Move.{Move}
 use Rattle.plan_verify.specs.Stays.{KeepsClear, IsInLayer, Stays}

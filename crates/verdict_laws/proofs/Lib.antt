@@ -4,10 +4,10 @@ pub mod Opinions
 pub mod Outside
 pub mod InRange
 pub mod Programs
-pub mod Told
+pub mod MoveLines
 pub mod Amounts
 pub mod Heights
 pub mod Ranges
 pub mod Inside
 pub mod Extruding
-pub mod Printed
+pub mod OwnOutlines

@@ -10,7 +10,7 @@ use Rattle.scad_geom.specs.declared.point.Edge.{Edge}
 use Rattle.scad_geom.specs.Loop.{sides}
 use Rattle.scad_geom.specs.Point.{whole}
 use Rattle.scad_words.specs.declared.settings.Settings.{Settings}
-use Rattle.plan_layer.specs.Kept.{PlansKeepClear}
+use Rattle.plan_layer.specs.Clearance.{PlansKeepClear}
 use Rattle.support_laws.specs.Apart as support
 use Rattle.slice_work.specs.Part.{Layout, hatches_of}
 use Rattle.cli_text.specs.Cli.{Layer}
@@ -27,10 +27,10 @@ use Rattle.print_laws.specs.Laws.{PlansArePrintable}
 use Rattle.print_laws.proofs.Supports.{SupportLaws}
 use Rattle.print_laws.proofs.Wound.{starts_on}
 use Rattle.verdict_laws.specs.Laws.{VerdictsAreOpinions}
-use Rattle.verdict_laws.specs.Printed.{SupportsGoOutside, PrintsAreAnsweredOutside}
+use Rattle.verdict_laws.specs.OwnOutlines.{SupportsGoOutside, PrintsAreAnsweredOutside}
 use Rattle.verdict_laws.proofs.Extruding.{moves_in}
 use Rattle.verdict_laws.proofs.Inside.{stays}
-use Rattle.verdict_laws.proofs.Printed.{told_moves, told_extruding, by_written, answered_so}
+use Rattle.verdict_laws.proofs.OwnOutlines.{told_moves, told_extruding, by_written, answered_so}
 
 -- ---- a move along a support is in no layer
 -- an edge doesn't keep both apart from outlines and clear inside of them

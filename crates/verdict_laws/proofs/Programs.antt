@@ -13,7 +13,7 @@ use Rattle.gcode_text.specs.Gcode.{travel_line, print_line, height_line, number_
 use Rattle.gcode_text.specs.Machine.{command_of, plain_commands}
 use Rattle.gcode_text.specs.Moves.{IsShort, IsShortPoint, surface}
 use Rattle.gcode_text.proofs.Program.{filament_rises}
-use Rattle.print_laws.proofs.Extruded.{both_volumes}
+use Rattle.print_laws.proofs.Extrusion.{both_volumes}
 use Rattle.print_laws.proofs.Points.{all_front, all_back}
 use Rattle.verdict_laws.proofs.InRange.{LinesAreInRange, LeadsInRange, leads_nowhere, leads_on, leads_travel, leads_print, leads_height, leads_number, leads_supports, leads_heat, leads_setup, leads_home, leads_end, nothing_in_range}
 

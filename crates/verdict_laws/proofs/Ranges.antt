@@ -7,18 +7,18 @@ use Rattle.scad_geom.specs.Limits.{point_limit, coordinate_limit}
 use Rattle.scad_geom.specs.Within.{IsWithin, IsEdgeWithin}
 use Rattle.scad_words.specs.declared.settings.Settings.{Settings}
 use Rattle.scad_words.specs.Settings.{AreInRange}
-use Rattle.plan_layer.specs.Kept.{PlansKeepClear}
+use Rattle.plan_layer.specs.Clearance.{PlansKeepClear}
 use Rattle.plan_layer.specs.Moves.{all_moves}
 use Rattle.gcode_text.specs.Gcode.{printed_paths}
 use Rattle.slice_work.specs.declared.want.Want.TheVariants.{Plan as WithPlan}
 use Rattle.slice_work.specs.Part.{Layout, printed_of}
 use Rattle.slice_work.specs.Rates.{rates_of}
-use Rattle.print_laws.specs.Planned.{IsPlanned, ArePlanned}
+use Rattle.print_laws.specs.LayerPlans.{IsPlanned, ArePlanned}
 use Rattle.print_laws.specs.Print.{all_printed, all_paths, program_of}
 use Rattle.print_laws.specs.Laws.{PlansArePrintable}
-use Rattle.print_laws.proofs.Numbered.{AreFrom, from_first}
+use Rattle.print_laws.proofs.LayerNumbers.{AreFrom, from_first}
 use Rattle.print_laws.proofs.Printable.{points_within, all_ends_within}
-use Rattle.verdict_laws.specs.Printed.{file_limit}
+use Rattle.verdict_laws.specs.OwnOutlines.{file_limit}
 use Rattle.verdict_laws.proofs.Amounts.{amount_in_range}
 use Rattle.verdict_laws.proofs.Programs.{HasRange}
 

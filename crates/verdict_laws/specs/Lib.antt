@@ -1,3 +1,3 @@
 pub mod Opinion
 pub mod Laws
-pub mod Printed
+pub mod OwnOutlines

@@ -1,7 +1,7 @@
 //! Laws of the definitions, each carried by the contract of a function that does nothing.
 ghost use Rattle.verdict_laws.specs.Laws.{OpinionsAreThere, OpinionsAreOne, VerdictsAreOpinions, OutlinesWantNoMemory};
-ghost use Rattle.verdict_laws.specs.Printed.{PrintsStayInside, PrintsAreAnsweredInside};
-ghost use Rattle.verdict_laws.specs.Printed.{SupportsGoOutside, PrintsAreAnsweredOutside};
+ghost use Rattle.verdict_laws.specs.OwnOutlines.{PrintsStayInside, PrintsAreAnsweredInside};
+ghost use Rattle.verdict_laws.specs.OwnOutlines.{SupportsGoOutside, PrintsAreAnsweredOutside};
 
 use cli_read::laws::texts_say_one_list;
 use plan_layer::laws::plans_keep_clear;

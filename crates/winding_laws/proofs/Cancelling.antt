@@ -9,7 +9,7 @@ use Rattle.scad_geom.specs.Point.{Point, whole, is_same_point}
 use Rattle.scad_geom.specs.Segment.{Segment, segment_of, segments}
 use Rattle.scad_geom.specs.Winding.{turn, wind_by}
 use Rattle.scad_geom.specs.Balance.{starts_at, ends_at}
-use Rattle.scad_geom.proofs.Balanced.{once, starts-cons, ends-cons}
+use Rattle.scad_geom.proofs.Balance.{once, starts-cons, ends-cons}
 use Rattle.winding_laws.specs.Nearness.{seen_from}
 use Rattle.winding_laws.specs.Joining.{CancellingKeepsBalance, CancellingKeepsWinding}
 use Rattle.winding_laws.specs.Edges.{turned}

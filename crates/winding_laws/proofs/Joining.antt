@@ -7,7 +7,7 @@ use Rattle.scad_base.proofs.Products.{positive_product, zero_factor}
 use Rattle.scad_geom.specs.Point.{Point, is_same_point}
 use Rattle.scad_geom.specs.Winding.{turn, wind_by, side_by}
 use Rattle.scad_geom.specs.Balance.{starts_at, ends_at}
-use Rattle.scad_geom.proofs.Balanced.{once, starts-cons, ends-cons}
+use Rattle.scad_geom.proofs.Balance.{once, starts-cons, ends-cons}
 use Rattle.scad_geom.proofs.Ring.{ring, num, ◌⊕◌, ◌⊖◌, ◌⊗◌, v0, v1, v2, v3, v4, v5, v6, v7, v8, v9, v10, v11}
 use Rattle.winding_laws.specs.Nearness.{seen_from}
 use Rattle.winding_laws.specs.Joining.{JoiningKeepsBalance, JoiningKeepsWinding}

@@ -9,9 +9,9 @@ use Rattle.scad_geom.specs.Point.{Point, whole, is_same_point}
 use Rattle.scad_geom.specs.Segment.{segment_of, segments}
 use Rattle.scad_geom.specs.Winding.{turn, wind_by}
 use Rattle.scad_geom.specs.Balance.{starts_at, ends_at}
-use Rattle.scad_geom.proofs.Balanced.{once, starts-cons, ends-cons}
+use Rattle.scad_geom.proofs.Balance.{once, starts-cons, ends-cons}
 use Rattle.scad_geom.proofs.Turns.{flat_turn}
-use Rattle.winding_laws.specs.Rounded.{LengthsKeepBalance, LengthsKeepWinding}
+use Rattle.winding_laws.specs.RoundedEnds.{LengthsKeepBalance, LengthsKeepWinding}
 use Rattle.winding_laws.specs.Edges.{has_length}
 use Rattle.winding_laws.proofs.Sameness.{same_itself, same_through, turn_same}
 

@@ -9,7 +9,7 @@ use Rattle.scad_geom.specs.Point.{Point, is_same_point}
 use Rattle.scad_geom.specs.Segment.{Segment}
 use Rattle.scad_geom.specs.Winding.{turn, wind_by}
 use Rattle.scad_geom.specs.Balance.{starts_at, ends_at, IsBalanced}
-use Rattle.scad_geom.proofs.Balanced.{once, starts-cons, ends-cons}
+use Rattle.scad_geom.proofs.Balance.{once, starts-cons, ends-cons}
 use Rattle.scad_geom.proofs.Sums.{sum_z}
 use Rattle.winding_laws.specs.Region.{HalfPlane, HoldsOrigin}
 use Rattle.winding_laws.specs.Nearness.{IsPoint, IsProper, IsFarSegment}

@@ -6,7 +6,7 @@ use Rattle.std.proofs.lemmas.List.Sorted.{sum_by-IsPermutation}
 use Rattle.scad_geom.specs.Point.{Point, is_same_point}
 use Rattle.scad_geom.specs.Segment.{Segment}
 use Rattle.scad_geom.specs.Winding.{turn, wind_by}
-use Rattle.scad_geom.proofs.Balanced.{once}
+use Rattle.scad_geom.proofs.Balance.{once}
 use Rattle.scad_geom.proofs.Sums.{sum_z, sum_z-append, sum_z-permutation}
 use Rattle.winding_laws.specs.Joining.{OrderKeepsBalance, OrderKeepsWinding}
 

@@ -18,7 +18,7 @@ use Rattle.scad_geom.proofs.Signs.{pos_left, at_least_mul}
 use Rattle.winding_laws.specs.Region.{square}
 use Rattle.winding_laws.specs.Nearness.{IsClearSegment}
 use Rattle.winding_laws.specs.Moves.{IsMove, moved}
-use Rattle.winding_laws.specs.Rounded.{RoundingMovesByHalves, RoundingKeepsBalance, RoundingKeepsWinding}
+use Rattle.winding_laws.specs.RoundedEnds.{RoundingMovesByHalves, RoundingKeepsBalance, RoundingKeepsWinding}
 use Rattle.winding_laws.specs.Edges.{rounded, rounded_edge}
 use Rattle.winding_laws.proofs.Sameness.{are_same, same_by}
 use Rattle.winding_laws.proofs.Squares.{near_by_close, far_segments, square_holds_origin}

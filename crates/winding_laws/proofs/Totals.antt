@@ -6,7 +6,7 @@ use Rattle.std.proofs.lemmas.Int.{ints}
 use Rattle.scad_geom.specs.Point.{Point, is_same_point}
 use Rattle.scad_geom.specs.Segment.{Segment}
 use Rattle.scad_geom.specs.Balance.{starts_at, ends_at, IsBalanced}
-use Rattle.scad_geom.proofs.Balanced.{once, starts-cons, ends-cons}
+use Rattle.scad_geom.proofs.Balance.{once, starts-cons, ends-cons}
 use Rattle.scad_geom.proofs.Sums.{sum_z}
 use Rattle.winding_laws.specs.Nearness.{IsPoint, IsProper}
 use Rattle.winding_laws.proofs.Sameness.{same_itself, same_through}

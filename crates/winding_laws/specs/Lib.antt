@@ -2,7 +2,7 @@ pub mod Region
 pub mod Nearness
 pub mod Moves
 pub mod Edges
-pub mod Rounded
+pub mod RoundedEnds
 pub mod Joining
 pub mod Points
 pub mod Parts

@@ -1,7 +1,7 @@
 //! Laws of the definitions, each carried by the contract of a function that does nothing.
 ghost use Rattle.winding_laws.specs.Moves.{MovesKeepBalance, MovesKeepWinding};
-ghost use Rattle.winding_laws.specs.Rounded.{RoundingMovesByHalves, RoundingKeepsBalance, RoundingKeepsWinding};
-ghost use Rattle.winding_laws.specs.Rounded.{LengthsKeepBalance, LengthsKeepWinding};
+ghost use Rattle.winding_laws.specs.RoundedEnds.{RoundingMovesByHalves, RoundingKeepsBalance, RoundingKeepsWinding};
+ghost use Rattle.winding_laws.specs.RoundedEnds.{LengthsKeepBalance, LengthsKeepWinding};
 ghost use Rattle.winding_laws.specs.Joining.{OrderKeepsBalance, OrderKeepsWinding};
 ghost use Rattle.winding_laws.specs.Joining.{JoiningKeepsBalance, JoiningKeepsWinding};
 ghost use Rattle.winding_laws.specs.Joining.{CancellingKeepsBalance, CancellingKeepsWinding};

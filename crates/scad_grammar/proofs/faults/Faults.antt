@@ -14,8 +14,8 @@ use Rattle.scad_grammar.specs.Machine.{step, finish, start, reach, run, Refusal,
 use Rattle.scad_grammar.specs.Machine.{judge_move, judge_end, outcome}
 use Rattle.scad_grammar.specs.LeftOut.{IsLeftOut}
 use Rattle.scad_grammar.specs.Nesting.{Opens}
-use Rattle.scad_grammar.specs.Judged.{MayStand, Judged, is_program, ends_early, is_left_out, is_misplaced, is_nested}
-use Rattle.scad_grammar.specs.Judged.{stands}
+use Rattle.scad_grammar.specs.Verdict.{MayStand, Judged, is_program, ends_early, is_left_out, is_misplaced, is_nested}
+use Rattle.scad_grammar.specs.Verdict.{stands}
 use Rattle.scad_grammar.proofs.reader.Runs.{follow, by_move}
 use Rattle.scad_grammar.proofs.reader.Statements.{runs_program}
 use Rattle.scad_grammar.proofs.reader.Sound.{sound_finish, into_program}

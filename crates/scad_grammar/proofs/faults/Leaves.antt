@@ -33,7 +33,7 @@ use Rattle.scad_grammar.specs.Steps.{element_step, end_arguments, after_argument
 use Rattle.scad_grammar.specs.Steps.{end_parameters, after_parameter_step, after_one_step, range_start, range_step}
 use Rattle.scad_grammar.specs.Steps.{member_step, after_element, after_expression, tested_step, link_step}
 use Rattle.scad_grammar.specs.Steps.{after_operand, post_step, name_step, word_argument}
-use Rattle.scad_grammar.proofs.reader.Asked.{is_the_sign, is_the_key}
+use Rattle.scad_grammar.proofs.reader.TokenTests.{is_the_sign, is_the_key}
 
 -- the tokens of the forms, with their names
 pub data Form : Token → List ℕ → Type 0 where

@@ -34,9 +34,9 @@ use Rattle.scad_grammar.specs.Nesting.{in_range, in_args, in_more_args, in_elems
 use Rattle.scad_grammar.specs.Nesting.{in_else}
 use Rattle.scad_grammar.proofs.reader.Openings.{operand_opening}
 use Rattle.scad_grammar.proofs.reader.Expressions.{comp_let}
-use Rattle.scad_grammar.proofs.nesting.Kept.{kept_link, kept_operand}
-use Rattle.scad_grammar.proofs.nesting.Ended.{ended_links, ended_test, ended_posts, ended_name, ended_arguments}
-use Rattle.scad_grammar.proofs.nesting.Ended.{ended_argument, ended_if, ended_element}
+use Rattle.scad_grammar.proofs.nesting.OpenRest.{kept_link, kept_operand}
+use Rattle.scad_grammar.proofs.nesting.PartEnd.{ended_links, ended_test, ended_posts, ended_name, ended_arguments}
+use Rattle.scad_grammar.proofs.nesting.PartEnd.{ended_argument, ended_if, ended_element}
 use Rattle.scad_grammar.proofs.nesting.Openings.{opens_expression, opens_element, opens_elements_expr}
 use Rattle.scad_grammar.proofs.nesting.Openings.{opens_elements_elem, opens_argument}
 use Rattle.scad_grammar.proofs.nesting.Places.{by_first}

@@ -27,7 +27,7 @@ use Rattle.scad_grammar.proofs.reader.Shortest.{here, quiet_posts, end_items, en
 use Rattle.scad_grammar.proofs.reader.Viable.{viable}
 use Rattle.scad_grammar.proofs.reader.Prefix.{reached_goes}
 use Rattle.scad_grammar.proofs.reader.Sound.{into_program}
-use Rattle.scad_grammar.proofs.nesting.Kept.{kept, kept_items, kept-le}
+use Rattle.scad_grammar.proofs.nesting.OpenRest.{kept, kept_items, kept-le}
 use Rattle.scad_grammar.proofs.nesting.Statements.{over_statements}
 use Rattle.scad_grammar.proofs.nesting.Real.{IsReal}
 use Rattle.scad_grammar.proofs.nesting.RealSteps.{reached_real}

@@ -16,7 +16,7 @@ use Rattle.scad_grammar.specs.Machine.{step}
 use Rattle.scad_grammar.proofs.reader.Openings.{Opening, with_number, with_string, with_true, with_false, with_undef}
 use Rattle.scad_grammar.proofs.reader.Openings.{with_word, with_round, with_square, with_bang, with_plus, with_minus}
 use Rattle.scad_grammar.proofs.reader.Openings.{operand_opening}
-use Rattle.scad_grammar.proofs.nesting.Ended.{ended_word}
+use Rattle.scad_grammar.proofs.nesting.PartEnd.{ended_word}
 use Rattle.scad_grammar.proofs.nesting.Places.{Alike, FirstAlike, by_first, kept_at, at_start, past_to}
 
 expression_first : {ts : List Token} → Opening ts → (k : BehindExpression) →

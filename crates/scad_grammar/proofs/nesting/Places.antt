@@ -12,7 +12,7 @@ use Rattle.scad_grammar.specs.Move.{Move, go, left_out, stuck}
 use Rattle.scad_grammar.specs.Machine.{step, reach}
 use Rattle.scad_grammar.specs.Nesting.{Construct, is_open, open_at}
 use Rattle.scad_grammar.proofs.reader.Prefix.{reach_by, by_reach}
-use Rattle.scad_grammar.proofs.nesting.Kept.{kept}
+use Rattle.scad_grammar.proofs.nesting.OpenRest.{kept}
 use Rattle.std.proofs.lemmas.Option.{same_Some, none-some}
 
 -- how many constructs stay open where the reader has gone on until so many tokens are left

@@ -26,7 +26,7 @@ use Rattle.scad_grammar.specs.Move.{go}
 use Rattle.scad_grammar.specs.Machine.{step}
 use Rattle.scad_grammar.specs.Nesting.{in_default, in_params, in_more_params, in_statement, in_statements, in_inst}
 use Rattle.scad_grammar.specs.Nesting.{in_otherwise, in_child}
-use Rattle.scad_grammar.proofs.nesting.Ended.{ended_parameter, ended_choice}
+use Rattle.scad_grammar.proofs.nesting.PartEnd.{ended_parameter, ended_choice}
 use Rattle.scad_grammar.proofs.nesting.Expressions.{over_expr, over_args}
 use Rattle.scad_grammar.proofs.nesting.Places.{Alike, FirstAlike, past_to, by_first}
 use Rattle.scad_grammar.proofs.nesting.Tracks.{Tracks, AlikeBehind, behind_first, from_behind, nothing_read}

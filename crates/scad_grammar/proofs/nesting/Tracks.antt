@@ -7,7 +7,7 @@ use Rattle.scad_grammar.specs.State.{State}
 use Rattle.scad_grammar.specs.Move.{go}
 use Rattle.scad_grammar.specs.Machine.{step}
 use Rattle.scad_grammar.specs.Nesting.{Construct, construct, open_at}
-use Rattle.scad_grammar.proofs.nesting.Kept.{kept}
+use Rattle.scad_grammar.proofs.nesting.OpenRest.{kept}
 use Rattle.scad_grammar.proofs.nesting.Places.{kept_at, at_start, past_to, past_alike, alike, Within, wider}
 use Rattle.scad_grammar.proofs.nesting.Places.{both_within, open_both, none_open, one_open, Alike, FirstAlike}
 

@@ -12,7 +12,7 @@ use Rattle.scad_ast.specs.Tree.{element, Element, item, each, for_each, for_loop
 use Rattle.scad_grammar.specs.Tokens.{begins_with_key}
 use Rattle.scad_grammar.specs.Lists.{with_argument, with_element}
 use Rattle.scad_grammar.specs.Plain
-use Rattle.scad_grammar.specs.Printed.{nowhere, unplaced, unplaced_arguments, unplaced_elements, unplaced_element}
+use Rattle.scad_grammar.specs.TreeText.{nowhere, unplaced, unplaced_arguments, unplaced_elements, unplaced_element}
 
 -- tokens of the same kinds, wherever they stand
 pub data Alike : List Token → List Token → Type 0 where

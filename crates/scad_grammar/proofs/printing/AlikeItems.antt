@@ -10,7 +10,7 @@ use Rattle.scad_ast.specs.Tree.{function_of, call_of, choice}
 use Rattle.scad_grammar.specs.Lists.{with_parameter, with_item, Marks}
 use Rattle.scad_grammar.specs.Statements.{Callee, call_word, call_for, call_let, call_echo, call_assert}
 use Rattle.scad_grammar.specs.Plain
-use Rattle.scad_grammar.specs.Printed.{nowhere, unplaced}
+use Rattle.scad_grammar.specs.TreeText.{nowhere, unplaced}
 use Rattle.scad_grammar.specs.PrintedItems.{unplaced_parameter, unplaced_items, unplaced_item}
 use Rattle.scad_grammar.proofs.printing.Alike.{Alike, none, one, Also, also, keeps_key, ap₃, alike_expr, alike_args}
 

@@ -9,8 +9,8 @@ use Rattle.scad_ast.specs.Tree.{Element}
 use Rattle.scad_grammar.specs.Tokens.{begins_with_key}
 use Rattle.scad_grammar.specs.Lists.{with_argument, with_element}
 use Rattle.scad_grammar.specs.Plain
-use Rattle.scad_grammar.specs.Printed.{is_item, takes_else, IsPrintable, ArePrintable, ArePrintableElements}
-use Rattle.scad_grammar.specs.Printed.{IsPrintableElement}
+use Rattle.scad_grammar.specs.TreeText.{is_item, takes_else, IsPrintable, ArePrintable, ArePrintableElements}
+use Rattle.scad_grammar.specs.TreeText.{IsPrintableElement}
 
 with_printable : (a : Arguments) (w : Option (List ℕ)) (e : Expression) → ArePrintable a → IsPrintable e →
     ArePrintable (with_argument a w e)

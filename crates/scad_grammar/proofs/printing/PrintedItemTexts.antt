@@ -10,7 +10,7 @@ use Rattle.scad_ast.specs.Tree.{Expression, Parameter, Items, no_items, entry, I
 use Rattle.scad_ast.specs.Tree.{function_of, call_of, choice}
 use Rattle.scad_ast.specs.Text.{spaced, default_text, parameters_text, body, otherwise, items_text, item_text}
 use Rattle.scad_grammar.specs.Tokens.{sign, key, word}
-use Rattle.scad_grammar.specs.Printed.{nowhere}
+use Rattle.scad_grammar.specs.TreeText.{nowhere}
 use Rattle.scad_grammar.specs.PrintedItems.{callee_token, mark_onto, default_onto, parameters_onto, body_onto}
 use Rattle.scad_grammar.specs.PrintedItems.{otherwise_onto, items_onto, item_onto}
 use Rattle.scad_grammar.proofs.printing.Texts.{Spells, Prints, none, one, ◌before◌, a_sign, a_key, round, whole}

@@ -16,8 +16,8 @@ use Rattle.scad_ast.specs.Tree.{for_loop, let_element, if_element, if_else}
 use Rattle.scad_ast.specs.Text.{spaced, prefix_text, operator_text, enclosed, separator, argument_name}
 use Rattle.scad_ast.specs.Text.{expression_text, arguments_text, elements_text, element_text, stands_alone}
 use Rattle.scad_grammar.specs.Tokens.{word, numeral, quoted}
-use Rattle.scad_grammar.specs.Printed.{nowhere, prefix_token, operator_token, enclosed_onto, named_onto, comma_onto}
-use Rattle.scad_grammar.specs.Printed.{expression_onto, arguments_onto, elements_onto, element_onto}
+use Rattle.scad_grammar.specs.TreeText.{nowhere, prefix_token, operator_token, enclosed_onto, named_onto, comma_onto}
+use Rattle.scad_grammar.specs.TreeText.{expression_onto, arguments_onto, elements_onto, element_onto}
 use Rattle.scad_grammar.proofs.printing.Texts.{Prints, none, one, ◌before◌, a_sign, a_key, round}
 
 pub a_word : (w : List ℕ) → Prints (spaced w) (λ us. word w nowhere ∷ us)

@@ -15,11 +15,11 @@ use Rattle.scad_grammar.specs.Tokens.{sign, key, word, begins_with_key}
 use Rattle.scad_grammar.specs.Lists.{with_argument, with_element}
 use Rattle.scad_grammar.specs.Plain
 use Rattle.scad_ast.specs.Text.{stands_alone}
-use Rattle.scad_grammar.specs.Printed.{nowhere, operator_token, enclosed_onto, expression_onto, arguments_onto}
-use Rattle.scad_grammar.specs.Printed.{elements_onto, element_onto, unplaced, unplaced_arguments, unplaced_elements}
-use Rattle.scad_grammar.specs.Printed.{unplaced_element, is_item, takes_else, IsPrintable, ArePrintable}
-use Rattle.scad_grammar.specs.Printed.{ArePrintableElements, IsPrintableElement}
-use Rattle.scad_grammar.proofs.printing.Posted.{Posted, posts_then, unary_of, up, of_unary, binary_of}
+use Rattle.scad_grammar.specs.TreeText.{nowhere, operator_token, enclosed_onto, expression_onto, arguments_onto}
+use Rattle.scad_grammar.specs.TreeText.{elements_onto, element_onto, unplaced, unplaced_arguments, unplaced_elements}
+use Rattle.scad_grammar.specs.TreeText.{unplaced_element, is_item, takes_else, IsPrintable, ArePrintable}
+use Rattle.scad_grammar.specs.TreeText.{ArePrintableElements, IsPrintableElement}
+use Rattle.scad_grammar.proofs.printing.OperandOrder.{Posted, posts_then, unary_of, up, of_unary, binary_of}
 
 -- a printed expression as a whole, and as an operand
 pub record Printed (alone : Bool) (text : List Token → List Token) (e : Expression) : Type 0 where

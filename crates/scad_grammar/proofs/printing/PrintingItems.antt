@@ -14,8 +14,8 @@ use Rattle.scad_grammar.specs.Tokens.{sign, key, word, begins_with_key}
 use Rattle.scad_grammar.specs.Lists.{with_item, with_parameter, Marks, no_marks}
 use Rattle.scad_grammar.specs.Statements.{Callee, call_word, call_for, call_let, call_echo, call_assert}
 use Rattle.scad_grammar.specs.Plain
-use Rattle.scad_grammar.specs.Printed.{nowhere, expression_onto, unplaced, unplaced_arguments, IsPrintable}
-use Rattle.scad_grammar.specs.Printed.{ArePrintable}
+use Rattle.scad_grammar.specs.TreeText.{nowhere, expression_onto, unplaced, unplaced_arguments, IsPrintable}
+use Rattle.scad_grammar.specs.TreeText.{ArePrintable}
 use Rattle.scad_grammar.specs.PrintedItems.{callee_token, mark_onto, default_onto, parameters_onto, body_onto}
 use Rattle.scad_grammar.specs.PrintedItems.{otherwise_onto, items_onto, item_onto, unplaced_parameter, unplaced_items}
 use Rattle.scad_grammar.specs.PrintedItems.{unplaced_item, IsPrintableDefault, ArePrintableParameters}

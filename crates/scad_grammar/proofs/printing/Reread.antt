@@ -6,7 +6,7 @@ use Rattle.scad_lex.specs.declared.token.TokenKind.{TokenKind}
 use Rattle.scad_lex.specs.Tokens.{after, tokens, start}
 use Rattle.scad_lex.specs.Spelling.{spelling, blank_behind, Spaced, spelled, placed, CanBeSpelled, CanAllBeSpelled}
 use Rattle.scad_lex.specs.Spelling.{HaveSpellings}
-use Rattle.scad_lex.proofs.Spelled.{spelled_tokens_are_read}
+use Rattle.scad_lex.proofs.TokenText.{spelled_tokens_are_read}
 use Rattle.scad_ast.specs.Tree.{Items}
 use Rattle.scad_ast.specs.Text.{items_text}
 use Rattle.scad_grammar.specs.Plain

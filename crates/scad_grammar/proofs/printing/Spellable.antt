@@ -18,8 +18,8 @@ use Rattle.scad_grammar.specs.Tokens.{sign, key, word, numeral, quoted}
 use Rattle.scad_grammar.specs.Lists.{with_argument, with_element}
 use Rattle.scad_grammar.specs.Plain
 use Rattle.scad_ast.specs.Text.{stands_alone}
-use Rattle.scad_grammar.specs.Printed.{nowhere, operator_token, enclosed_onto, in_round_onto, named_onto, comma_onto}
-use Rattle.scad_grammar.specs.Printed.{expression_onto, arguments_onto, elements_onto, element_onto}
+use Rattle.scad_grammar.specs.TreeText.{nowhere, operator_token, enclosed_onto, in_round_onto, named_onto, comma_onto}
+use Rattle.scad_grammar.specs.TreeText.{expression_onto, arguments_onto, elements_onto, element_onto}
 
 -- tokens before others that can be spelled, so that all can
 pub record Spellable (onto : List Token → List Token) : Type 0 where

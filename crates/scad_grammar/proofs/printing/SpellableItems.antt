@@ -13,7 +13,7 @@ use Rattle.scad_grammar.specs.Tokens.{key, word}
 use Rattle.scad_grammar.specs.Lists.{with_parameter, with_item, Marks}
 use Rattle.scad_grammar.specs.Statements.{Callee, call_word, call_for, call_let, call_echo, call_assert}
 use Rattle.scad_grammar.specs.Plain
-use Rattle.scad_grammar.specs.Printed.{nowhere}
+use Rattle.scad_grammar.specs.TreeText.{nowhere}
 use Rattle.scad_grammar.specs.PrintedItems.{callee_token, mark_onto, default_onto, parameters_onto, body_onto}
 use Rattle.scad_grammar.specs.PrintedItems.{otherwise_onto, items_onto, item_onto}
 use Rattle.scad_grammar.proofs.printing.Spellable.{Spellable, none, one, ◌before◌, a_sign, a_key, a_word, round}

@@ -8,7 +8,7 @@ use Rattle.scad_lex.specs.declared.token.Key.{Key as KeyName}
 use Rattle.scad_lex.specs.Spelling.{spelling, sign_spelling, key_spelling, blank_behind, Spaced, spelled}
 use Rattle.scad_ast.specs.Text.{in_parentheses}
 use Rattle.scad_grammar.specs.Tokens.{sign, key}
-use Rattle.scad_grammar.specs.Printed.{nowhere, in_round_onto}
+use Rattle.scad_grammar.specs.TreeText.{nowhere, in_round_onto}
 
 -- the text is these tokens as they are spelled
 pub record Spells (text : List ℕ) (ts : List Token) : Type 0 where

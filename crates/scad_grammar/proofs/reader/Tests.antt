@@ -9,7 +9,7 @@ use Rattle.scad_grammar.specs.State.{State}
 use Rattle.scad_grammar.specs.Move.{Move, go, left_out, stuck}
 use Rattle.scad_grammar.specs.Steps.{only}
 use Rattle.scad_grammar.proofs.reader.Goes.{Goes}
-use Rattle.scad_grammar.proofs.reader.Asked.{is_the_sign, is_the_key, is_the_word}
+use Rattle.scad_grammar.proofs.reader.TokenTests.{is_the_sign, is_the_key, is_the_word}
 
 -- tokens go on behind a move to a whole program
 abbrev pub MoveGoes : Move → List Token → Items → Type 0

@@ -20,11 +20,11 @@ use Rattle.scad_grammar.specs.Steps.{only, expression_step, end_arguments, after
 use Rattle.scad_grammar.specs.Steps.{arguments_step, after_expression, word_argument, unary_step, prim_step}
 use Rattle.scad_grammar.specs.Machine.{step, finish, Refusal, syntax_at, most_open, outcome}
 use Rattle.scad_grammar.specs.Rules.{Read, then_read, Rules, expr_of, named_by, more_args, args_of, args_closed_of}
-use Rattle.scad_grammar.proofs.reader.Asked.{is_the_word}
+use Rattle.scad_grammar.proofs.reader.TokenTests.{is_the_word}
 use Rattle.scad_grammar.proofs.rules.Turns.{follow, answered, by_outcome, goes, goes_nowhere, ends_none, if_gives}
 use Rattle.scad_grammar.proofs.rules.Turns.{then_gives, sign_gives}
 use Rattle.scad_grammar.proofs.rules.Fewer.{Leaves, BelowFewer, expr_leaves}
-use Rattle.scad_grammar.proofs.rules.Linked.{Below}
+use Rattle.scad_grammar.proofs.rules.Outcome.{Below}
 use Rattle.scad_grammar.proofs.rules.Operands.{over_expr}
 use Rattle.scad_grammar.proofs.faults.Foreign.{only_false}
 

@@ -26,10 +26,10 @@ use Rattle.scad_grammar.specs.Rules.{Rules}
 use Rattle.scad_grammar.specs.StatementRules.{StatementRules, call_first}
 use Rattle.scad_grammar.specs.StatementRules.{marked_first, first_of, child_of, call_behind_of, otherwise_of}
 use Rattle.scad_grammar.specs.StatementRules.{choice_behind_of, call_by, marked_of}
-use Rattle.scad_grammar.proofs.nesting.Kept.{ended-le}
+use Rattle.scad_grammar.proofs.nesting.OpenRest.{ended-le}
 use Rattle.scad_grammar.proofs.rules.Turns.{follow, answered, by_outcome, goes, goes_nowhere, leaves_out}
 use Rattle.scad_grammar.proofs.rules.Turns.{ends_none, if_gives, then_gives, settle}
-use Rattle.scad_grammar.proofs.rules.Linked.{Linked}
+use Rattle.scad_grammar.proofs.rules.Outcome.{Linked}
 use Rattle.scad_grammar.proofs.rules.LinkedStatements.{BelowStatements, deeper_gives}
 
 module _ (end : Place) (n : ℕ) (same : Rules) (linked : Linked end n same) (below : Option StatementRules)

@@ -28,7 +28,7 @@ use Rattle.scad_grammar.proofs.rules.Turns.{follow, answered, by_outcome, goes, 
 use Rattle.scad_grammar.proofs.rules.Turns.{then_gives, settle}
 use Rattle.scad_grammar.proofs.rules.Fewer.{BelowFewer}
 use Rattle.scad_grammar.proofs.rules.FewerElements.{elem_leaves, rules_fewer}
-use Rattle.scad_grammar.proofs.rules.Linked.{Linked, Below, deeper_gives, behind_head}
+use Rattle.scad_grammar.proofs.rules.Outcome.{Linked, Below, deeper_gives, behind_head}
 use Rattle.scad_grammar.proofs.rules.Operands.{expr_to_gives, over_expr, over_operand, over_links, over_unary}
 use Rattle.scad_grammar.proofs.rules.Operands.{over_posts}
 use Rattle.scad_grammar.proofs.rules.Arguments.{then_gives_on, over_args, over_closed}

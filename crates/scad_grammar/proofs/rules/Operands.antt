@@ -30,7 +30,7 @@ use Rattle.scad_grammar.specs.Rules.{literal_rule, prim_of, member_by, member_of
 use Rattle.scad_grammar.specs.Rules.{link_of, links_of, operand_of, choice_of, keyed_of, expr_of}
 use Rattle.scad_grammar.proofs.rules.Turns.{follow, answered, by_outcome, goes, too_deep, goes_nowhere, leaves_out}
 use Rattle.scad_grammar.proofs.rules.Turns.{ends_none, if_gives, then_gives, sign_gives, settle}
-use Rattle.scad_grammar.proofs.rules.Linked.{Linked, Below, deeper_gives}
+use Rattle.scad_grammar.proofs.rules.Outcome.{Linked, Below, deeper_gives}
 
 -- expr, and a sign behind it
 pub expr_to_gives : (end : Place) (s : SignName) (expr : List Token → Read Expression) (ts : List Token)

@@ -22,7 +22,7 @@ use Rattle.scad_grammar.specs.StatementRules.{more_params, param_of, param_by, p
 use Rattle.scad_grammar.proofs.rules.Turns.{follow, answered, by_outcome, goes, goes_nowhere}
 use Rattle.scad_grammar.proofs.rules.Turns.{ends_none, if_gives, settle}
 use Rattle.scad_grammar.proofs.rules.Fewer.{Fewer}
-use Rattle.scad_grammar.proofs.rules.Linked.{Linked}
+use Rattle.scad_grammar.proofs.rules.Outcome.{Linked}
 use Rattle.scad_grammar.proofs.rules.Arguments.{then_gives_on}
 
 module _ (end : Place) (n : ℕ) (same : Rules) (linked : Linked end n same) (fewer : Fewer same) where

@@ -28,13 +28,13 @@ use Rattle.scad_grammar.specs.StatementRules.{StatementRules}
 use Rattle.scad_grammar.specs.StatementRules.{word_behind_of, definition_of}
 use Rattle.scad_grammar.specs.StatementRules.{start_of, statement_of, group_of, heading_by, heading_of}
 use Rattle.scad_grammar.specs.StatementRules.{above_statements, statement_rules}
-use Rattle.scad_grammar.proofs.nesting.Kept.{ended-le}
+use Rattle.scad_grammar.proofs.nesting.OpenRest.{ended-le}
 use Rattle.scad_grammar.proofs.rules.Turns.{follow, answered, by_outcome, goes, goes_nowhere}
 use Rattle.scad_grammar.proofs.rules.Turns.{ends_none, if_gives, then_gives, sign_gives, settle}
 use Rattle.scad_grammar.proofs.rules.Fewer.{Fewer}
 use Rattle.scad_grammar.proofs.rules.FewerElements.{rules_fewer}
 use Rattle.scad_grammar.proofs.rules.FewerStatements.{BelowFewerStatements, statement_leaves, statements_fewer}
-use Rattle.scad_grammar.proofs.rules.Linked.{Linked}
+use Rattle.scad_grammar.proofs.rules.Outcome.{Linked}
 use Rattle.scad_grammar.proofs.rules.Operands.{expr_to_gives}
 use Rattle.scad_grammar.proofs.rules.Arguments.{then_gives_on}
 use Rattle.scad_grammar.proofs.rules.Elements.{rules_linked}

@@ -4,8 +4,8 @@ use Rattle.scad_ast.specs.Tree.{Arguments, Elements, no_arguments, no_elements}
 use Rattle.scad_ast.specs.View.{expression_of, element_of, arguments, elements}
 use Rattle.scad_grammar.specs.Rules.{args_of}
 use Rattle.scad_parse.specs.Reading.{below, refusal, argument_seen}
-use Rattle.scad_parse.proofs.rules.Opened.{call_here, index_here, member_here, link_here, choice_here, else_here}
-use Rattle.scad_parse.proofs.rules.Opened.{for_here, each_here, if_here, let_here}
+use Rattle.scad_parse.proofs.rules.Openers.{call_here, index_here, member_here, link_here, choice_here, else_here}
+use Rattle.scad_parse.proofs.rules.Openers.{for_here, each_here, if_here, let_here}
 use Rattle.scad_parse.proofs.loops.Arguments.{args_go, args_fewer, args_stop, args_stop_behind, args_end}
 use Rattle.scad_parse.proofs.loops.Elements.{elements_at, elements_go, elements_fewer, elements_stop}
 use Rattle.scad_parse.proofs.loops.Elements.{elements_stop_behind, elements_range, elements_end}

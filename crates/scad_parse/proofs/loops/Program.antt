@@ -5,7 +5,7 @@ use Rattle.std.specs.Prelude.{Result, ◌==◌, ◌≢◌}
 use Rattle.scad_fault.specs.declared.place.Place.{Place}
 use Rattle.scad_lex.specs.declared.token.Token.{Token}
 use Rattle.scad_ast.specs.Tree.{Items}
-use Rattle.scad_grammar.specs.Judged.{Judged}
+use Rattle.scad_grammar.specs.Verdict.{Judged}
 use Rattle.scad_grammar.specs.Machine.{Refusal, syntax_at, nesting_at, left_out_at, most_open}
 use Rattle.scad_grammar.specs.Rules.{Read}
 use Rattle.scad_grammar.specs.StatementRules.{StatementRules, statement_of, program_from, descent}

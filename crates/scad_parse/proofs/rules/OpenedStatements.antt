@@ -14,7 +14,7 @@ use Rattle.scad_grammar.specs.StatementRules.{StatementRules, child_of, statemen
 use Rattle.scad_grammar.specs.StatementRules.{word_behind_of}
 use Rattle.scad_parse.specs.Reading.{rules_at}
 use Rattle.scad_parse.specs.ReadingStatements.{below_statements, statement_rules_at}
-use Rattle.scad_parse.proofs.rules.Opened.{rest, front, deep}
+use Rattle.scad_parse.proofs.rules.Openers.{rest, front, deep}
 use Rattle.scad_parse.proofs.rules.Statements.{below_more_statements}
 
 module _ (end : Place) (room inner : ℕ) (some : room ≢ 0) (less : inner ≡ room - 1) (t : Token) (ts : List Token)

@@ -12,7 +12,7 @@ use Rattle.scad_geom.specs.Balance.{IsBalanced}
 use Rattle.scad_geom.specs.Loop.{sides}
 use Rattle.scad_tree.specs.Sections.{leaf_edge}
 use Rattle.scad_tree.proofs.LeafSections.{balanced_more}
-use Rattle.plan_sides.proofs.Closed.{sides_balanced}
+use Rattle.plan_sides.proofs.Closure.{sides_balanced}
 use Rattle.plan_sides.proofs.Within.{outlines_within}
 use Rattle.outline_samples.proofs.random_outlines.push_sides.Goals as goal
 

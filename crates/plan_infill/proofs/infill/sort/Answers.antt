@@ -3,7 +3,7 @@ use Rattle.std.proofs.Common.{rules}
 use Rattle.std.proofs.lemmas.Result.{on_ok_weaker}
 use Rattle.std.proofs.lemmas.List.Sorted.{answers_always}
 use Rattle.scad_base.proofs.Tests.{is_lt-int_cmp}
-use Rattle.plan_infill.proofs.Ordered.{comes_before, place_order, in_order}
+use Rattle.plan_infill.proofs.StepOrder.{comes_before, place_order, in_order}
 use Rattle.plan_infill.proofs.infill.sort.Goals as goal
 
 pub returns-clause-order : goal.returns-clause-order

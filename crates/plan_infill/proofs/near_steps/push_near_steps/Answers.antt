@@ -7,7 +7,7 @@ use Rattle.plan_infill.specs.declared.line.Line.{Line}
 use Rattle.plan_infill.specs.declared.line.Line.TheVariants.{Row}
 use Rattle.plan_infill.specs.Runs.{IsLineWithin}
 use Rattle.plan_infill.specs.Steps.{AreNearSteps}
-use Rattle.plan_infill.proofs.Reached.{exchanged_steps}
+use Rattle.plan_infill.proofs.RowReach.{exchanged_steps}
 use Rattle.plan_infill.proofs.near_steps.push_near_steps.Goals as goal
 use mir.Syntax.{w32}
 

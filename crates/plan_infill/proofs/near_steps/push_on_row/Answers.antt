@@ -3,7 +3,7 @@ use Rattle.std.proofs.lemmas.Int.{to_z-of_z}
 use Rattle.std.proofs.lemmas.List.{append-nil}
 use Rattle.scad_geom.proofs.Casts.{casts}
 use Rattle.plan_infill.specs.Reach.{is_beside, IsReached}
-use Rattle.plan_infill.proofs.Reached.{near_steps, no_near_steps}
+use Rattle.plan_infill.proofs.RowReach.{near_steps, no_near_steps}
 use Rattle.plan_infill.proofs.near_steps.push_on_row.Goals as goal
 use mir.Syntax.{w32}
 

@@ -5,7 +5,7 @@ use Rattle.std.proofs.lemmas.Int.{to_z-of_z}
 use Rattle.scad_geom.specs.Line.{rise}
 use Rattle.scad_geom.proofs.Casts.{casts}
 use Rattle.plan_infill.specs.Reach.{IsBesideEnds, IsBesideLine, AreThose}
-use Rattle.plan_infill.proofs.Reached.{both_reached, flat_reached}
+use Rattle.plan_infill.proofs.RowReach.{both_reached, flat_reached}
 use Rattle.plan_infill.proofs.near_steps.reached.Goals as goal
 use mir.Syntax.{w32}
 

@@ -4,7 +4,7 @@ use Rattle.std.specs.Int.{int_min, int_max}
 use Rattle.scad_geom.specs.Line.{low, high}
 use Rattle.scad_geom.proofs.Casts.{casts}
 use Rattle.scad_ring.specs.Octagon.{reach}
-use Rattle.plan_infill.proofs.Reached.{IsRound, by_stretches}
+use Rattle.plan_infill.proofs.RowReach.{IsRound, by_stretches}
 use Rattle.plan_infill.proofs.near_steps.reached_by_ends.Goals as goal
 
 pub returns : goal.returns

@@ -7,7 +7,7 @@ use mir.Syntax.{w128}
 use Rattle.scad_geom.proofs.Casts.{casts}
 use Rattle.plan_infill.specs.Quotient.{IsFloor, IsCeiling}
 use Rattle.plan_infill.specs.Reach.{line_reach, IsBesideLine}
-use Rattle.plan_infill.proofs.Reached.{line_those}
+use Rattle.plan_infill.proofs.RowReach.{line_those}
 use Rattle.plan_infill.proofs.near_steps.reached_by_line.Goals as goal
 
 next : (c : goal.After-ceiling) → c.plus.result ≡ c.floor.result +ℤ pos 1

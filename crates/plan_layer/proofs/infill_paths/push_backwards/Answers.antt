@@ -4,7 +4,7 @@ use Rattle.scad_geom.proofs.Casts.{casts}
 use Rattle.plan_infill.specs.declared.run.Run.{Run}
 use Rattle.plan_infill.specs.Runs.{point_on}
 use Rattle.plan_layer.specs.Infill.{backwards}
-use Rattle.plan_layer.proofs.Pushed.{pushed_next}
+use Rattle.plan_layer.proofs.ListPushes.{pushed_next}
 use Rattle.plan_layer.proofs.infill_paths.push_backwards.Goals as goal
 
 no_run : Run

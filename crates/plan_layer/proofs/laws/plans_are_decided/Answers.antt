@@ -1,4 +1,4 @@
-use Rattle.plan_layer.proofs.Decided.{plans_are_decided}
+use Rattle.plan_layer.proofs.PlanDecision.{plans_are_decided}
 use Rattle.plan_layer.proofs.laws.plans_are_decided.Goals as goal
 
 pub returns : goal.returns

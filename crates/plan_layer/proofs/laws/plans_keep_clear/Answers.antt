@@ -1,4 +1,4 @@
-use Rattle.plan_layer.proofs.Kept.{plans_keep_clear}
+use Rattle.plan_layer.proofs.Clearance.{plans_keep_clear}
 use Rattle.plan_layer.proofs.laws.plans_keep_clear.Goals as goal
 
 pub returns : goal.returns

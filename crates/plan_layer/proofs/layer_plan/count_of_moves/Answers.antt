@@ -1,5 +1,5 @@
 use Rattle.std.proofs.Common.{◌≡◌, length, get_or, ap, ◌∙◌, arith}
-use Rattle.plan_layer.proofs.Counted.{moves_more}
+use Rattle.plan_layer.proofs.MoveCount.{moves_more}
 use Rattle.plan_layer.proofs.layer_plan.count_of_moves.Goals as goal
 
 pub paths-preserved : goal.paths-preserved

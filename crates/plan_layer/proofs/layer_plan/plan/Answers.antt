@@ -7,7 +7,7 @@ use Rattle.plan_layer.specs.Infill.{LineRuns, infill_paths}
 use Rattle.plan_layer.specs.Moves.{all_moves, move_limit}
 use Rattle.plan_layer.specs.Plan.{IsPlan}
 use Rattle.plan_layer.specs.Refusal.{IsManyMoves, IsRefusal}
-use Rattle.plan_layer.proofs.Counted.{moves_both}
+use Rattle.plan_layer.proofs.MoveCount.{moves_both}
 use Rattle.plan_layer.proofs.Points.{plan_ways, few_points}
 use Rattle.plan_layer.proofs.layer_plan.plan.Goals as goal
 

@@ -9,7 +9,7 @@ use Rattle.scad_geom.proofs.Casts.{casts}
 use Rattle.plan_sides.proofs.Within.{outlines_within}
 use Rattle.plan_layer.specs.Extent.{IsEdgeAmong}
 use Rattle.plan_layer.specs.Infill.{LineRuns, AddsLine}
-use Rattle.plan_layer.proofs.Filled.{FilledBefore, before_none, before_more, before_all}
+use Rattle.plan_layer.proofs.LineRuns.{FilledBefore, before_none, before_more, before_all}
 use Rattle.plan_layer.proofs.Multiples.{next_multiple, falls}
 use Rattle.plan_layer.proofs.lines.filled_lines.Goals as goal
 use mir.Syntax.{w32, w64}

@@ -4,7 +4,7 @@ use Rattle.std.specs.Prelude.{unsigned_abs}
 use Rattle.std.specs.Int.{int_max}
 use Rattle.scad_geom.specs.Limits.{point_limit}
 use Rattle.plan_layer.specs.Infill.{IsMultiple}
-use Rattle.plan_layer.proofs.Filled.{FilledBefore}
+use Rattle.plan_layer.proofs.LineRuns.{FilledBefore}
 use Rattle.plan_layer.proofs.lines.filled_lines.Given as goal
 
 abbrev pub invariant-lines : goal.invariant-lines

@@ -5,7 +5,7 @@ use Rattle.slice_events.specs.Levels.{crossings}
 use Rattle.plan_walls.specs.Walls.{wall_edges, AreWalls}
 use Rattle.plan_layer.specs.Plan.{distance, round}
 use Rattle.plan_walls.specs.Refusal.{wall_edge_limit}
-use Rattle.plan_layer.proofs.Walled.{Walled, walled_more}
+use Rattle.plan_layer.proofs.WallPaths.{Walled, walled_more}
 use Rattle.plan_layer.proofs.wall_paths.wall_paths.Goals as goal
 
 pub walls-preserved : goal.walls-preserved

@@ -1,4 +1,4 @@
-use Rattle.plan_layer.proofs.Walled.{Walled}
+use Rattle.plan_layer.proofs.WallPaths.{Walled}
 use Rattle.plan_layer.proofs.wall_paths.wall_paths.Given as goal
 
 abbrev pub invariant-walls : goal.invariant-walls

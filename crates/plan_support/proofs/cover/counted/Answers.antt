@@ -2,7 +2,7 @@ use Rattle.std.proofs.Common.{min, List, ap, ◌∙◌}
 use Rattle.std.specs.Prelude.{sum_by}
 use Rattle.plan_support.specs.declared.line.Line.{Line}
 use Rattle.plan_support.specs.Lines.{greatest_count}
-use Rattle.plan_support.proofs.Counted.{is_count}
+use Rattle.plan_support.proofs.StretchCount.{is_count}
 use Rattle.plan_support.proofs.cover.counted.Goals as goal
 
 pub returns : goal.returns

@@ -2,8 +2,8 @@ use Rattle.std.proofs.Common.{◌≡◌, ◌<◌, ◌≤◌, length, sym, subst,
 use Rattle.plan_support.specs.declared.line.Want.TheVariants.{Stretches}
 use Rattle.plan_support.specs.Lines.{AreHeights, AreLines}
 use Rattle.plan_support.specs.Covers.{stretch_limit, AreTooMany}
-use Rattle.plan_support.proofs.Gathered.{lines_length}
-use Rattle.plan_support.proofs.Counted.{too_many, are_covers, all_apart, few_enough}
+use Rattle.plan_support.proofs.RowGathering.{lines_length}
+use Rattle.plan_support.proofs.StretchCount.{too_many, are_covers, all_apart, few_enough}
 use Rattle.plan_support.proofs.cover.covers.Goals as goal
 
 pub returns-then-counted-gt-STRETCH_LIMIT-clause-runs : goal.returns-then-counted-gt-STRETCH_LIMIT-clause-runs

@@ -1,5 +1,5 @@
 use Rattle.std.proofs.Common.{pos}
-use Rattle.plan_support.proofs.Freed.{at_least_more}
+use Rattle.plan_support.proofs.HoleRests.{at_least_more}
 use Rattle.plan_support.proofs.free.long_runs.Goals as goal
 
 pub runs-preserved : goal.runs-preserved

@@ -6,7 +6,7 @@ use Rattle.scad_geom.proofs.Casts.{casts}
 use Rattle.plan_infill.specs.declared.run.Run.{Run}
 use Rattle.plan_support.specs.Free.{some_run, IsEnd, AddsFree}
 use Rattle.plan_support.specs.Near.{HasPlaces}
-use Rattle.plan_support.proofs.Freed.{FreedUpTo, freed_more, freed_all}
+use Rattle.plan_support.proofs.HoleRests.{FreedUpTo, freed_more, freed_all}
 use Rattle.plan_support.proofs.free.push_free.Goals as goal
 use Rattle.plan_support.proofs.free.push_free.Goals.{then-holes-test+else-holes-i, else-holes-test}
 use mir.Syntax.{w64}

@@ -1,5 +1,5 @@
 use Rattle.std.proofs.Common.{◌-◌, length}
-use Rattle.plan_support.proofs.Freed.{FreedUpTo}
+use Rattle.plan_support.proofs.HoleRests.{FreedUpTo}
 use Rattle.plan_support.proofs.free.push_free.Given as goal
 
 abbrev pub invariant-holes : goal.invariant-holes

@@ -1,5 +1,5 @@
 use Rattle.std.proofs.Common.{pos}
-use Rattle.plan_support.proofs.Freed.{without_more, place_at, are_left}
+use Rattle.plan_support.proofs.HoleRests.{without_more, place_at, are_left}
 use Rattle.plan_support.proofs.free.without.Goals as goal
 
 pub push_free-requires-clause-place : goal.push_free-requires-clause-place

@@ -1,4 +1,4 @@
-use Rattle.plan_support.proofs.Freed.{WithoutUpTo}
+use Rattle.plan_support.proofs.HoleRests.{WithoutUpTo}
 use Rattle.plan_support.proofs.free.without.Given as goal
 
 abbrev pub invariant-runs : goal.invariant-runs

@@ -3,7 +3,7 @@ use lib.Signed.{◌≤ℤ◌}
 use Rattle.std.specs.Prelude.{All}
 use Rattle.std.proofs.lemmas.List.Elements.{All-append}
 use Rattle.plan_infill.specs.declared.run.Run.{Run}
-use Rattle.plan_support.proofs.Freed.{place_at}
+use Rattle.plan_support.proofs.HoleRests.{place_at}
 use Rattle.plan_support.proofs.line_work.with_runs.Goals as goal
 
 pub united-requires : goal.united-requires

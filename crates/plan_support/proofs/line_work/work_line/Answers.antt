@@ -6,7 +6,7 @@ use Rattle.plan_infill.specs.declared.run.Run.{Run}
 use Rattle.plan_support.specs.Rows.{AreApart, AreRows, runs_at}
 use Rattle.plan_support.specs.On.{is_on}
 use Rattle.plan_support.specs.Lines.{wanted_of, greatest_count}
-use Rattle.plan_support.proofs.Lined.{AboveFrom, above_more, runs_apart}
+use Rattle.plan_support.proofs.LineWork.{AboveFrom, above_more, runs_apart}
 use Rattle.plan_support.proofs.line_work.work_line.Goals as goal
 
 pub with_runs-requires-clause-runs : goal.with_runs-requires-clause-runs

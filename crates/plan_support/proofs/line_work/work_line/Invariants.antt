@@ -1,5 +1,5 @@
 use Rattle.std.proofs.Common.{◌≤◌, length}
-use Rattle.plan_support.proofs.Lined.{AboveFrom}
+use Rattle.plan_support.proofs.LineWork.{AboveFrom}
 use Rattle.plan_support.proofs.line_work.work_line.Given as goal
 
 abbrev pub invariant-layers : goal.invariant-layers

@@ -1,5 +1,5 @@
 use Rattle.std.proofs.Common.{length, arith}
-use Rattle.plan_support.proofs.Cut.{ends_order}
+use Rattle.plan_support.proofs.Consecutive.{ends_order}
 use Rattle.plan_support.proofs.lists.part_of.Goals as goal
 
 pub returns-clause-order : goal.returns-clause-order

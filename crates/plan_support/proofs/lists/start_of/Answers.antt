@@ -1,5 +1,5 @@
 use Rattle.std.proofs.Common.{arith}
-use Rattle.plan_support.proofs.Cut.{start_first, start_later}
+use Rattle.plan_support.proofs.Consecutive.{start_first, start_later}
 use Rattle.plan_support.proofs.lists.start_of.Goals as goal
 
 pub returns-then-i-eq0 : goal.returns-then-i-eq0

@@ -4,7 +4,7 @@ use Rattle.std.specs.Int.{int_min, int_max}
 use Rattle.std.proofs.lemmas.Int.{ints, to_z-of_z}
 use Rattle.scad_geom.proofs.Casts.{casts}
 use Rattle.plan_support.proofs.Extents.{lesser, greater}
-use Rattle.plan_support.proofs.Reached.{clipped_some, clipped_none}
+use Rattle.plan_support.proofs.EdgeReach.{clipped_some, clipped_none}
 use Rattle.plan_support.proofs.near.clipped.Goals as goal
 use mir.Syntax.{w32, w128}
 

@@ -4,7 +4,7 @@ use Rattle.scad_geom.specs.Line.{low, high, rise, x_at}
 use Rattle.scad_geom.proofs.Casts.{casts}
 use Rattle.plan_infill.specs.Quotient.{IsFloor, IsCeiling}
 use Rattle.plan_support.specs.Near.{line_reach}
-use Rattle.plan_support.proofs.Reached.{within_ends, within_both}
+use Rattle.plan_support.proofs.EdgeReach.{within_ends, within_both}
 use Rattle.plan_support.proofs.near.reached.Goals as goal
 
 pub returns-then-rise-gt0 : goal.returns-then-rise-gt0

@@ -6,7 +6,7 @@ use Rattle.plan_support.specs.Stretches.{AreStretches}
 use Rattle.plan_support.specs.Supports.{IsFreeOn}
 use Rattle.plan_support.specs.Near.{AreHoles}
 use Rattle.plan_support.specs.Free.{AreLeft}
-use Rattle.plan_support.proofs.Supported.{are_free}
+use Rattle.plan_support.proofs.SupportRuns.{are_free}
 use Rattle.plan_support.proofs.support.free_runs.Goals as goal
 
 pub returns : goal.returns

@@ -5,7 +5,7 @@ use Rattle.plan_support.specs.Stretches.{AreStretches}
 use Rattle.plan_support.specs.Rows.{Row, no_row}
 use Rattle.plan_support.specs.Free.{at_least}
 use Rattle.plan_support.specs.Supports.{IsFreeOn, AddsRow}
-use Rattle.plan_support.proofs.Supported.{SupportedUpTo, supported_start, supported_more, long_stretches}
+use Rattle.plan_support.proofs.SupportRuns.{SupportedUpTo, supported_start, supported_more, long_stretches}
 use Rattle.plan_support.proofs.support.supports.Goals as goal
 use mir.Syntax.{w32}
 

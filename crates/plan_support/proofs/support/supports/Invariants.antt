@@ -1,4 +1,4 @@
-use Rattle.plan_support.proofs.Supported.{SupportedUpTo}
+use Rattle.plan_support.proofs.SupportRuns.{SupportedUpTo}
 use Rattle.plan_support.proofs.support.supports.Given as goal
 
 abbrev pub invariant-rows : goal.invariant-rows

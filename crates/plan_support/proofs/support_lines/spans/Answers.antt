@@ -9,7 +9,7 @@ use Rattle.scad_geom.proofs.Casts.{casts}
 use Rattle.plan_sides.proofs.Within.{outlines_within}
 use Rattle.plan_support.specs.Extent.{IsEdgeAmong}
 use Rattle.plan_support.specs.Spans.{AreSpans, AddsSpans, IsSpanned}
-use Rattle.plan_support.proofs.Spanned.{SpannedBelow, below_none, below_more, below_all_of, rows_apart}
+use Rattle.plan_support.proofs.LineRows.{SpannedBelow, below_none, below_more, below_all_of, rows_apart}
 use Rattle.plan_support.proofs.Multiples.{next_multiple, falls}
 use Rattle.plan_support.proofs.support_lines.spans.Goals as goal
 use mir.Syntax.{w32, w64}

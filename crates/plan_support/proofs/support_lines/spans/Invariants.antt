@@ -4,7 +4,7 @@ use Rattle.std.specs.Prelude.{unsigned_abs}
 use Rattle.std.specs.Int.{int_max}
 use Rattle.scad_geom.specs.Limits.{coordinate_limit}
 use Rattle.plan_support.specs.Multiple.{IsMultiple}
-use Rattle.plan_support.proofs.Spanned.{SpannedBelow}
+use Rattle.plan_support.proofs.LineRows.{SpannedBelow}
 use Rattle.plan_support.proofs.support_lines.spans.Given as goal
 
 abbrev pub invariant-lines : goal.invariant-lines

@@ -1,7 +1,7 @@
 use Rattle.std.proofs.Common.{◌≡◌, ◌++◌, ◌∷◌, [], rules, ℤ, pos, ◌+ℤ◌, ◌<ℤ◌}
 use lib.Signed.{◌≤ℤ◌}
 use Rattle.scad_geom.proofs.Casts.{casts}
-use Rattle.plan_support.proofs.United.{taken_joined, taken_pushed}
+use Rattle.plan_support.proofs.RunUnion.{taken_joined, taken_pushed}
 use Rattle.plan_support.proofs.union.take_in.Goals as goal
 
 pub returns-in_ok-push-2 : goal.returns-in_ok-push-2

@@ -7,7 +7,7 @@ use Rattle.std.proofs.lemmas.List.Sorted.{All-permutation, list_any-IsPermutatio
 use Rattle.plan_infill.specs.declared.run.Run.{Run}
 use Rattle.plan_support.specs.Unite.{StartInOrder}
 use Rattle.plan_support.specs.On.{has_place, is_on}
-use Rattle.plan_support.proofs.United.{united_more}
+use Rattle.plan_support.proofs.RunUnion.{united_more}
 use Rattle.plan_support.proofs.union.united.Goals as goal
 
 abbrev none : Run

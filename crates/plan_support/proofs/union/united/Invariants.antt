@@ -1,4 +1,4 @@
-use Rattle.plan_support.proofs.United.{UnitedUpTo}
+use Rattle.plan_support.proofs.RunUnion.{UnitedUpTo}
 use Rattle.plan_support.proofs.union.united.Given as goal
 
 abbrev pub invariant-runs : goal.invariant-runs

@@ -1,7 +1,7 @@
 use Rattle.std.proofs.Common.{◌≡◌, ◌+◌, vec_len, rules}
 use Rattle.std.proofs.lemmas.Result.{IfOk-at_ok}
 use Rattle.plan_support.specs.Shares.{IsPool}
-use Rattle.plan_support.proofs.Pooled.{pooled}
+use Rattle.plan_support.proofs.GroupPool.{pooled}
 use Rattle.plan_support.proofs.workers.+fn-pool-join+arg2+fn-pool-join+arg3+pool.Goals as goal
 
 pub together-requires-clause-a : goal.together-requires-clause-a

@@ -4,7 +4,7 @@ use Rattle.std.proofs.lemmas.Result.{err_from_is_err_and}
 use Rattle.gcode_text.specs.Reading.{lines}
 use Rattle.plan_verify.specs.Fields.{StaysInFields}
 use Rattle.plan_verify.proofs.Axes.{step_within}
-use Rattle.plan_verify.proofs.Told.{read_first, read_line, read_refusal, refused_is, some_left, with_few, read_end}
+use Rattle.plan_verify.proofs.MoveKnowledge.{read_first, read_line, read_refusal, refused_is, some_left, with_few, read_end}
 use Rattle.plan_verify.proofs.court.judge.Goals as goal
 
 pub lines-init : goal.lines-init

@@ -2,7 +2,7 @@
 use Rattle.std.proofs.Common.{◌+◌, ◌≤◌, length}
 use Rattle.gcode_text.specs.Reading.{lines}
 use Rattle.plan_verify.specs.Fields.{StaysInFields}
-use Rattle.plan_verify.proofs.Told.{IsRead}
+use Rattle.plan_verify.proofs.MoveKnowledge.{IsRead}
 use Rattle.plan_verify.proofs.court.judge.Given as goal
 
 abbrev pub invariant-lines : goal.invariant-lines

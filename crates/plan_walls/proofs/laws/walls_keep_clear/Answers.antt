@@ -1,4 +1,4 @@
-use Rattle.plan_walls.proofs.Kept.{walls_keep_clear}
+use Rattle.plan_walls.proofs.Distance.{walls_keep_clear}
 use Rattle.plan_walls.proofs.laws.walls_keep_clear.Goals as goal
 
 pub returns : goal.returns

@@ -1,4 +1,4 @@
-use Rattle.plan_walls.proofs.Kept.{walls_stay_apart}
+use Rattle.plan_walls.proofs.Distance.{walls_stay_apart}
 use Rattle.plan_walls.proofs.laws.walls_stay_apart.Goals as goal
 
 pub returns : goal.returns

@@ -8,9 +8,9 @@ use Rattle.scad_geom.specs.Within.{IsEdgeWithin}
 use Rattle.scad_geom.specs.Segment.{segments}
 use Rattle.scad_geom.specs.Balance.{IsBalanced}
 use Rattle.scad_geom.specs.Loop.{sides}
-use Rattle.plan_sides.proofs.Closed.{sides_balanced}
+use Rattle.plan_sides.proofs.Closure.{sides_balanced}
 use Rattle.plan_walls.specs.Walls.{AreWallsAlong}
-use Rattle.plan_walls.proofs.Kept.{walls_stay_apart, walls_keep_clear}
+use Rattle.plan_walls.proofs.Distance.{walls_stay_apart, walls_keep_clear}
 use Rattle.plan_sides.proofs.Within.{outlines_within}
 use Rattle.plan_walls.proofs.wall_loops.walls.Goals as goal
 

@@ -1,4 +1,4 @@
-use Rattle.print_laws.proofs.Printed.{plans_are_printed}
+use Rattle.print_laws.proofs.ProgramPrints.{plans_are_printed}
 use Rattle.print_laws.proofs.laws.plans_are_printed.Goals as goal
 
 pub returns : goal.returns

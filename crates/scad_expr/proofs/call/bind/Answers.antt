@@ -2,7 +2,7 @@ use Rattle.std.proofs.Common.{List, map, option_map, ap, ◌∙◌}
 use Rattle.scad_ast.specs.declared.expression.Arg.{Arg}
 use Rattle.scad_ast.specs.Scope.{parameter}
 use Rattle.scad_ast.specs.View.{arguments}
-use Rattle.scad_scope.specs.Stored.{env_at, envs}
+use Rattle.scad_scope.specs.FrameStore.{env_at, envs}
 use Rattle.scad_scope.specs.View.{children_stored}
 use Rattle.scad_machine.specs.Machine.{held, along_in, state_of}
 use Rattle.scad_value.specs.View.{data_in}

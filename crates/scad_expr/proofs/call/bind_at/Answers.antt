@@ -4,13 +4,13 @@ use Rattle.std.specs.Vec.Iter.{into_iter_items}
 use Rattle.scad_ast.specs.Scope.{parameter}
 use Rattle.scad_ast.specs.View.{arguments}
 use Rattle.scad_value.specs.View.{datum_of, data_in}
-use Rattle.scad_scope.specs.Stored.{env_at, envs}
+use Rattle.scad_scope.specs.FrameStore.{env_at, envs}
 use Rattle.scad_scope.specs.View.{children_stored}
 use Rattle.std.specs.Borrow.{Bor}
 use Rattle.scad_ast.specs.declared.statement.Param.{Param}
 use Rattle.scad_machine.specs.Machine.{held, along_in, state_of}
 use Rattle.scad_expr.specs.Meaning.{meaning}
-use Rattle.scad_machine.specs.Opened.{bound_in}
+use Rattle.scad_machine.specs.OpenFrames.{bound_in}
 use Rattle.scad_machine.specs.State.{gives}
 use Rattle.scad_machine.proofs.OpenFrames.{opened-bound, opened-again, call-done}
 use Rattle.scad_expr.proofs.Loops.{nothing-left, call-goes, call-opened, call-stops, call-begins, defaulted-end, same-state}

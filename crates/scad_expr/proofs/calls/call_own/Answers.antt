@@ -2,7 +2,7 @@ use Rattle.std.proofs.Common.{map, refl, sym, ◌∙◌}
 use Rattle.scad_ast.specs.Scope.{parameter}
 use Rattle.scad_ast.specs.View.{arguments}
 use Rattle.scad_value.specs.View.{data_in}
-use Rattle.scad_scope.specs.Stored.{envs}
+use Rattle.scad_scope.specs.FrameStore.{envs}
 use Rattle.scad_expr.specs.declared.frame.Opening.{Opening}
 use Rattle.scad_machine.specs.Machine.{held, state_of}
 use Rattle.scad_expr.specs.Stack.{rest, made_in}

@@ -4,7 +4,7 @@ use Rattle.scad_ast.specs.View.{arguments}
 use Rattle.scad_value.specs.Datum.{Datum}
 use Rattle.scad_value.specs.declared.value.Value.{Value}
 use Rattle.scad_value.specs.View.{datum_of, data_of}
-use Rattle.scad_scope.specs.Stored.{envs}
+use Rattle.scad_scope.specs.FrameStore.{envs}
 use Rattle.scad_machine.specs.Machine.{held, env_in, along_in, state_of}
 use Rattle.scad_expr.specs.Meaning.{meaning, called_own}
 use Rattle.scad_expr.specs.Stack.{rest, made_in}

@@ -5,7 +5,7 @@ use Rattle.scad_ast.specs.Scope.{parameter}
 use Rattle.scad_ast.specs.View.{expression_of}
 use Rattle.scad_machine.specs.Machine.{Held, held, env_in, along_in, state_of}
 use Rattle.scad_expr.specs.Meaning.{meaning}
-use Rattle.scad_machine.specs.Opened.{set_in_last}
+use Rattle.scad_machine.specs.OpenFrames.{set_in_last}
 use Rattle.scad_expr.specs.Stack.{Whole, fills, to_fill, entered, onto, rest, made_in}
 use Rattle.scad_machine.specs.State.{State, Action, and_then}
 use Rattle.scad_expr.proofs.Loops.{same-state}

@@ -4,7 +4,7 @@ use Rattle.scad_ast.specs.declared.statement.Param.{Param}
 use Rattle.scad_ast.specs.Scope.{parameter}
 use Rattle.scad_ast.specs.View.{expression_of}
 use Rattle.scad_machine.specs.Machine.{held, env_in, along_in}
-use Rattle.scad_machine.specs.Opened.{set_in_last}
+use Rattle.scad_machine.specs.OpenFrames.{set_in_last}
 use Rattle.scad_expr.specs.Stack.{fills}
 use Rattle.scad_machine.specs.State.{and_then}
 use Rattle.scad_expr.proofs.StackBegins.{fills-defined}

@@ -1,7 +1,7 @@
 use Rattle.std.proofs.Common.{◌≡◌, true, drop, None, option_map}
 use Rattle.scad_ast.specs.View.{arguments}
 use Rattle.scad_value.specs.View.{datum_of, data_of}
-use Rattle.scad_expr.specs.Tested.{test_from}
+use Rattle.scad_expr.specs.Condition.{test_from}
 use Rattle.scad_expr.proofs.requirements.test_of.Given as goal
 
 abbrev pub invariant-arguments : goal.invariant-arguments

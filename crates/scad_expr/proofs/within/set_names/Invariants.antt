@@ -2,7 +2,7 @@ use Rattle.std.proofs.Common.{◌≡◌, ◌+◌, ◌-◌, ◌*◌, ◌^◌, dro
 use Rattle.scad_ast.specs.View.{arguments}
 use Rattle.scad_machine.specs.Machine.{held, env_in, along_in, state_of}
 use Rattle.scad_expr.specs.Meaning.{meaning, bound_in_order}
-use Rattle.scad_machine.specs.Opened.{bound_in, outer, IsInner}
+use Rattle.scad_machine.specs.OpenFrames.{bound_in, outer, IsInner}
 use Rattle.scad_expr.proofs.within.set_names.Given as goal
 
 abbrev pub invariant-names : goal.invariant-names

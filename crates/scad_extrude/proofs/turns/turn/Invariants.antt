@@ -1,7 +1,7 @@
 use Rattle.std.proofs.Common.{◌≡◌, ◌++◌, drop}
 use Rattle.std.specs.List.{list_all}
 use Rattle.scad_geom.specs.PointRange.{is_in_range}
-use Rattle.scad_extrude.specs.Turned.{turned_ring}
+use Rattle.scad_extrude.specs.Revolution.{turned_ring}
 use Rattle.scad_extrude.proofs.turns.turn.Given as goal
 
 -- the points so far are in range, and with those left they are all

@@ -1,7 +1,7 @@
 use Rattle.std.specs.List.{list_all}
-use Rattle.scad_shapes.specs.Pushed.{ring_in_range}
+use Rattle.scad_shapes.specs.Pushes.{ring_in_range}
 use Rattle.scad_shapes.proofs.Solids.{made-more, ranged-more, ranged-fails, fails}
-use Rattle.scad_extrude.specs.Turned.{turned_ring_at, turned_rings}
+use Rattle.scad_extrude.specs.Revolution.{turned_ring_at, turned_rings}
 use Rattle.scad_extrude.proofs.turns.turns.Goals as goal
 
 pub turns-preserved : goal.turns-preserved

@@ -1,7 +1,7 @@
 use Rattle.std.proofs.Common.{◌≡◌, ◌++◌, ◌-◌, map}
 use Rattle.std.specs.List.{list_all, range_with_len}
-use Rattle.scad_shapes.specs.Pushed.{ring_in_range}
-use Rattle.scad_extrude.specs.Turned.{turned_ring_at, turned_rings}
+use Rattle.scad_shapes.specs.Pushes.{ring_in_range}
+use Rattle.scad_extrude.specs.Revolution.{turned_ring_at, turned_rings}
 use Rattle.scad_extrude.proofs.turns.turns.Given as goal
 
 -- the rings so far are in range, and with those left they are all

@@ -2,7 +2,7 @@
 use Rattle.std.proofs.Common.{rules, ◌≡◌, pos, sym, ◌∙◌, to_z, of_z}
 use Rattle.scad_geom.proofs.Casts.{casts}
 use Rattle.scad_geom.proofs.Crossing.{crossing, doubled_edge}
-use Rattle.scad_geom.proofs.Doubled.{turn_halves}
+use Rattle.scad_geom.proofs.CommonDivisor.{turn_halves}
 use Rattle.scad_geom.proofs.winding_number.crossing.Goals as goal
 use mir.Syntax.{w64}
 

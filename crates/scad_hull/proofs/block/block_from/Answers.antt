@@ -1,6 +1,6 @@
 -- The box grows round one more point.
 use Rattle.std.proofs.Common.{◌<◌, length, arith}
-use Rattle.scad_hull.proofs.Blocked.{more_round}
+use Rattle.scad_hull.proofs.PointBlocks.{more_round}
 use Rattle.scad_hull.proofs.block.block_from.Goals as goal
 
 pub points-preserved : goal.points-preserved

@@ -1,6 +1,6 @@
 -- One block more, and all of them.
 use Rattle.std.proofs.Common.{◌≤◌, length, arith}
-use Rattle.scad_hull.proofs.Blocked.{all_blocks, next_start, one_more, still_small}
+use Rattle.scad_hull.proofs.PointBlocks.{all_blocks, next_start, one_more, still_small}
 use Rattle.scad_hull.proofs.block.blocks_of.Goals as goal
 
 pub starts-preserved : goal.starts-preserved

@@ -1,6 +1,6 @@
 -- The points of the block lie inside as its box does.
 use Rattle.std.proofs.Common.{◌≡◌, ◌%◌, arith}
-use Rattle.scad_hull.proofs.Blocked.{inner_points}
+use Rattle.scad_hull.proofs.PointBlocks.{inner_points}
 use Rattle.scad_hull.proofs.cloud.inner_end.Goals as goal
 
 pub returns-clause-inner : goal.returns-clause-inner

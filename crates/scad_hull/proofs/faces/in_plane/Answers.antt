@@ -1,6 +1,6 @@
 -- The points of a block that lies inside are none of the plane.
 use Rattle.scad_hull.specs.Faces.{in_plane}
-use Rattle.scad_hull.proofs.Skipped.{found_past}
+use Rattle.scad_hull.proofs.DeepPoints.{found_past}
 use Rattle.scad_hull.proofs.faces.in_plane.Goals as goal
 
 pub points-preserved-then-end-i : goal.points-preserved-then-end-i

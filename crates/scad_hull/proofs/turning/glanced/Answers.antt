@@ -1,5 +1,5 @@
 -- The plane goes on to a point outside of it.
-use Rattle.scad_hull.proofs.Turned.{glance_at}
+use Rattle.scad_hull.proofs.OutermostPlane.{glance_at}
 use Rattle.scad_hull.proofs.turning.glanced.Goals as goal
 
 pub starts-preserved : goal.starts-preserved

@@ -1,6 +1,6 @@
 -- One more point: it lies inside, or the plane goes to it; and the points of a block that lies inside.
 use Rattle.std.proofs.Common.{arith}
-use Rattle.scad_hull.proofs.Turned.{more_at, passed}
+use Rattle.scad_hull.proofs.OutermostPlane.{more_at, passed}
 use Rattle.scad_hull.proofs.turning.outermost.Goals as goal
 
 pub points-preserved-then-end-i : goal.points-preserved-then-end-i

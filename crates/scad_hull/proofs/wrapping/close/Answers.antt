@@ -2,7 +2,7 @@
 use Rattle.std.proofs.Common.{sym, ◌∙◌}
 use Rattle.std.proofs.lemmas.Result.{on_ok_weaker}
 use Rattle.scad_hull.specs.Wrapping.{rings_of, HasSide}
-use Rattle.scad_hull.proofs.Found.{key_had, extends_itself, added, extended, back_added, three_ok}
+use Rattle.scad_hull.proofs.MoreFaces.{key_had, extends_itself, added, extended, back_added, three_ok}
 use Rattle.scad_hull.proofs.wrapping.close.Goals as goal
 
 pub returns-then-contains : goal.returns-then-contains

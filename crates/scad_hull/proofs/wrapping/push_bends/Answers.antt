@@ -1,5 +1,5 @@
 -- A ring of fewer than two corners has no bends.
-use Rattle.scad_hull.proofs.Found.{no_bends}
+use Rattle.scad_hull.proofs.MoreFaces.{no_bends}
 use Rattle.scad_hull.proofs.wrapping.push_bends.Goals as goal
 
 pub returns-in_default : goal.returns-in_default

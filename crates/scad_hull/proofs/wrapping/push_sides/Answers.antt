@@ -1,5 +1,5 @@
 -- A ring without corners has no sides.
-use Rattle.scad_hull.proofs.Found.{no_sides}
+use Rattle.scad_hull.proofs.MoreFaces.{no_sides}
 use Rattle.scad_hull.proofs.wrapping.push_sides.Goals as goal
 
 pub returns-in_default : goal.returns-in_default

@@ -1,7 +1,7 @@
 -- The first face, one bend more, and all of them.
 use Rattle.std.proofs.Common.{◌<◌, length, arith}
 use Rattle.scad_hull.specs.Wrapping.{rings_of}
-use Rattle.scad_hull.proofs.Found.{none_at, added, one_there, bend_side, still_some, still_upto, more_backs, first_in, wrapped}
+use Rattle.scad_hull.proofs.MoreFaces.{none_at, added, one_there, bend_side, still_some, still_upto, more_backs, first_in, wrapped}
 use Rattle.scad_hull.proofs.wrapping.wrap.Goals as goal
 
 pub bends-init : goal.bends-init

@@ -13,7 +13,7 @@ use Rattle.scad_expr.specs.State.{Outcome}
 use Rattle.scad_inst.specs.declared.operation.Operation.TheVariants.{Unite}
 use Rattle.scad_inst.specs.declared.space.Where.{Where}
 use Rattle.scad_inst.specs.Frames.{below_of}
-use Rattle.scad_inst.specs.Made.{argued}
+use Rattle.scad_inst.specs.Products.{argued}
 use Rattle.scad_inst.specs.Meaning.{built_in, combined}
 use Rattle.scad_inst.specs.Stack.{onward}
 use Rattle.scad_inst.specs.Where.{inside_linear}

@@ -3,7 +3,7 @@ use Rattle.std.proofs.Common.{ap, sym, ◌∙◌}
 use Rattle.scad_ast.specs.Scope.{items}
 use Rattle.scad_ast.specs.View.{arguments}
 use Rattle.scad_value.specs.View.{data_in}
-use Rattle.scad_scope.specs.Stored.{envs}
+use Rattle.scad_scope.specs.FrameStore.{envs}
 use Rattle.scad_expr.specs.Machine.{Held, held, env_in, along_in, state_of}
 use Rattle.scad_inst.specs.Frames.{below_of}
 use Rattle.scad_inst.specs.Portions.{own_opened}

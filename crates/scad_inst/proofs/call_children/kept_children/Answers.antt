@@ -1,5 +1,5 @@
 use Rattle.std.proofs.Common.{◌≡◌, None, ◌<◌, length, sym, ◌∙◌, arith}
-use Rattle.scad_scope.specs.Stored.{stored_at}
+use Rattle.scad_scope.specs.FrameStore.{stored_at}
 use Rattle.scad_scope.specs.View.{stored}
 use Rattle.scad_expr.specs.Machine.{held, env_in}
 use Rattle.scad_inst.proofs.KeptRound.{kept-round_past}

@@ -1,7 +1,7 @@
 -- The frames of the children's scope are opened, and those that are chosen are at work.
 use Rattle.std.proofs.Common.{◌∙◌}
 use Rattle.scad_ast.specs.Scope.{items}
-use Rattle.scad_scope.specs.Stored.{env_at, envs}
+use Rattle.scad_scope.specs.FrameStore.{env_at, envs}
 use Rattle.scad_modules.specs.View.{datum_in}
 use Rattle.scad_expr.specs.Machine.{held, state_of}
 use Rattle.scad_inst.specs.Stack.{rest, made_in}

@@ -1,9 +1,9 @@
 use Rattle.std.proofs.Common.{◌≡◌, drop}
 use Rattle.scad_ast.specs.View.{arguments}
 use Rattle.scad_expr.specs.Machine.{held, state_of}
-use Rattle.scad_expr.specs.Opened.{bound_in, outer, IsInner}
+use Rattle.scad_expr.specs.OpenFrames.{bound_in, outer, IsInner}
 use Rattle.scad_value.specs.View.{data_of}
-use Rattle.scad_inst.specs.Opened.{dollars_of}
+use Rattle.scad_inst.specs.OpenFrames.{dollars_of}
 use Rattle.scad_inst.proofs.frames.set_dollars.Given as goal
 
 abbrev pub invariant-arguments : goal.invariant-arguments

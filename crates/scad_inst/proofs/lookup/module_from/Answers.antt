@@ -1,5 +1,5 @@
 use Rattle.std.proofs.Common.{◌≡◌, None, Some, ◌<◌, length, option_map, sym, ap, ◌∙◌, arith}
-use Rattle.scad_scope.specs.Stored.{stored_at}
+use Rattle.scad_scope.specs.FrameStore.{stored_at}
 use Rattle.scad_scope.specs.View.{stored}
 use Rattle.scad_inst.specs.Modules.{defined_in}
 use Rattle.scad_inst.specs.View.{module_at}

@@ -1,5 +1,5 @@
 use Rattle.std.proofs.Common.{◌≡◌}
-use Rattle.scad_scope.specs.Stored.{env_at, envs}
+use Rattle.scad_scope.specs.FrameStore.{env_at, envs}
 use Rattle.scad_scope.specs.View.{stored}
 use Rattle.scad_inst.specs.Modules.{module_named}
 use Rattle.scad_inst.proofs.lookup.module_from.Given as goal

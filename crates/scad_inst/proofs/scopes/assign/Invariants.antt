@@ -1,8 +1,8 @@
 use Rattle.std.proofs.Common.{◌≡◌, drop}
 use Rattle.scad_ast.specs.Scope.{items}
-use Rattle.scad_scope.specs.Stored.{env_at, envs}
+use Rattle.scad_scope.specs.FrameStore.{env_at, envs}
 use Rattle.scad_expr.specs.Machine.{held, along_in, state_of}
-use Rattle.scad_expr.specs.Opened.{bound_in, left}
+use Rattle.scad_expr.specs.OpenFrames.{bound_in, left}
 use Rattle.scad_inst.specs.Frames.{below_of, IsScope}
 use Rattle.scad_inst.specs.Meaning.{assigned}
 use Rattle.scad_inst.proofs.scopes.assign.Given as goal

@@ -3,7 +3,7 @@ use Rattle.std.proofs.Common.{sym, ap, ◌∙◌}
 use Rattle.std.proofs.lemmas.Result.{err_from_is_err_and}
 use Rattle.scad_ast.specs.Scope.{items}
 use Rattle.scad_expr.specs.Machine.{held, state_of}
-use Rattle.scad_expr.specs.Opened.{bound_in}
+use Rattle.scad_expr.specs.OpenFrames.{bound_in}
 use Rattle.scad_expr.specs.State.{gives}
 use Rattle.scad_expr.proofs.Loops.{same-state}
 use Rattle.scad_inst.proofs.ScopeFrames.{depth-left, opened-all, scope-opens, scope-stops}

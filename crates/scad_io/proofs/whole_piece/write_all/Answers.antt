@@ -1,7 +1,7 @@
 -- What is sent piece by piece is the whole, in its order.
 use Rattle.std.proofs.Common.{rules, arith, ◌<◌, length}
 use Rattle.scad_io.proofs.Pieces.{goes_on_by, stops_here, stops_at_zero}
-use Rattle.scad_io.proofs.Sent.{none_left}
+use Rattle.scad_io.proofs.Output.{none_left}
 use Rattle.scad_io.proofs.whole_piece.write_all.Goals as goal
 
 pub returns-in_err-n-clause-err : goal.returns-in_err-n-clause-err

@@ -1,6 +1,6 @@
 -- What is sent and what is left to send are the whole.
 use Rattle.std.proofs.Common.{◌≡◌, ◌≤◌, [], length}
-use Rattle.scad_io.specs.Sent.{SentBut}
+use Rattle.scad_io.specs.Output.{SentBut}
 use Rattle.scad_io.proofs.whole_piece.write_all.Given as goal
 
 abbrev pub invariant-pieces : goal.invariant-pieces

@@ -1,6 +1,6 @@
 -- A file that is read to its end is read whole, up to the limit.
 use Rattle.std.proofs.lemmas.Result.{err_from_is_err_and}
-use Rattle.scad_io.proofs.Taken.{stops}
+use Rattle.scad_io.proofs.Input.{stops}
 use Rattle.scad_io.proofs.whole_text.read_all.Goals as goal
 
 pub returns-in_err-n-clause-fault : goal.returns-in_err-n-clause-fault

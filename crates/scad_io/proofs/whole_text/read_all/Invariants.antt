@@ -1,7 +1,7 @@
 -- What is read and what is left to read are the file.
 use Rattle.std.proofs.Common.{◌≡◌, ◌≤◌, ◌+◌, ◌-◌, ◌^◌, vec_len}
 use Rattle.std.specs.Prelude.{IfSome}
-use Rattle.scad_io.proofs.Taken.{ReadSoFar}
+use Rattle.scad_io.proofs.Input.{ReadSoFar}
 use Rattle.scad_io.proofs.whole_text.read_all.Given as goal
 
 abbrev pub invariant-pieces : goal.invariant-pieces

@@ -1,5 +1,5 @@
 use Rattle.std.proofs.Common.{◌≡◌, ◌+◌, ◌-◌, ◌≤◌, drop, length}
-use Rattle.scad_lex.specs.Quoted.{behind, quoted_from}
+use Rattle.scad_lex.specs.StringLiteral.{behind, quoted_from}
 use Rattle.scad_lex.proofs.string_body.read_quoted.Given as goal
 
 -- what stands at this place, with the characters so far before it, is what stands behind the quote

@@ -1,6 +1,6 @@
 use Rattle.std.proofs.Common.{◌≡◌, ◌++◌, drop, eqb}
 use Rattle.scad_ast.specs.View.{arguments}
-use Rattle.scad_machine.specs.Printed.{joined, echo_line}
+use Rattle.scad_machine.specs.EchoLines.{joined, echo_line}
 use Rattle.scad_value.specs.View.{data_of}
 use Rattle.scad_machine.proofs.echo_lines.echo_line.Given as goal
 

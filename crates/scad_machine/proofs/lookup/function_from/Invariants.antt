@@ -1,5 +1,5 @@
 use Rattle.std.proofs.Common.{◌≡◌}
-use Rattle.scad_scope.specs.Stored.{env_at, envs}
+use Rattle.scad_scope.specs.FrameStore.{env_at, envs}
 use Rattle.scad_scope.specs.View.{stored}
 use Rattle.scad_machine.specs.Functions.{function_named}
 use Rattle.scad_machine.proofs.lookup.function_from.Given as goal

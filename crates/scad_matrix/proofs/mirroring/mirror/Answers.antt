@@ -1,6 +1,6 @@
 use Rattle.std.proofs.Common.{FitsSigned}
 use Rattle.std.proofs.lemmas.Int.{to_z-of_z}
-use Rattle.scad_matrix.proofs.Reflected.{twice-xy, twice-yz, twice-zx}
+use Rattle.scad_matrix.proofs.Reflection.{twice-xy, twice-yz, twice-zx}
 use Rattle.scad_matrix.proofs.mirroring.mirror.Goals as goal
 use mir.Syntax.{w128}
 

@@ -2,7 +2,7 @@ use Rattle.std.proofs.Common.{pos, neg_ℤ, ◌-ℤ◌, FitsSigned, arith, ap, s
 use Rattle.std.proofs.lemmas.Int.{ints, to_z-of_z}
 use Rattle.scad_num.specs.Rounding.{half_up}
 use Rattle.scad_base.proofs.Integers.{zero_minus}
-use Rattle.scad_matrix.proofs.Reflected.{half_away-below, half_away-above}
+use Rattle.scad_matrix.proofs.Reflection.{half_away-below, half_away-above}
 use Rattle.scad_matrix.proofs.mirroring.rounded.Goals as goal
 use mir.Syntax.{w64}
 

@@ -1,6 +1,6 @@
 use Rattle.std.proofs.Common.{◌≤◌, pos, subst, sym, arith, ap, ◌∙◌}
 use Rattle.std.proofs.lemmas.Int.{ints}
-use Rattle.scad_matrix.proofs.Reflected.{half_up-small}
+use Rattle.scad_matrix.proofs.Reflection.{half_up-small}
 use Rattle.scad_matrix.proofs.mirroring.rounded_size.Goals as goal
 
 small : (c : goal.After-half_up) → c.half_up.result ≤ 1000000

@@ -2,9 +2,9 @@
 use Rattle.std.proofs.Common.{sym, ◌∙◌, arith, pos}
 use Rattle.std.proofs.lemmas.Int.{ints}
 use Rattle.scad_geom.specs.Point.{whole}
-use Rattle.scad_near.proofs.Held.{octagon_holds_origin}
+use Rattle.scad_near.proofs.RegionTurns.{octagon_holds_origin}
 use Rattle.scad_near.proofs.Apart.{apart}
-use Rattle.scad_near.proofs.Crossed.{near_at_end, come_near_back, near_if_cross}
+use Rattle.scad_near.proofs.EdgeCrossing.{near_at_end, come_near_back, near_if_cross}
 use Rattle.scad_near.proofs.edges.near.Goals as goal
 
 pub returns-then-comes_to_end-clause-near : goal.returns-then-comes_to_end-clause-near

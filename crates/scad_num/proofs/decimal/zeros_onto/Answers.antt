@@ -1,6 +1,6 @@
 -- A value with zeros behind it, up to a cap, is found zero by zero.
 use Rattle.std.proofs.Common.{◌*◌, ◌-◌, ◌^◌, min, arith, ap, ◌∙◌}
-use Rattle.scad_num.proofs.Capped.{min-tens, min-tens_past}
+use Rattle.scad_num.proofs.Caps.{min-tens, min-tens_past}
 use Rattle.scad_num.proofs.decimal.zeros_onto.Goals as goal
 
 pub loop-left-preserved : goal.loop-left-preserved

@@ -6,7 +6,7 @@ use Rattle.scad_num.specs.Literal.{whole_digits, decimal_digits, mantissa_len, l
 use Rattle.scad_num.specs.Number.{number_of}
 use Rattle.scad_num.proofs.Exponent.{moves_one_way}
 use Rattle.scad_num.proofs.Number.{number_of-min}
-use Rattle.scad_num.proofs.Scaled.{half_up-far, AllDigits-append}
+use Rattle.scad_num.proofs.Scale.{half_up-far, AllDigits-append}
 use Rattle.scad_num.proofs.literal.parse_decimal.Goals as goal
 
 pub returns : goal.returns

@@ -1,6 +1,6 @@
 -- The digits that count and the next one decide the rounding.
 use Rattle.std.proofs.Common.{◌≡◌, ◌+◌, ◌-◌, ◌/◌, ◌++◌, length, min, sym, ap, ◌∙◌}
-use Rattle.scad_num.proofs.Scaled.{half_up-scaled, leading, leading-by_parts, min-rounded, AllDigits-append}
+use Rattle.scad_num.proofs.Scale.{half_up-scaled, leading, leading-by_parts, min-rounded, AllDigits-append}
 use Rattle.scad_num.proofs.literal.rounded_millionths.Goals as goal
 
 pub returns-clause-value : goal.returns-clause-value

@@ -3,7 +3,7 @@ use Rattle.std.proofs.Common.{rules, ◌≡◌, sym, ◌∙◌}
 use Rattle.scad_geom.specs.Half.{doubled}
 use Rattle.scad_geom.specs.Line.{low, high}
 use Rattle.scad_geom.proofs.Casts.{casts}
-use Rattle.scad_ring.proofs.Decided.{SeenPasses, edge_meets, edge_is_clear}
+use Rattle.scad_ring.proofs.EdgeTests.{SeenPasses, edge_meets, edge_is_clear}
 use Rattle.scad_ring.proofs.meeting.octagon_meets.Goals as goal
 
 pub returns-clause-meets : goal.returns-clause-meets

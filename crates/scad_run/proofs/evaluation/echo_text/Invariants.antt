@@ -1,5 +1,5 @@
 use Rattle.std.proofs.Common.{◌≡◌, take}
-use Rattle.scad_run.specs.Told.{echo_text}
+use Rattle.scad_run.specs.SourceReport.{echo_text}
 use Rattle.scad_run.proofs.evaluation.echo_text.Given as goal
 
 abbrev pub invariant-lines : goal.invariant-lines

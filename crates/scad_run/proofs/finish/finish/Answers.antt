@@ -2,8 +2,8 @@ use Rattle.std.proofs.Common.{rules}
 use Rattle.slice_work.specs.declared.want.Want.TheVariants.{Plan as IsPlan}
 use Rattle.scad_tree.specs.View.{solid_of}
 use Rattle.scad_slice.proofs.SomeParts.{parts_are_there}
-use Rattle.scad_run.specs.Told.{sample_script}
-use Rattle.scad_run.proofs.Finished.{slice_finishes, plan_finishes, sample_finishes}
+use Rattle.scad_run.specs.SourceReport.{sample_script}
+use Rattle.scad_run.proofs.CommandEnd.{slice_finishes, plan_finishes, sample_finishes}
 use Rattle.scad_run.proofs.SampleEnds.{no_fault_rises}
 use Rattle.scad_run.proofs.finish.finish.Goals as goal
 

@@ -1,4 +1,4 @@
-use Rattle.scad_run.proofs.Answered as answered
+use Rattle.scad_run.proofs.Uniqueness as answered
 use Rattle.scad_run.proofs.laws.answers_are_one.Goals as goal
 
 pub returns-clause-there : goal.returns-clause-there

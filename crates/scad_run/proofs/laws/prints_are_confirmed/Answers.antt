@@ -1,4 +1,4 @@
-use Rattle.scad_run.proofs.Confirmed as lemma
+use Rattle.scad_run.proofs.Approval as lemma
 use Rattle.scad_run.proofs.laws.prints_are_confirmed.Goals as goal
 
 pub returns : goal.returns

@@ -4,11 +4,11 @@ use Rattle.scad_script.specs.Run.{RunsTo}
 use Rattle.scad_script.specs.Names.{IsOrderly}
 use Rattle.scad_script.specs.Script.{Script}
 use Rattle.scad_script.specs.Promises.{Promised, IsWriteFault, IsMemoryLine, AreFronts}
-use Rattle.scad_script.proofs.Promised.{statuses_keep_promises}
-use Rattle.scad_script.proofs.Faulted.{report_sound}
+use Rattle.scad_script.proofs.StatusPromises.{statuses_keep_promises}
+use Rattle.scad_script.proofs.DeskFaults.{report_sound}
 use Rattle.scad_script.proofs.Fronts.{files_are_fronts}
-use Rattle.scad_script.proofs.Handed.{names_are_given}
-use Rattle.scad_script.proofs.Created.{created_for_bytes}
+use Rattle.scad_script.proofs.HandOver.{names_are_given}
+use Rattle.scad_script.proofs.Creation.{created_for_bytes}
 use Rattle.scad_run.specs.Words.{given_by}
 use Rattle.scad_words.specs.Job.{job_of}
 use Rattle.scad_run.specs.Answer.{Findings, script_of, AreFound, OnScript}
@@ -16,16 +16,16 @@ use Rattle.scad_run.specs.Inputs.{Inputs, source_in}
 use Rattle.scad_run.specs.Playing.{Works}
 use Rattle.scad_run.specs.Promises.{Refuses}
 use Rattle.scad_run.proofs.Orderly.{orderly}
-use Rattle.scad_run.proofs.Answered.{answers_are_there, answers_are_one, PromisedOn, answers}
-use Rattle.scad_run.proofs.Judged.{judges, read_fault, write_fault, memory_line}
-use Rattle.scad_run.proofs.Printed.{holds_tree}
+use Rattle.scad_run.proofs.Uniqueness.{answers_are_there, answers_are_one, PromisedOn, answers}
+use Rattle.scad_run.proofs.StatusMeaning.{judges, read_fault, write_fault, memory_line}
+use Rattle.scad_run.proofs.WrittenFiles.{holds_tree}
 use Rattle.scad_run.proofs.Printing.{adds_print, headline}
-use Rattle.scad_run.proofs.Verified.{verifies_moves}
-use Rattle.scad_run.proofs.Confirmed.{confirms}
+use Rattle.scad_run.proofs.Assurance.{verifies_moves}
+use Rattle.scad_run.proofs.Approval.{confirms}
 use Rattle.scad_run.proofs.Cutting.{cuts_short}
 use Rattle.scad_run.proofs.ByGrammar.{sources_go_by_grammar}
-use Rattle.scad_run.proofs.Refused.{leaves, refuses_so}
-use Rattle.scad_run.proofs.Completed.{completes}
+use Rattle.scad_run.proofs.Refusals.{leaves, refuses_so}
+use Rattle.scad_run.proofs.Completion.{completes}
 use Rattle.scad_run.proofs.whole_run.run.Given.{Over}
 use Rattle.scad_run.proofs.whole_run.run.Goals as goal
 

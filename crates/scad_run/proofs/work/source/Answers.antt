@@ -1,5 +1,5 @@
 use Rattle.std.proofs.Common.{rules}
-use Rattle.scad_run.proofs.Finished.{gets_model}
+use Rattle.scad_run.proofs.CommandEnd.{gets_model}
 use Rattle.scad_run.proofs.work.source.Goals as goal
 
 pub returns-in-Check-clause-gets : goal.returns-in-Check-clause-gets

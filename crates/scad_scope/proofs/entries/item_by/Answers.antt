@@ -1,6 +1,6 @@
 use Rattle.std.proofs.Common.{◌≡◌, length, get_or, IfSome, ap, ◌∙◌, subst}
 use Rattle.std.specs.Prelude.{nat_lt, option_and_then}
-use Rattle.scad_scope.specs.Tabled.{item_at}
+use Rattle.scad_scope.specs.Tables.{item_at}
 use Rattle.scad_scope.proofs.Tables.{place-got, item-lent}
 use Rattle.scad_scope.proofs.entries.item_by.Goals as goal
 

@@ -1,7 +1,7 @@
 use Rattle.std.proofs.Common.{◌≡◌, drop, None, option_map}
 use Rattle.scad_ast.specs.Scope.{item_of, items}
 use Rattle.scad_scope.specs.Definitions.{last_item}
-use Rattle.scad_scope.specs.Tabled.{word_in}
+use Rattle.scad_scope.specs.Tables.{word_in}
 use Rattle.scad_scope.proofs.entries.last_item.Given as goal
 
 abbrev pub invariant-items : goal.invariant-items

@@ -1,6 +1,6 @@
 use Rattle.std.proofs.Common.{ap, ◌∙◌, map}
-use Rattle.scad_scope.specs.Noted.{noted, placed}
-use Rattle.scad_scope.proofs.Noted.{placed_insert}
+use Rattle.scad_scope.specs.Notes.{noted, placed}
+use Rattle.scad_scope.proofs.Notes.{placed_insert}
 use Rattle.scad_scope.proofs.entries.note.Goals as goal
 
 pub returns-in_ok-insert : goal.returns-in_ok-insert

@@ -1,7 +1,7 @@
 use Rattle.std.proofs.Common.{◌≡◌, map, drop}
 use Rattle.scad_ast.specs.Scope.{items}
-use Rattle.scad_scope.specs.Noted.{placed, noted_all}
-use Rattle.scad_scope.specs.Tabled.{word_in, words_by, tabled}
+use Rattle.scad_scope.specs.Notes.{placed, noted_all}
+use Rattle.scad_scope.specs.Tables.{word_in, words_by, tabled}
 use Rattle.scad_scope.proofs.entries.rows_of.Given as goal
 
 abbrev pub invariant-items : goal.invariant-items

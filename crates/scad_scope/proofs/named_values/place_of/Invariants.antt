@@ -1,6 +1,6 @@
 use Rattle.std.proofs.Common.{◌≡◌, ◌+◌, map, drop}
 use Rattle.scad_scope.specs.Names.{place_in}
-use Rattle.scad_scope.specs.Held.{named}
+use Rattle.scad_scope.specs.FrameNames.{named}
 use Rattle.scad_scope.proofs.named_values.place_of.Given as goal
 
 abbrev pub invariant-entries : goal.invariant-entries

@@ -1,5 +1,5 @@
 use Rattle.std.proofs.Common.{◌≡◌, ◌+◌, map, drop}
-use Rattle.scad_scope.specs.Placed.{number_in, place_in_entry}
+use Rattle.scad_scope.specs.ListedValues.{number_in, place_in_entry}
 use Rattle.scad_scope.proofs.place_search.number_of.Given as goal
 
 abbrev pub invariant-entries : goal.invariant-entries

@@ -1,5 +1,5 @@
 use Rattle.std.proofs.Common.{◌≡◌, [], map, drop}
-use Rattle.scad_scope.specs.Noted.{placed, noted_all}
+use Rattle.scad_scope.specs.Notes.{placed, noted_all}
 use Rattle.scad_scope.proofs.Rows.{assigned_in}
 use Rattle.scad_scope.proofs.variables.bindings.Given as goal
 

@@ -1,5 +1,5 @@
 use Rattle.std.proofs.Common.{◌≡◌, map, ◌++◌}
-use Rattle.scad_scope.specs.Noted.{as_binding}
+use Rattle.scad_scope.specs.Notes.{as_binding}
 use Rattle.scad_scope.proofs.variables.listed.Given as goal
 
 abbrev pub invariant-names : goal.invariant-names

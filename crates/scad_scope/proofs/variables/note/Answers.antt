@@ -1,8 +1,8 @@
 use Rattle.std.proofs.Common.{ap, sym, ◌∙◌, map}
 use Rattle.scad_ast.specs.Scope.{item_of}
-use Rattle.scad_scope.specs.Assigned.{assigned}
-use Rattle.scad_scope.specs.Noted.{with_place, noted, placed}
-use Rattle.scad_scope.proofs.Noted.{placed_insert}
+use Rattle.scad_scope.specs.Assignments.{assigned}
+use Rattle.scad_scope.specs.Notes.{with_place, noted, placed}
+use Rattle.scad_scope.proofs.Notes.{placed_insert}
 use Rattle.scad_scope.proofs.variables.note.Goals as goal
 
 pub returns-in_ok-insert : goal.returns-in_ok-insert

@@ -1,4 +1,4 @@
-use Rattle.scad_script.proofs.Created as lemma
+use Rattle.scad_script.proofs.Creation as lemma
 use Rattle.scad_script.proofs.laws.created_for_bytes.Goals as goal
 
 pub returns : goal.returns

@@ -1,4 +1,4 @@
-use Rattle.scad_script.proofs.Handed as lemma
+use Rattle.scad_script.proofs.HandOver as lemma
 use Rattle.scad_script.proofs.laws.names_are_given.Goals as goal
 
 pub returns : goal.returns

@@ -2,7 +2,7 @@ use Rattle.std.proofs.Common.{◌≡◌, Err, length, map, ap, subst, ◌∙◌}
 use Rattle.scad_base.specs.Memory.{UnlessMemory}
 use Rattle.scad_solid.specs.Solid.{fans, corners, solid_of, is_memory}
 use Rattle.scad_shapes.proofs.Solids.{solid_of-named, closed_as, closed_only, open_as, never_far, never_bad}
-use Rattle.scad_shapes.proofs.Counted.{polyhedron_count}
+use Rattle.scad_shapes.proofs.TriangleCount.{polyhedron_count}
 use Rattle.scad_shapes.proofs.polyhedra.bounded.Goals as goal
 
 pub returns-in-Ok-clause-solid : goal.returns-in-Ok-clause-solid

@@ -1,6 +1,6 @@
 use Rattle.std.proofs.Common.{◌≡◌, ◌++◌, ◌-◌, map}
 use Rattle.std.specs.List.{list_all, range_with_len}
-use Rattle.scad_shapes.specs.Pushed.{ring_in_range}
+use Rattle.scad_shapes.specs.Pushes.{ring_in_range}
 use Rattle.scad_shapes.specs.Rings.{sphere_ring_at, sphere_rings_of}
 use Rattle.scad_shapes.proofs.spheres.rings.Given as goal
 

@@ -4,7 +4,7 @@ use Rattle.plan_support.specs.Rows.{Row}
 use Rattle.scad_tree.specs.View.{solid_of}
 use Rattle.slice_work.specs.declared.want.Want.TheVariants.{Plan}
 use Rattle.scad_slice.specs.Covers.{IsPassedByAll}
-use Rattle.scad_slice.proofs.Surveyed.{covers_are, too_many, one_over}
+use Rattle.scad_slice.proofs.Survey.{covers_are, too_many, one_over}
 use Rattle.scad_slice.proofs.covers.covers_below.Goals as goal
 
 pub returns-in-Ok-clause-fits : goal.returns-in-Ok-clause-fits

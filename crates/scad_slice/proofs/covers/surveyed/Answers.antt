@@ -2,7 +2,7 @@ use Rattle.std.proofs.Common.{None, ap}
 use Rattle.std.specs.Option.{option_copied}
 use Rattle.scad_tree.specs.View.{solid_of}
 use Rattle.slice_work.specs.declared.want.Want.TheVariants.{Outlines}
-use Rattle.scad_slice.proofs.Surveyed.{drawing, drawing_same, surveyed_if, over_if}
+use Rattle.scad_slice.proofs.Survey.{drawing, drawing_same, surveyed_if, over_if}
 use Rattle.scad_slice.proofs.covers.surveyed.Goals as goal
 
 pub returns-clause-rows : goal.returns-clause-rows

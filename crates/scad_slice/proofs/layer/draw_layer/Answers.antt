@@ -8,8 +8,8 @@ use Rattle.slice_layer.specs.Refusal.{IsRefusal}
 use Rattle.slice_work.specs.declared.layer.LayerEnd.TheVariants.{Over}
 use Rattle.scad_slice.specs.Budgets.{edge_limit, edges_passed, crossings_passed}
 use Rattle.scad_slice.specs.Covers.{CoversFit}
-use Rattle.scad_slice.specs.Drawn.{DrawsLayer, LaysOut}
-use Rattle.scad_slice.proofs.Drawn.{before_fits, draws_within, draws_edges, draws_crossings}
+use Rattle.scad_slice.specs.LayerEnd.{DrawsLayer, LaysOut}
+use Rattle.scad_slice.proofs.LayerDrawing.{before_fits, draws_within, draws_edges, draws_crossings}
 use Rattle.scad_slice.proofs.layer.draw_layer.Goals as goal
 
 pub returns-in-Ok-clause-end : goal.returns-in-Ok-clause-end

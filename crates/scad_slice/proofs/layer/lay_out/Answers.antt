@@ -1,6 +1,6 @@
 use Rattle.std.proofs.Common.{refl}
 use Rattle.scad_tree.specs.View.{solid_of}
-use Rattle.scad_slice.proofs.Drawn.{lays_none}
+use Rattle.scad_slice.proofs.LayerDrawing.{lays_none}
 use Rattle.scad_slice.proofs.layer.lay_out.Goals as goal
 
 pub returns-in-Outlines-clause-end : goal.returns-in-Outlines-clause-end

@@ -4,7 +4,7 @@ use Rattle.scad_tree.specs.View.{solid_of}
 use Rattle.plan_layer.specs.declared.fault.PlanFault.TheVariants.{Edges, Crossings, Moves}
 use Rattle.scad_slice.specs.Budgets.{edges_passed, crossings_passed, moves_passed}
 use Rattle.scad_slice.specs.Supports.{AreSupportsOf}
-use Rattle.scad_slice.proofs.Drawn.{lays_plan, lays_refused}
+use Rattle.scad_slice.proofs.LayerDrawing.{lays_plan, lays_refused}
 use Rattle.scad_slice.proofs.layer.plan_out.Goals as goal
 
 pub returns-in-Ok-clause-end : goal.returns-in-Ok-clause-end

@@ -4,7 +4,7 @@ use Rattle.scad_script.proofs.Layers.{as_left}
 use Rattle.scad_tree.specs.View.{solid_of}
 use Rattle.slice_work.specs.Part.{layer_limit}
 use Rattle.scad_slice.specs.Budgets.{layer_count}
-use Rattle.scad_slice.proofs.Parted.{slice_few}
+use Rattle.scad_slice.proofs.ScriptCourse.{slice_few}
 use Rattle.scad_slice.proofs.Ending.{slice_ends}
 use Rattle.scad_slice.proofs.Stopping.{stops_all}
 use Rattle.scad_slice.proofs.slice_command.slice.Goals as goal

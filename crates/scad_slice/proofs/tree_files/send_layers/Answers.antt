@@ -4,14 +4,14 @@ use Rattle.scad_fault.specs.declared.budget.Budget.{Budget}
 use Rattle.scad_script.specs.declared.stop.Stop.{Stop}
 use Rattle.scad_script.specs.declared.refusal.Refusal.TheVariants.{Over}
 use Rattle.scad_script.specs.Script.{Refuses, ends, layers}
-use Rattle.scad_script.specs.Played.{Left, Stops, Carries}
+use Rattle.scad_script.specs.Play.{Left, Stops, Carries}
 use Rattle.scad_tree.specs.View.{solid_of}
 use Rattle.slice_work.specs.declared.summary.Summary.{Summary}
 use Rattle.slice_work.specs.Rates.{rates_of}
 use Rattle.slice_work.specs.Script.{layer_steps, stop_of}
 use Rattle.slice_work.specs.Sums.{IsSummary}
-use Rattle.scad_slice.proofs.AllPassed.{refuses_all}
-use Rattle.scad_slice.proofs.Surveyed.{Drawing, drawing, drawing_same, Draws}
+use Rattle.scad_slice.proofs.BudgetBefore.{refuses_all}
+use Rattle.scad_slice.proofs.Survey.{Drawing, drawing, drawing_same, Draws}
 use Rattle.scad_slice.proofs.tree_files.send_layers.Goals as goal
 
 pub returns-in-Err-Over-clause-carries : goal.returns-in-Err-Over-clause-carries

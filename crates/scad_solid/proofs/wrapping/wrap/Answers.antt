@@ -2,7 +2,7 @@ use Rattle.std.proofs.Common.{ap, ◌∙◌}
 use Rattle.std.specs.List.{list_all}
 use Rattle.scad_solid.specs.Range.{is_triangle_in_range}
 use Rattle.scad_solid.specs.Surface.{is_closed}
-use Rattle.scad_solid.proofs.Wrapped.{is_closed-wrapped, wrapped_in_range}
+use Rattle.scad_solid.proofs.ClosedWays.{is_closed-wrapped, wrapped_in_range}
 use Rattle.scad_solid.proofs.wrapping.wrap.Goals as goal
 
 pub from_closed-requires : goal.from_closed-requires

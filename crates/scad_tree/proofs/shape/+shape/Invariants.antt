@@ -1,5 +1,5 @@
 use Rattle.std.proofs.Common.{◌≡◌, ◌+◌, drop}
-use Rattle.scad_tree.specs.Numbered.{all_numbered, shapes_onto}
+use Rattle.scad_tree.specs.LeafNumbers.{all_numbered, shapes_onto}
 use Rattle.scad_tree.specs.Order.{all_leaves}
 use Rattle.scad_tree.specs.Solid.{members}
 use Rattle.scad_tree.specs.View.{solids}

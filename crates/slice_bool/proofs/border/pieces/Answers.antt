@@ -11,7 +11,7 @@ use Rattle.slice_bool.proofs.Ends.{heights_have_one_level}
 use Rattle.slice_bool.proofs.Within.{spots_are_within}
 use Rattle.slice_bool.proofs.BalanceLevels.{pieces_are_balanced}
 use Rattle.slice_bool.proofs.Centre.{centres_are_wound_once}
-use Rattle.slice_bool.proofs.Named.{pieces_are_named}
+use Rattle.slice_bool.proofs.PieceNames.{pieces_are_named}
 use Rattle.slice_bool.proofs.border.pieces.Goals as goal
 
 abbrev all : (es : List LeafEdge) (shape : Shape) (ls ks : List Level) (pieces : List Piece) → AreLevels es ls → ks ≡ ls

@@ -6,7 +6,7 @@ use Rattle.slice_slab.specs.Bundles.{AreBundles}
 use Rattle.slice_bool.specs.declared.beside.Valued.{Valued}
 use Rattle.slice_bool.specs.Parts.{level_at}
 use Rattle.slice_bool.specs.Beside.{AreLeftValues}
-use Rattle.slice_bool.proofs.Bundled.{are_members}
+use Rattle.slice_bool.proofs.BundleValues.{are_members}
 use Rattle.slice_bool.proofs.Climbing.{neighbours_at}
 use Rattle.slice_bool.proofs.Telling.{tell_above, tell_below, tell_last, slab_side, nothing_side}
 use Rattle.slice_bool.proofs.border.side_above.Goals as goal

@@ -12,7 +12,7 @@ use Rattle.slice_bool.specs.Pieces.{AreStops, flat_pieces}
 use Rattle.slice_bool.specs.Stops.{spots_in}
 use Rattle.slice_bool.proofs.Along.{go_along, along_beside}
 use Rattle.slice_bool.proofs.NearLevel.{all_at}
-use Rattle.slice_bool.proofs.Touched.{stops_touching}
+use Rattle.slice_bool.proofs.LevelEdges.{stops_touching}
 use Rattle.slice_bool.proofs.Winding.{stops_at}
 use Rattle.slice_bool.proofs.flat.push_covered.Goals as goal
 

@@ -1,4 +1,4 @@
-use Rattle.slice_bool.proofs.OneMade.{made_are_one}
+use Rattle.slice_bool.proofs.OneOutlines.{made_are_one}
 use Rattle.slice_bool.proofs.laws.made_are_one.Goals as goal
 
 pub returns : goal.returns

@@ -1,4 +1,4 @@
-use Rattle.slice_bool.proofs.Covered.{stretches_are_covered}
+use Rattle.slice_bool.proofs.Cover.{stretches_are_covered}
 use Rattle.slice_bool.proofs.laws.stretches_are_covered.Goals as goal
 
 pub returns : goal.returns

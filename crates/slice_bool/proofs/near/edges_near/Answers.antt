@@ -7,7 +7,7 @@ use Rattle.slice_slab.proofs.Standing.{all_there}
 use Rattle.slice_bool.specs.Near.{flats_from}
 use Rattle.slice_bool.proofs.Keeping.{same_leaf}
 use Rattle.slice_bool.proofs.SomeStops.{empty_list}
-use Rattle.slice_bool.proofs.Touched.{flats_there, in_ascending, no_flats, none_stands}
+use Rattle.slice_bool.proofs.LevelEdges.{flats_there, in_ascending, no_flats, none_stands}
 use Rattle.slice_bool.proofs.near.edges_near.Goals as goal
 
 pub flats-requires-clause-there : goal.flats-requires-clause-there

@@ -6,7 +6,7 @@ use Rattle.slice_slab.specs.Bundles.{edge_at}
 use Rattle.slice_slab.proofs.Standing.{all_there}
 use Rattle.slice_bool.specs.Pieces.{is_flat_at}
 use Rattle.slice_bool.specs.Near.{picked, touching_at, flats_from}
-use Rattle.slice_bool.proofs.Touched.{picked_touching, flats_touching, flats_there, all_touching}
+use Rattle.slice_bool.proofs.LevelEdges.{picked_touching, flats_touching, flats_there, all_touching}
 use Rattle.slice_bool.proofs.near.near_ascending.Goals as goal
 
 pub flats-requires-clause-there : goal.flats-requires-clause-there

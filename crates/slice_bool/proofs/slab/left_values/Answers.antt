@@ -8,9 +8,9 @@ use Rattle.slice_bool.specs.Tally.{IsTally, headings}
 use Rattle.slice_bool.specs.Keeping.{in_by}
 use Rattle.slice_bool.specs.Near.{picked}
 use Rattle.slice_bool.proofs.Keeping.{keeps_first, keeps_last, all_put}
-use Rattle.slice_bool.proofs.Untouched.{untouched_headings}
+use Rattle.slice_bool.proofs.OtherLeaves.{untouched_headings}
 use Rattle.slice_bool.specs.Beside.{left_value}
-use Rattle.slice_bool.proofs.Bundled.{there_at, few_to_left, tally_more, held_left, all_dropped, one_more, first_value, length_more}
+use Rattle.slice_bool.proofs.BundleValues.{there_at, few_to_left, tally_more, held_left, all_dropped, one_more, first_value, length_more}
 use Rattle.slice_bool.proofs.slab.left_values.Goals as goal
 
 pub bundles-init : goal.bundles-init

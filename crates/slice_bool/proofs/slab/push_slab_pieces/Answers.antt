@@ -4,7 +4,7 @@ use Rattle.slice_snap.specs.declared.piece.Piece.{Piece}
 use Rattle.slice_bool.specs.Pieces.{slab_pieces}
 use Rattle.slice_bool.specs.Beside.{left_value}
 use Rattle.slice_bool.specs.Beside.{RisesFirst, piece_of}
-use Rattle.slice_bool.proofs.Bundled.{rises_at, piece_at, value_beside, any_default}
+use Rattle.slice_bool.proofs.BundleValues.{rises_at, piece_at, value_beside, any_default}
 use Rattle.slice_bool.proofs.Stretches.{more_pieces}
 use Rattle.slice_bool.proofs.slab.push_slab_pieces.Goals as goal
 

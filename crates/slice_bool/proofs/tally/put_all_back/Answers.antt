@@ -5,9 +5,9 @@ use Rattle.std.specs.List.{All, concat}
 use Rattle.std.proofs.lemmas.List.{at_drop_more, drop_all}
 use Rattle.slice_bool.specs.Near.{picked}
 use Rattle.slice_bool.specs.Tally.{has_leaf}
-use Rattle.slice_bool.proofs.Bundled.{there_at}
+use Rattle.slice_bool.proofs.BundleValues.{there_at}
 use Rattle.slice_bool.proofs.Keeping.{keeps_still, keeps_both, put_step}
-use Rattle.slice_bool.proofs.Untouched.{leaves_append}
+use Rattle.slice_bool.proofs.OtherLeaves.{leaves_append}
 use Rattle.slice_bool.proofs.tally.put_all_back.Goals as goal
 
 pub bundles-init : goal.bundles-init

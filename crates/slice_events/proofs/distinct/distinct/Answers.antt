@@ -6,7 +6,7 @@ use Rattle.scad_geom.specs.Limits.{coordinate_limit}
 use Rattle.scad_geom.specs.declared.level.Level.{Level}
 use Rattle.scad_geom.specs.Level.{IsLevelWithin}
 use Rattle.slice_events.specs.declared.height.Height.{Height}
-use Rattle.slice_events.specs.Collected.{levels_in, is_lower}
+use Rattle.slice_events.specs.Collection.{levels_in, is_lower}
 use Rattle.slice_events.specs.Distinct.{distinct_by}
 use Rattle.slice_events.proofs.Steps.{pushed}
 use Rattle.slice_events.proofs.Repeats.{distinct_kept, distinct_left}

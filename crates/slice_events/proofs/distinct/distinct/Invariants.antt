@@ -2,7 +2,7 @@ use Rattle.std.proofs.Common.{◌≡◌, ◌++◌, drop}
 use Rattle.std.specs.List.{All}
 use Rattle.scad_geom.specs.Limits.{coordinate_limit}
 use Rattle.scad_geom.specs.Level.{IsLevelWithin}
-use Rattle.slice_events.specs.Collected.{levels_in, is_lower}
+use Rattle.slice_events.specs.Collection.{levels_in, is_lower}
 use Rattle.slice_events.specs.Distinct.{distinct_by}
 use Rattle.slice_events.proofs.distinct.distinct.Given as goal
 

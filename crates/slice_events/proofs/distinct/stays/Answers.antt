@@ -3,7 +3,7 @@ use Rattle.std.proofs.Common.{◌+◌, ◌<◌, suc, length, get_or, sym, ap, �
 use Rattle.std.specs.Ordering.{is_lt}
 use Rattle.std.specs.Prelude.{◌*ℤ◌}
 use Rattle.slice_events.specs.declared.height.Height.{Height}
-use Rattle.slice_events.specs.Collected.{is_lower}
+use Rattle.slice_events.specs.Collection.{is_lower}
 use Rattle.scad_base.proofs.Tests.{is_lt-int_cmp}
 use Rattle.slice_events.proofs.Repeats.{stays_last, stays_next}
 use Rattle.slice_events.proofs.distinct.stays.Goals as goal

@@ -1,5 +1,5 @@
 use Rattle.std.proofs.Common.{◌≡◌, ◌++◌, drop}
-use Rattle.slice_events.specs.Collected.{end_ys}
+use Rattle.slice_events.specs.Collection.{end_ys}
 use Rattle.slice_events.proofs.ends.end_ys.Given as goal
 
 abbrev pub invariant-edges : goal.invariant-edges

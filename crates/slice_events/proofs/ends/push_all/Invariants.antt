@@ -1,6 +1,6 @@
 use Rattle.std.proofs.Common.{◌≡◌, ◌++◌, map, drop}
 use Rattle.scad_geom.specs.Level.{level_of}
-use Rattle.slice_events.specs.Collected.{levels_in}
+use Rattle.slice_events.specs.Collection.{levels_in}
 use Rattle.slice_events.proofs.ends.push_all.Given as goal
 
 abbrev pub invariant-ys : goal.invariant-ys

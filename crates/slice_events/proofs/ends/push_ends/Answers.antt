@@ -5,7 +5,7 @@ use Rattle.std.specs.List.Sorted.{IsPermutation}
 use Rattle.std.proofs.lemmas.Result.{on_ok_weaker}
 use Rattle.scad_geom.specs.Limits.{coordinate_limit}
 use Rattle.scad_geom.specs.Level.{level_of}
-use Rattle.slice_events.specs.Collected.{levels_in}
+use Rattle.slice_events.specs.Collection.{levels_in}
 use Rattle.slice_events.proofs.EndHeights.{ends_rearranged, ends_within}
 use Rattle.slice_events.proofs.ends.push_ends.Goals as goal
 

@@ -2,7 +2,7 @@
 use Rattle.std.proofs.Common.{sym, ap, ◌∙◌, subst}
 use Rattle.std.proofs.lemmas.Result.{IfOk-weaker}
 use Rattle.slice_events.specs.Levels.{AreLevels}
-use Rattle.slice_events.specs.Collected.{levels_in, is_lower}
+use Rattle.slice_events.specs.Collection.{levels_in, is_lower}
 use Rattle.slice_events.specs.Distinct.{distinct_by}
 use Rattle.slice_events.proofs.Ascending.{sorted_levels, arranged_sound, arranged_complete}
 use Rattle.slice_events.proofs.events.ascending.Goals as goal

@@ -6,8 +6,8 @@ use Rattle.slice_loops.specs.declared.remainder.Remaining.{Remaining}
 use Rattle.slice_loops.specs.Drawing.{TakesLeast}
 use Rattle.slice_loops.specs.Remaining.{remaining}
 use Rattle.slice_loops.proofs.Points.{differ_by, equal_by}
-use Rattle.slice_loops.proofs.Taken.{still, in_order, least, taken_so_far, still_twice, fewer_left}
-use Rattle.slice_loops.proofs.Closed.{balanced_permuted, goes_on, comes_back, one_starts}
+use Rattle.slice_loops.proofs.Marks.{still, in_order, least, taken_so_far, still_twice, fewer_left}
+use Rattle.slice_loops.proofs.LoopClosure.{balanced_permuted, goes_on, comes_back, one_starts}
 use Rattle.slice_loops.proofs.Ways.{Leads, leads_first, leads_on, leads_back}
 use Rattle.slice_loops.proofs.drawing.draw.Goals as goal
 

@@ -2,7 +2,7 @@ use Rattle.std.proofs.Common.{◌∷◌, ◌+◌, length}
 use Rattle.scad_geom.specs.Segment.{segments}
 use Rattle.scad_geom.specs.Balance.{IsBalanced}
 use Rattle.slice_loops.specs.Remaining.{remaining, IsInOrder, AllTakenTo, StayTaken}
-use Rattle.slice_loops.proofs.Closed.{edge}
+use Rattle.slice_loops.proofs.LoopClosure.{edge}
 use Rattle.slice_loops.proofs.Ways.{Leads}
 use Rattle.slice_loops.proofs.drawing.draw.Given as goal
 

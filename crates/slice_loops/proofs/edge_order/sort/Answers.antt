@@ -3,7 +3,7 @@ use Rattle.std.proofs.Common.{rules}
 use Rattle.std.proofs.lemmas.List.Sorted.{answers_always}
 use Rattle.slice_loops.specs.Order.{is_less}
 use Rattle.slice_loops.proofs.Points.{less_order}
-use Rattle.slice_loops.proofs.Taken.{ascending_sorted}
+use Rattle.slice_loops.proofs.Marks.{ascending_sorted}
 use Rattle.slice_loops.proofs.edge_order.sort.Goals as goal
 
 pub returns-clause-ascending : goal.returns-clause-ascending

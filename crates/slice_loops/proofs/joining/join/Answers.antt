@@ -3,7 +3,7 @@ use Rattle.std.proofs.Common.{◌+◌, List, sym, ap, ◌∙◌, subst}
 use Rattle.scad_geom.specs.declared.point.Pt.{Pt}
 use Rattle.scad_geom.specs.declared.point.Edge.{Edge}
 use Rattle.slice_loops.specs.declared.remainder.Remaining.{Remaining}
-use Rattle.slice_loops.proofs.Joined.{Drawn, none_drawn, one_drawn, passed_by, all_drawn}
+use Rattle.slice_loops.proofs.LoopByLoop.{Drawn, none_drawn, one_drawn, passed_by, all_drawn}
 use Rattle.slice_loops.proofs.joining.join.Goals as goal
 use Rattle.slice_loops.proofs.joining.join.Goals.{then-not-is_taken+in_ok-push_outline, else-not-is_taken}
 

@@ -1,4 +1,4 @@
-use Rattle.slice_loops.proofs.Joined.{Drawn}
+use Rattle.slice_loops.proofs.LoopByLoop.{Drawn}
 use Rattle.slice_loops.proofs.joining.join.Given as goal
 
 abbrev pub invariant-places : goal.invariant-places

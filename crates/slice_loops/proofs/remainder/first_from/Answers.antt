@@ -2,7 +2,7 @@
 use Rattle.std.proofs.Common.{rules}
 use Rattle.std.proofs.lemmas.List.Sorted.{IsPartitionPoint-from_clause}
 use Rattle.slice_loops.specs.Order.{starts_before}
-use Rattle.slice_loops.proofs.Found.{parted}
+use Rattle.slice_loops.proofs.LeastEdge.{parted}
 use Rattle.slice_loops.proofs.remainder.first_from.Goals as goal
 
 pub returns : goal.returns

@@ -1,7 +1,7 @@
 -- Each strand in its turn begins at the point.
 use Rattle.std.proofs.Common.{set, sym, ap, ◌∙◌, arith}
 use Rattle.slice_outlines.specs.declared.mark.Mark.{Mark}
-use Rattle.slice_outlines.proofs.Begun.{begun_none, begun_more}
+use Rattle.slice_outlines.proofs.StrandStarts.{begun_none, begun_more}
 use Rattle.slice_outlines.proofs.mark.begin.Goals as goal
 
 pub marks-init : goal.marks-init

@@ -4,7 +4,7 @@ use Rattle.std.proofs.lemmas.Int.{to_z-of_z}
 use mir.Syntax.{w128}
 use Rattle.scad_geom.specs.Limits.{coordinate_limit}
 use Rattle.scad_geom.proofs.Casts.{casts}
-use Rattle.slice_snap.proofs.Rounded.{scaled_value}
+use Rattle.slice_snap.proofs.SpotRange.{scaled_value}
 use Rattle.slice_outlines.proofs.spot.height.Goals as goal
 
 pub returns-clause-size : goal.returns-clause-size

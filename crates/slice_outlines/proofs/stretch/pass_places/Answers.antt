@@ -10,7 +10,7 @@ use Rattle.slice_outlines.specs.Stops.{spots_in}
 use Rattle.slice_outlines.specs.Heights.{marks_of}
 use Rattle.slice_outlines.specs.Along.{HasComeOver}
 use Rattle.slice_outlines.specs.Stretch.{AreStopsAt, TellWays}
-use Rattle.slice_outlines.proofs.Stretched.{strands_at}
+use Rattle.slice_outlines.proofs.StretchStops.{strands_at}
 use Rattle.std.proofs.Common.{None}
 use Rattle.slice_outlines.proofs.stretch.pass_places.Goals as goal
 

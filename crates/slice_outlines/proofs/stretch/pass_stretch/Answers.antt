@@ -12,7 +12,7 @@ use Rattle.slice_outlines.specs.Heights.{AreValuedIn}
 use Rattle.slice_outlines.specs.Stretch.{stretch_spots}
 use Rattle.slice_outlines.proofs.Grouping.{same_names}
 use Rattle.slice_outlines.proofs.Waiting.{order_by_names, pass_by_names}
-use Rattle.slice_outlines.proofs.Stretched.{same_stretch, with_cursors, run_there}
+use Rattle.slice_outlines.proofs.StretchStops.{same_stretch, with_cursors, run_there}
 use Rattle.slice_outlines.proofs.stretch.pass_stretch.Goals as goal
 
 pub pass_places-requires-clause-run : goal.pass_places-requires-clause-run

@@ -2,7 +2,7 @@
 use Rattle.std.proofs.Common.{◌++◌, ◌-◌, List, take, drop, subst}
 use Rattle.slice_outlines.specs.declared.mark.Mark.{Mark}
 use Rattle.slice_outlines.specs.Stops.{spots_in, mark_spots, flat_spots, AreStopsOf}
-use Rattle.slice_outlines.proofs.Stretched.{stops_at}
+use Rattle.slice_outlines.proofs.StretchStops.{stops_at}
 use Rattle.slice_outlines.proofs.stretch.stops_of.Goals as goal
 
 pub returns-clause-stops : goal.returns-clause-stops

@@ -7,7 +7,7 @@ use Rattle.slice_outlines.specs.Heights.{AreInOrder}
 use Rattle.slice_outlines.specs.Ahead.{between}
 use Rattle.slice_outlines.proofs.Joining.{whole_cast}
 use Rattle.slice_outlines.proofs.Passage.{size_named}
-use Rattle.slice_outlines.proofs.Stretched.{run_there}
+use Rattle.slice_outlines.proofs.StretchStops.{run_there}
 use Rattle.slice_outlines.proofs.Levelling.{IsSoFar, between_at, groups_done}
 use Rattle.slice_outlines.proofs.Stretching.{to_stretch, to_end, stretch_passed}
 use Rattle.slice_outlines.proofs.LevelEnds.{left_cast, at_first, to_right, at_last, stretch_by, first_order, below_order, below_there, now_order, now_pass, now_there, now_size, now_stands}

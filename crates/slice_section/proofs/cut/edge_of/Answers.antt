@@ -2,7 +2,7 @@ use Rattle.std.proofs.Common.{Some, ap₂, ◌∙◌}
 use Rattle.std.proofs.lemmas.Int.{to_z-of_z}
 use Rattle.scad_geom.specs.declared.point.Pt.{Pt}
 use Rattle.scad_geom.specs.declared.point.Edge.{Edge}
-use Rattle.slice_section.proofs.Found.{edge-found}
+use Rattle.slice_section.proofs.SideCuts.{edge-found}
 use Rattle.slice_section.proofs.cut.edge_of.Goals as goal
 
 pub returns : goal.returns

@@ -1,5 +1,5 @@
 use Rattle.std.proofs.lemmas.Int.{to_z-of_z}
-use Rattle.slice_section.proofs.Found.{falls_through_if}
+use Rattle.slice_section.proofs.SideCuts.{falls_through_if}
 use Rattle.slice_section.proofs.cut.falling.Goals as goal
 
 pub returns-clause-through : goal.returns-clause-through

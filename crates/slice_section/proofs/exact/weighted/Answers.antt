@@ -1,7 +1,7 @@
 use Rattle.std.proofs.Common.{◌≡◌, ◌*◌, ◌≤◌, ◌*ℤ◌, ◌+ℤ◌, pos, ◌-ℤ◌, unsigned_abs, FitsSigned, arith, ap₂, sym, ◌∙◌, subst}
 use Rattle.std.proofs.lemmas.Int.{ints, to_z-of_z}
 use Rattle.scad_geom.specs.Limits.{coordinate_limit}
-use Rattle.slice_section.proofs.Weighted.{weighted_range}
+use Rattle.slice_section.proofs.WeightedMean.{weighted_range}
 use Rattle.slice_section.proofs.exact.weighted.Goals as goal
 use mir.Syntax.{w128}
 

@@ -1,7 +1,7 @@
 use Rattle.std.proofs.Common.{◌++◌, not, ap, sym, ◌∙◌}
 use Rattle.std.proofs.lemmas.Int.{to_z-of_z}
 use Rattle.std.proofs.lemmas.List.{append-nil}
-use Rattle.scad_geom.proofs.Balanced.{same_whole}
+use Rattle.scad_geom.proofs.Balance.{same_whole}
 use Rattle.slice_section.proofs.Edges.{edges_at-some, edges_at-flat, edges_at-none}
 use Rattle.slice_section.proofs.sections.push_edge.Goals as goal
 

@@ -7,7 +7,7 @@ use Rattle.scad_geom.specs.Balance.{IsBalanced}
 use Rattle.scad_solid.specs.Range.{is_triangle_in_range}
 use Rattle.slice_section.specs.Section.{edges_at, section_of}
 use Rattle.slice_section.proofs.Edges.{edges_at-more, in_range-here, in_range-later}
-use Rattle.slice_section.proofs.Balanced.{IsBalanced-section_of}
+use Rattle.slice_section.proofs.Balance.{IsBalanced-section_of}
 use Rattle.slice_section.proofs.sections.section.Goals as goal
 use mir.Syntax.{w128}
 

@@ -6,7 +6,7 @@ use Rattle.scad_geom.specs.declared.point.Edge.{Edge}
 use Rattle.scad_geom.specs.Segment.{segments}
 use Rattle.scad_geom.specs.Balance.{IsBalanced}
 use Rattle.slice_snap.specs.Cancelling.{AreCancelled}
-use Rattle.slice_snap.proofs.Balanced.{left_balanced}
+use Rattle.slice_snap.proofs.Balance.{left_balanced}
 use Rattle.slice_snap.proofs.SideBySide.{left_in_order}
 use Rattle.slice_snap.proofs.cancelling.cancel.Goals as goal
 

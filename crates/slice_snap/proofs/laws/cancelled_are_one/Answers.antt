@@ -1,4 +1,4 @@
-use Rattle.slice_snap.proofs.OneLeft.{cancelled_are_one}
+use Rattle.slice_snap.proofs.OneRest.{cancelled_are_one}
 use Rattle.slice_snap.proofs.laws.cancelled_are_one.Goals as goal
 
 pub returns : goal.returns

@@ -2,7 +2,7 @@
 use Rattle.std.proofs.Common.{sym, ◌∙◌}
 use Rattle.slice_snap.specs.Chains.{no_piece}
 use Rattle.slice_snap.proofs.Pairs.{comparable}
-use Rattle.slice_snap.proofs.Linked.{stuck_before, when_gone, when_round, linked}
+use Rattle.slice_snap.proofs.ChainLinks.{stuck_before, when_gone, when_round, linked}
 use Rattle.slice_snap.proofs.merging.go_on.Goals as goal
 use Rattle.slice_snap.proofs.merging.go_on.Goals.{else-first-next-via-then-first-next+else-not-is_gone, else-first-next-via-else-first-next}
 

@@ -6,8 +6,8 @@ use Rattle.slice_snap.specs.declared.piece.Piece.{Piece}
 use Rattle.slice_snap.specs.Pieces.{IsPieceWithin, ArePiecesBalanced}
 use Rattle.slice_snap.specs.Merging.{AreMerged}
 use Rattle.slice_snap.specs.Chains.{wholes_of}
-use Rattle.slice_snap.proofs.Balanced.{merging_keeps_balance}
-use Rattle.slice_snap.proofs.Linked.{alone, all_merged}
+use Rattle.slice_snap.proofs.Balance.{merging_keeps_balance}
+use Rattle.slice_snap.proofs.ChainLinks.{alone, all_merged}
 use Rattle.slice_snap.proofs.merging.merge.Goals as goal
 
 pub pieces-init : goal.pieces-init

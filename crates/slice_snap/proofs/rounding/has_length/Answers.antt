@@ -1,6 +1,6 @@
 -- The comparison of whole points is that of points.
 use Rattle.std.proofs.Common.{not, sym, ap, ◌∙◌}
-use Rattle.scad_geom.proofs.Balanced.{same_whole}
+use Rattle.scad_geom.proofs.Balance.{same_whole}
 use Rattle.slice_snap.proofs.rounding.has_length.Goals as goal
 
 pub returns : goal.returns

@@ -3,7 +3,7 @@ use Rattle.std.proofs.Common.{ap, ◌∙◌}
 use Rattle.std.proofs.lemmas.List.{take_all}
 use Rattle.scad_geom.specs.Limits.{coordinate_limit}
 use Rattle.slice_snap.specs.Rounding.{rounded_edges}
-use Rattle.slice_snap.proofs.Balanced.{edges_balanced}
+use Rattle.slice_snap.proofs.Balance.{edges_balanced}
 use Rattle.slice_snap.proofs.rounding.round.Goals as goal
 
 pub returns-clause-balanced : goal.returns-clause-balanced

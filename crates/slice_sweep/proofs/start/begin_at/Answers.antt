@@ -5,7 +5,7 @@ use Rattle.slice_sweep.specs.declared.strand.Strand.{Strand}
 use Rattle.slice_sweep.specs.Strands.{AreThere}
 use Rattle.slice_sweep.proofs.Groups.{there_of}
 use Rattle.slice_sweep.proofs.Starting.{started_by}
-use Rattle.slice_sweep.proofs.Begun.{begun_below, begun_keyless}
+use Rattle.slice_sweep.proofs.EdgeStarts.{begun_below, begun_keyless}
 use Rattle.slice_sweep.proofs.Weakening.{weakened_length}
 use Rattle.slice_sweep.proofs.start.begin_at.Goals as goal
 

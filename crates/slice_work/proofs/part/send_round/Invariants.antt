@@ -1,7 +1,7 @@
 use Rattle.std.proofs.Common.{◌≡◌, ◌+◌, ◌-◌, ◌≤◌}
 use Rattle.scad_io.specs.Desk.{View}
 use Rattle.scad_script.specs.Script.{Script, layers}
-use Rattle.scad_script.specs.Played.{Left}
+use Rattle.scad_script.specs.Play.{Left}
 use Rattle.scad_script.specs.Run.{Sound, CreatesNone}
 use Rattle.slice_work.specs.Part.{Part}
 use Rattle.slice_work.specs.Shares.{AreDrawnOf}

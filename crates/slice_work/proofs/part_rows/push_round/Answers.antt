@@ -1,7 +1,7 @@
 use Rattle.std.proofs.Common.{◌+◌, arith}
 use Rattle.slice_work.specs.Script.{laid_out}
 use Rattle.slice_work.specs.Survey.{AddsRows}
-use Rattle.slice_work.proofs.Surveyed.{next_surveyed, rows_added}
+use Rattle.slice_work.proofs.LayerRows.{next_surveyed, rows_added}
 use Rattle.slice_work.proofs.part_rows.push_round.Goals as goal
 
 pub layers-preserved : goal.layers-preserved

@@ -1,7 +1,7 @@
 use Rattle.std.proofs.Common.{◌≡◌, ◌≤◌, ◌+◌, ℕ, Err, sym, ap, ap₂, ◌∙◌, subst, rules}
 use Rattle.slice_work.specs.declared.survey_fault.SurveyFault.TheVariants.{Over}
 use Rattle.slice_work.specs.Survey.{AreSurveyed}
-use Rattle.slice_work.proofs.Surveyed.{least_of_more}
+use Rattle.slice_work.proofs.LayerRows.{least_of_more}
 use Rattle.slice_work.proofs.part_rows.survey.Goals as goal
 
 pub returns-in_err-push_round-clause-over : goal.returns-in_err-push_round-clause-over

@@ -1,7 +1,7 @@
 use Rattle.std.proofs.Common.{◌≡◌, ◌+◌, vec_len, rules}
 use Rattle.std.proofs.lemmas.Result.{IfOk-at_ok}
 use Rattle.slice_work.specs.Part.{Part}
-use Rattle.slice_work.proofs.Pooled.{Worked, pooled, both_drawn}
+use Rattle.slice_work.proofs.GroupPool.{Worked, pooled, both_drawn}
 use Rattle.slice_work.proofs.workers.+fn-pool-join+arg2+fn-pool-join+arg3+pool.Goals as goal
 
 pub returns-clause-pool : goal.returns-clause-pool

@@ -1,4 +1,4 @@
-use Rattle.support_laws.proofs.Kept.{supports_stand_apart, supports_have_lengths, supports_lie_within}
+use Rattle.support_laws.proofs.SupportClearance.{supports_stand_apart, supports_have_lengths, supports_lie_within}
 use Rattle.support_laws.proofs.laws.supports_stand_apart.Goals as goal
 
 pub returns : goal.returns

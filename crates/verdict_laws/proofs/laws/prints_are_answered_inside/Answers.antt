@@ -1,4 +1,4 @@
-use Rattle.verdict_laws.proofs.Printed as lemma
+use Rattle.verdict_laws.proofs.OwnOutlines as lemma
 use Rattle.verdict_laws.proofs.laws.prints_are_answered_inside.Goals as goal
 
 pub returns : goal.returns

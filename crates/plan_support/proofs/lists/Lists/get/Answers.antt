@@ -1,5 +1,5 @@
 use Rattle.std.proofs.Common.{◌≡◌, length, sym, ap, ◌∙◌, arith}
-use Rattle.plan_support.proofs.Cut.{length_cut, list_at}
+use Rattle.plan_support.proofs.Consecutive.{length_cut, list_at}
 use Rattle.plan_support.proofs.lists.Lists.get.Goals as goal
 
 pub part_of-part-requires-clause-there : goal.part_of-part-requires-clause-there

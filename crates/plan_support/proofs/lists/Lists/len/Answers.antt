@@ -1,5 +1,5 @@
 use Rattle.std.proofs.Common.{◌∙◌, sym, ap, length}
-use Rattle.plan_support.proofs.Cut.{length_cut}
+use Rattle.plan_support.proofs.Consecutive.{length_cut}
 use Rattle.plan_support.proofs.lists.Lists.len.Goals as goal
 
 pub returns : goal.returns

@@ -1,6 +1,6 @@
 use Rattle.std.proofs.Common.{◌≡◌, ◌++◌, ◌∷◌, [], false, sym, ◌∙◌}
 use Rattle.std.specs.Prelude.{is_err}
-use Rattle.plan_support.proofs.Cut.{push_keeps, push_adds, from_ok, to_ok}
+use Rattle.plan_support.proofs.Consecutive.{push_keeps, push_adds, from_ok, to_ok}
 use Rattle.plan_support.proofs.lists.Lists.push.Goals as goal
 
 pub invariant_of-self-else-is_err : goal.invariant_of-self-else-is_err

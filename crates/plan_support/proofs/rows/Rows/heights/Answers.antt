@@ -1,6 +1,6 @@
 use Rattle.std.proofs.Common.{◌∙◌, sym, ap, map, List}
 use Rattle.plan_support.specs.Rows.{Row}
-use Rattle.plan_support.proofs.Listed.{heights_listed}
+use Rattle.plan_support.proofs.HeightRows.{heights_listed}
 use Rattle.plan_support.proofs.rows.Rows.heights.Goals as goal
 
 pub returns : goal.returns

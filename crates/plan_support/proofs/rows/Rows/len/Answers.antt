@@ -1,5 +1,5 @@
 use Rattle.std.proofs.Common.{◌∙◌, sym, ap, length}
-use Rattle.plan_support.proofs.Listed.{row_count}
+use Rattle.plan_support.proofs.HeightRows.{row_count}
 use Rattle.plan_support.proofs.rows.Rows.len.Goals as goal
 
 pub returns : goal.returns

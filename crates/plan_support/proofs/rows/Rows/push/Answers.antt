@@ -3,8 +3,8 @@ use Rattle.std.specs.Prelude.{is_err}
 use Rattle.scad_geom.proofs.Casts.{casts}
 use Rattle.plan_infill.specs.declared.run.Run.{Run}
 use Rattle.plan_support.specs.Rows.{Row, row_list}
-use Rattle.plan_support.proofs.Cut.{from_ok, to_ok}
-use Rattle.plan_support.proofs.Listed.{row_push}
+use Rattle.plan_support.proofs.Consecutive.{from_ok, to_ok}
+use Rattle.plan_support.proofs.HeightRows.{row_push}
 use Rattle.plan_support.proofs.rows.Rows.push.Goals as goal
 
 pub returns-else-is_err : goal.returns-else-is_err

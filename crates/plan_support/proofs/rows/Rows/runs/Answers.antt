@@ -1,6 +1,6 @@
 use Rattle.std.proofs.Common.{◌≡◌, List, length, get_or, sym, ap, ◌∙◌, arith, pos}
 use Rattle.plan_support.specs.Rows.{Row, no_row}
-use Rattle.plan_support.proofs.Listed.{row_count, row_get}
+use Rattle.plan_support.proofs.HeightRows.{row_count, row_get}
 use Rattle.plan_support.proofs.rows.Rows.runs.Goals as goal
 
 pub get-requires : goal.get-requires

@@ -3,7 +3,7 @@ use Rattle.std.specs.Ordering.{int_cmp, ordering_index}
 use Rattle.std.specs.List.{HoldsAt}
 use Rattle.std.specs.List.Sorted.{IsNonDecreasingBy, IsPartitionPoint}
 use Rattle.scad_geom.proofs.Casts.{casts}
-use Rattle.plan_support.proofs.Listed.{searchable, found_row, missed_row}
+use Rattle.plan_support.proofs.HeightRows.{searchable, found_row, missed_row}
 use Rattle.plan_support.proofs.rows.Rows.runs_at.Goals as goal
 use mir.Syntax.{w32}
 

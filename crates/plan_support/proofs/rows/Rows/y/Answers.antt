@@ -1,7 +1,7 @@
 use Rattle.std.proofs.Common.{◌≡◌, FitsSigned, List, length, get_or, sym, ap, ◌∙◌, arith, rules}
 use Rattle.std.proofs.lemmas.Int.{to_z-of_z}
 use Rattle.plan_support.specs.Rows.{Row, no_row}
-use Rattle.plan_support.proofs.Listed.{row_count, row_get}
+use Rattle.plan_support.proofs.HeightRows.{row_count, row_get}
 use Rattle.plan_support.proofs.rows.Rows.y.Goals as goal
 use mir.Syntax.{w32}
 

@@ -1,7 +1,7 @@
 use Rattle.std.proofs.Common.{◌≡◌, map}
 use Rattle.scad_machine.specs.Given.{shown}
 use Rattle.scad_machine.specs.Machine.{held, state_of}
-use Rattle.scad_machine.specs.Opened.{set_all_in_last}
+use Rattle.scad_machine.specs.OpenFrames.{set_all_in_last}
 use Rattle.scad_machine.proofs.machine.Machine.set_all.Given as goal
 
 abbrev pub invariant-names : goal.invariant-names

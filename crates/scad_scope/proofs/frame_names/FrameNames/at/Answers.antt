@@ -1,5 +1,5 @@
 use Rattle.std.proofs.Common.{sym, ap, ◌∙◌, option_map}
-use Rattle.scad_scope.specs.Held.{named_in, placed_in}
+use Rattle.scad_scope.specs.FrameNames.{named_in, placed_in}
 use Rattle.scad_scope.specs.Listing.{place_of}
 use Rattle.scad_scope.specs.Names.{value_of_name}
 use Rattle.scad_scope.specs.View.{names_in}

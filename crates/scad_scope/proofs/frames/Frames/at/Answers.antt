@@ -2,7 +2,7 @@ use Rattle.std.proofs.Common.{None, map, drop, take, sym, ap, ◌∙◌, arith}
 use Rattle.std.proofs.lemmas.List.{get_or-map, length-map}
 use Rattle.scad_value.specs.View.{datum_of}
 use Rattle.scad_scope.specs.Env.{sought}
-use Rattle.scad_scope.specs.Stored.{Stored, envs, env_round, pushed}
+use Rattle.scad_scope.specs.FrameStore.{Stored, envs, env_round, pushed}
 use Rattle.scad_scope.specs.View.{frame_listed, frame_stored, listed, stored}
 use Rattle.scad_scope.proofs.Finding.{here, names-index, outer}
 use Rattle.scad_scope.proofs.Outwards.{stored-index, sought-past, sought-there, sought-round, round-before, round-past}

@@ -2,7 +2,7 @@ use Rattle.std.proofs.Common.{map, take, sym, ap, ◌∙◌, arith}
 use Rattle.std.proofs.lemmas.List.{length-map}
 use Rattle.scad_value.specs.View.{datum_of}
 use Rattle.scad_scope.specs.Env.{sought}
-use Rattle.scad_scope.specs.Stored.{env_round, envs}
+use Rattle.scad_scope.specs.FrameStore.{env_round, envs}
 use Rattle.scad_scope.specs.View.{frame_stored, stored}
 use Rattle.scad_scope.proofs.Outwards.{stored-index, sought-past, sought-there, sought-round, round-before, round-past}
 use Rattle.scad_scope.proofs.frames.Frames.get.Goals as goal

@@ -1,6 +1,6 @@
 use Rattle.std.proofs.Common.{◌≡◌}
 use Rattle.scad_scope.specs.Env.{sought}
-use Rattle.scad_scope.specs.Stored.{env_at, envs}
+use Rattle.scad_scope.specs.FrameStore.{env_at, envs}
 use Rattle.scad_scope.specs.View.{stored}
 use Rattle.scad_scope.proofs.frames.Frames.get.Given as goal
 

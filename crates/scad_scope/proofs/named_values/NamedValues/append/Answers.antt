@@ -1,5 +1,5 @@
 use Rattle.std.proofs.Common.{ap, ◌∙◌, [], ◌∷◌, ◌++◌, map}
-use Rattle.scad_scope.specs.Held.{named, more_in, named_in}
+use Rattle.scad_scope.specs.FrameNames.{named, more_in, named_in}
 use Rattle.scad_scope.proofs.Few.{few-push}
 use Rattle.scad_scope.proofs.named_values.NamedValues.append.Goals as goal
 

@@ -2,7 +2,7 @@ use Rattle.std.proofs.Common.{sym, ap, ◌∙◌, arith, map, option_map}
 use Rattle.std.proofs.lemmas.List.{length-map}
 use Rattle.scad_value.specs.View.{datum_of}
 use Rattle.scad_scope.specs.Names.{place_in, value_of_name}
-use Rattle.scad_scope.specs.Held.{named, few_in, or_none, more_in, named_in}
+use Rattle.scad_scope.specs.FrameNames.{named, few_in, or_none, more_in, named_in}
 use Rattle.scad_scope.proofs.Few.{few-value, value-unplaced}
 use Rattle.scad_scope.proofs.Outwards.{lent, value_of_name-named}
 use Rattle.scad_scope.proofs.named_values.NamedValues.get.Goals as goal

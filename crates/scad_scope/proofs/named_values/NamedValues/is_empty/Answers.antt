@@ -1,6 +1,6 @@
 use Rattle.std.proofs.Common.{sym, ap, ◌∙◌, arith, ◌++◌, map, option_map, vec_len}
 use Rattle.std.proofs.lemmas.List.{append-nil}
-use Rattle.scad_scope.specs.Held.{named, few_in, is_nil, more_in, named_in, or_none}
+use Rattle.scad_scope.specs.FrameNames.{named, few_in, is_nil, more_in, named_in, or_none}
 use Rattle.scad_scope.proofs.HeldNames.{nil-counted, nil-tested, none-front, some-front}
 use Rattle.scad_scope.proofs.named_values.NamedValues.is_empty.Goals as goal
 

@@ -1,7 +1,7 @@
 use Rattle.std.proofs.Common.{ap, refl, ◌∙◌, map, arith}
 use Rattle.scad_value.specs.View.{datum_of}
 use Rattle.scad_scope.specs.Names.{place_in}
-use Rattle.scad_scope.specs.Held.{named, more_in, named_in}
+use Rattle.scad_scope.specs.FrameNames.{named, more_in, named_in}
 use Rattle.scad_scope.proofs.Few.{few-set}
 use Rattle.scad_scope.proofs.named_values.NamedValues.set.Goals as goal
 

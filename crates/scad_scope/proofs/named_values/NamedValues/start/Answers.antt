@@ -2,7 +2,7 @@ use Rattle.std.proofs.Common.{sym, ap, ◌∙◌, [], ◌++◌, map}
 use Rattle.indexmap.specs.IndexMap.{insert_entry}
 use Rattle.scad_value.specs.View.{datum_of}
 use Rattle.scad_scope.specs.Names.{with_name}
-use Rattle.scad_scope.specs.Held.{named, few_in, named_in}
+use Rattle.scad_scope.specs.FrameNames.{named, few_in, named_in}
 use Rattle.scad_scope.proofs.Few.{more-insert}
 use Rattle.scad_scope.proofs.Outwards.{same_key}
 use Rattle.scad_scope.proofs.named_values.NamedValues.start.Goals as goal

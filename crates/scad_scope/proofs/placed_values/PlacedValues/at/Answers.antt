@@ -1,10 +1,10 @@
 use Rattle.std.proofs.Common.{arith, [], ap, ◌∙◌}
 use Rattle.std.proofs.lemmas.List.{append-nil, length-map}
-use Rattle.scad_scope.specs.Held.{listing_of, placed_in}
+use Rattle.scad_scope.specs.FrameNames.{listing_of, placed_in}
 use Rattle.scad_scope.specs.Names.{value_of_name}
-use Rattle.scad_scope.specs.Placed.{name_placed}
+use Rattle.scad_scope.specs.ListedValues.{name_placed}
 use Rattle.scad_scope.proofs.Few.{few-value, value-unplaced}
-use Rattle.scad_scope.proofs.Placed.{place-number}
+use Rattle.scad_scope.proofs.ListedValues.{place-number}
 use Rattle.scad_scope.proofs.placed_values.PlacedValues.at.Goals as goal
 
 pub returns-then-number-len : goal.returns-then-number-len

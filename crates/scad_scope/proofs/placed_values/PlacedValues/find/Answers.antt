@@ -1,8 +1,8 @@
 use Rattle.std.proofs.Common.{arith, sym, ◌∙◌}
 use Rattle.std.proofs.lemmas.List.{length-map}
-use Rattle.scad_scope.specs.Held.{listing_of}
-use Rattle.scad_scope.specs.Placed.{name_placed}
-use Rattle.scad_scope.proofs.Placed.{place-name, place-number, place-unlisted}
+use Rattle.scad_scope.specs.FrameNames.{listing_of}
+use Rattle.scad_scope.specs.ListedValues.{name_placed}
+use Rattle.scad_scope.proofs.ListedValues.{place-name, place-number, place-unlisted}
 use Rattle.scad_scope.proofs.placed_values.PlacedValues.find.Goals as goal
 
 pub returns-then-number-len : goal.returns-then-number-len

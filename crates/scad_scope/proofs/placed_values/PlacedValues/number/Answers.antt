@@ -1,6 +1,6 @@
 use Rattle.std.proofs.Common.{arith, map, vec_len, ◌∙◌}
-use Rattle.scad_scope.specs.Placed.{place_in_entry}
-use Rattle.scad_scope.proofs.Placed.{number-there, number-past}
+use Rattle.scad_scope.specs.ListedValues.{place_in_entry}
+use Rattle.scad_scope.proofs.ListedValues.{number-there, number-past}
 use Rattle.scad_scope.proofs.placed_values.PlacedValues.number.Goals as goal
 
 pub returns-then-place-count : goal.returns-then-place-count

@@ -1,8 +1,8 @@
 use Rattle.std.proofs.Common.{arith, sym, ap, ◌∙◌, map, vec_len, Some, Option, ℕ}
-use Rattle.scad_scope.specs.Held.{listing_of}
+use Rattle.scad_scope.specs.FrameNames.{listing_of}
 use Rattle.scad_scope.specs.Listing.{place_of, name_at}
-use Rattle.scad_scope.specs.Placed.{place_in_entry}
-use Rattle.scad_scope.proofs.Placed.{order-push, places-push}
+use Rattle.scad_scope.specs.ListedValues.{place_in_entry}
+use Rattle.scad_scope.proofs.ListedValues.{order-push, places-push}
 use Rattle.scad_scope.proofs.placed_values.PlacedValues.push.Goals as goal
 
 pub invariant_of-self-2 : goal.invariant_of-self-2

@@ -1,7 +1,7 @@
 use Rattle.std.proofs.Common.{arith}
 use Rattle.std.proofs.lemmas.List.{length-map}
-use Rattle.scad_scope.specs.Held.{listing_of}
-use Rattle.scad_scope.specs.Placed.{name_placed}
+use Rattle.scad_scope.specs.FrameNames.{listing_of}
+use Rattle.scad_scope.specs.ListedValues.{name_placed}
 use Rattle.scad_scope.proofs.Few.{few-value}
 use Rattle.scad_scope.proofs.placed_values.PlacedValues.value.Goals as goal
 

@@ -2,9 +2,9 @@ use Rattle.std.proofs.Common.{arith, refl, sym, ap, ◌∙◌, map, Some, Option
 use Rattle.std.proofs.lemmas.List.{length-map}
 use Rattle.std.proofs.Math.Seq.{map-set_same}
 use Rattle.scad_value.specs.View.{datum_of}
-use Rattle.scad_scope.specs.Held.{listing_of}
+use Rattle.scad_scope.specs.FrameNames.{listing_of}
 use Rattle.scad_scope.specs.Listing.{place_of, name_at}
-use Rattle.scad_scope.specs.Placed.{name_placed, place_in_entry}
+use Rattle.scad_scope.specs.ListedValues.{name_placed, place_in_entry}
 use Rattle.scad_scope.proofs.Few.{few-set}
 use Rattle.scad_scope.proofs.placed_values.PlacedValues.write.Goals as goal
 

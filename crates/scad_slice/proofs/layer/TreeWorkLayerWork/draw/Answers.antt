@@ -3,9 +3,9 @@ use Rattle.std.proofs.lemmas.Result.{IfOk-weaker}
 use Rattle.scad_tree.specs.View.{solid_of}
 use Rattle.slice_work.specs.Part.{Part, Ends}
 use Rattle.scad_slice.specs.Covers.{CoversFit}
-use Rattle.scad_slice.specs.Drawn.{DrawsLayer}
+use Rattle.scad_slice.specs.LayerEnd.{DrawsLayer}
 use Rattle.scad_slice.specs.Parts.{IsPart}
-use Rattle.scad_slice.proofs.Drawn.{ends_so}
+use Rattle.scad_slice.proofs.LayerDrawing.{ends_so}
 use Rattle.scad_slice.proofs.layer.TreeWorkLayerWork.draw.Goals as goal
 
 pub returns-clause-end : goal.returns-clause-end

@@ -3,7 +3,7 @@ use Rattle.std.proofs.Common.{◌≡◌, ℕ, Bool, false, List, sym, ap, ◌∙
 use Rattle.std.specs.Prelude.{IsPermutation}
 use Rattle.scad_geom.specs.declared.point.Edge.{Edge}
 use Rattle.slice_loops.specs.Remaining.{taken_at}
-use Rattle.slice_loops.proofs.Taken.{none_taken, no_marks}
+use Rattle.slice_loops.proofs.Marks.{none_taken, no_marks}
 use Rattle.slice_loops.proofs.remainder.Remaining.new.Goals as goal
 
 pub returns-clause-all : goal.returns-clause-all

@@ -1,7 +1,7 @@
 -- The edge that is found is the least of those that start at the point.
 use Rattle.std.proofs.Common.{ℕ, List, length, refl, ap, subst, arith}
 use Rattle.scad_geom.specs.declared.point.Edge.{Edge}
-use Rattle.slice_loops.proofs.Found.{IsFirstPlace, group_inside, from_inside, finds, is_untaken, takes_least, noted}
+use Rattle.slice_loops.proofs.LeastEdge.{IsFirstPlace, group_inside, from_inside, finds, is_untaken, takes_least, noted}
 use Rattle.slice_loops.proofs.remainder.Remaining.take_from.Goals as goal
 
 pub index-requires : goal.index-requires

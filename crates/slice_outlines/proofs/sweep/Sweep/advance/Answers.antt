@@ -19,7 +19,7 @@ use Rattle.slice_outlines.proofs.Fitting.{named_size, fits_apart}
 use Rattle.slice_outlines.proofs.Climbing.{swept_members, swept_named, swept_few, can_shift}
 use Rattle.slice_outlines.proofs.FlatsOn.{level_flats, next_lower, next_later}
 use Rattle.slice_outlines.proofs.Advancing.{changes_as, told_as, climbs, climbed}
-use Rattle.slice_outlines.proofs.Ended.{marks_all_pass}
+use Rattle.slice_outlines.proofs.SweepEnd.{marks_all_pass}
 use Rattle.slice_outlines.proofs.sweep.Sweep.advance.Goals as goal
 
 pub clear_cursors-requires-clause-members : goal.clear_cursors-requires-clause-members

@@ -2,7 +2,7 @@
 use Rattle.std.proofs.Common.{[], refl, sym, ap, ◌∙◌}
 use Rattle.slice_outlines.specs.declared.height.Height.{Height}
 use Rattle.slice_outlines.proofs.Climbing.{swept_members}
-use Rattle.slice_outlines.proofs.Ended.{all_from, marks_all_pass, below_order, all_merged}
+use Rattle.slice_outlines.proofs.SweepEnd.{all_from, marks_all_pass, below_order, all_merged}
 use Rattle.slice_outlines.proofs.sweep.Sweep.end.Goals as goal
 
 pub clear-requires-clause-members : goal.clear-requires-clause-members

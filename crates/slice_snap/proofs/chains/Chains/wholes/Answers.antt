@@ -1,7 +1,7 @@
 -- A piece is a chain's whole where it isn't gone.
 use Rattle.std.proofs.Common.{List, Bool, ap, ◌∙◌, arith}
 use Rattle.slice_snap.specs.declared.piece.Piece.{Piece}
-use Rattle.slice_snap.proofs.Linked.{one_pushed, none_pushed, gone_read}
+use Rattle.slice_snap.proofs.ChainLinks.{one_pushed, none_pushed, gone_read}
 use Rattle.slice_snap.proofs.chains.Chains.wholes.Goals as goal
 use Rattle.slice_snap.proofs.chains.Chains.wholes.Goals.{then-not-index+in_ok-push, else-not-index}
 

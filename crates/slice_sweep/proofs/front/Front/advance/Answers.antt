@@ -14,8 +14,8 @@ use Rattle.slice_sweep.specs.Strands.{bundles_of, numbers_in, AreWaiting}
 use Rattle.slice_sweep.specs.Front.{AreAll}
 use Rattle.slice_sweep.specs.Changes.{AreChanges}
 use Rattle.slice_sweep.specs.Places.{came_from_below, StartsAt}
-use Rattle.slice_sweep.proofs.Begun.{all_came_from_below, begun_at_height, pending_above, live_below}
-use Rattle.slice_sweep.proofs.Lifted.{made_by, begun_there}
+use Rattle.slice_sweep.proofs.EdgeStarts.{all_came_from_below, begun_at_height, pending_above, live_below}
+use Rattle.slice_sweep.proofs.HeightStep.{made_by, begun_there}
 use Rattle.slice_sweep.proofs.Starts.{starts_left, rising_left, begun_by, pending_by}
 use Rattle.slice_sweep.proofs.front.Front.advance.Goals as goal
 use Rattle.slice_sweep.proofs.front.Front.advance.Goals.{After-drop-numbers-2}

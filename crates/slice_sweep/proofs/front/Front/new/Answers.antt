@@ -6,8 +6,8 @@ use Rattle.slice_sweep.specs.LowerEnds.{starts_of}
 use Rattle.slice_sweep.specs.Strands.{bundles_of, numbers_in, AreWaiting}
 use Rattle.std.specs.List.{AllByRecursion}
 use Rattle.slice_sweep.specs.Front.{AreAll, StartsBelow}
-use Rattle.slice_sweep.proofs.Begun.{starts_from}
-use Rattle.slice_sweep.proofs.Lifted.{none_yet, none_waiting}
+use Rattle.slice_sweep.proofs.EdgeStarts.{starts_from}
+use Rattle.slice_sweep.proofs.HeightStep.{none_yet, none_waiting}
 use Rattle.slice_sweep.proofs.front.Front.new.Goals as goal
 
 pub returns-clause-none : goal.returns-clause-none
