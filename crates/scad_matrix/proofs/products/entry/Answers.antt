@@ -2,7 +2,7 @@ use Rattle.std.proofs.Common.{◌≡◌, FitsSigned, ap, sym, ◌∙◌}
 use Rattle.std.proofs.lemmas.Int.{to_z-of_z}
 use Rattle.scad_num.specs.Number.{number_of}
 use Rattle.scad_matrix.specs.Matrix.{entry}
-use Rattle.scad_matrix.proofs.Products.{in_range-number, in_range-none}
+use Rattle.scad_matrix.proofs.RoundedProducts.{in_range-number, in_range-none}
 use Rattle.scad_matrix.proofs.products.entry.Goals as goal
 use mir.Syntax.{w128}
 
