@@ -27,10 +27,11 @@ pub(crate) fn compare(found: &mut Found, e: &Line, f: &Line) -> Result<(), Alloc
     ensures { OnOk result (HasYielded found.old found.new (yield_of e.now.edge f.now.edge)) }
 {
     found.tests += 1;
-    if crosses(e, f) {
+    let cross = crosses(e, f);
+    if cross {
         found.count += 1;
     }
-    if is_kept(e, f) && found.count <= CROSSING_LIMIT {
+    if is_kept(e, f, cross) && found.count <= CROSSING_LIMIT {
         found.heights.push(Height {
             level: meeting(e, f),
         })?;

@@ -61,12 +61,13 @@ fn are_apart(s: i64, t: i64) -> bool
     (s <= 0 && 0 <= t) || (0 <= s && t <= 0)
 }
 
-/// Whether two edges cross at a height that isn't one of an end.
+/// Whether two edges, of which it's known whether they cross, do so at a height that isn't one of an end.
 #[tactic(auto, unfolding(crate::specs::KeptHeights::is_kept))]
-pub(crate) fn is_kept(e: &Line, f: &Line) -> bool
+pub(crate) fn is_kept(e: &Line, f: &Line, cross: bool) -> bool
+    requires { cross ≡ crosses e.now.edge f.now.edge }
     ensures { result ≡ is_kept e.now.edge f.now.edge }
 {
-    crosses(e, f) && ((is_rising(e) && is_rising(f)) && are_ends_beside(e, f))
+    cross && ((is_rising(e) && is_rising(f)) && are_ends_beside(e, f))
 }
 
 #[tactic(auto, unfolding(crate::specs::KeptHeights::are_ends_beside))]

@@ -115,12 +115,13 @@ fn bucket_of(tall: u32, y: i32) -> u32
     (y + 1_100_000).unsigned_abs() / tall
 }
 
-/// A height of buckets by which the edges have at most about four stays each, taken together.
+/// The mean rise of the edges: by buckets of this height they have at most about three stays each, taken together. Lower
+/// ones give more stays to sort, higher ones more pairs that are compared for nothing.
 pub(crate) fn bucket_height(lines: &[Line]) -> u32
     requires { length lines.now < 2 ^ 32 }
     ensures { 0 < result }
 {
-    let mean = sum_of_rises(lines) / (2 * lines.len() as u64 + 1);
+    let mean = sum_of_rises(lines) / (lines.len() as u64 + 1);
     mean.min(2_200_000) as u32 + 1
 }
 
