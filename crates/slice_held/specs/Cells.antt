@@ -26,6 +26,10 @@ told cells i = count_by (tells i) cells
 abbrev pub bare : Cell → Cell
 bare c = record c { count = 0 }
 
+-- a cell with another count
+abbrev pub counting : ℕ → Cell → Cell
+counting n c = record c { count = n }
+
 abbrev pub moved : Bool → Cell → Cell
 moved up c = record c { count = if up then c.count + 1 else c.count - 1 }
 

@@ -1,9 +1,9 @@
 //! Cells of leaves, put in and out, and cells that are added.
 ghost use Rattle.std.specs.Prelude.{◌≡◌, ◌≢◌, ◌<◌, ◌^◌, ◌++◌, [], ◌∷◌, map, length, OnOk};
-ghost use Rattle.slice_held.specs.Cells.{cell_at, bare, holds, IsUnchangedBut, AreSound, AreOut, HasPlaceUnder};
+ghost use Rattle.slice_held.specs.Cells.{cell_at, bare, counting, holds, IsUnchangedBut, AreSound, AreOut, HasPlaceUnder};
 
 use crate::cell::Cell;
-use crate::counts::{cell_at, is_told, moved, replace};
+use crate::counts::{cell_at, is_told, moved, recount};
 use std::alloc::AllocError;
 
 /// Puts the cell of a leaf in or out.
@@ -18,15 +18,14 @@ pub(crate) fn put(cells: &mut Vec<Cell>, at: usize, inside: bool)
     ensures others { IsUnchangedBut at cells.old.items cells.new.items }
 {
     let cell = cell_at(cells, at);
-    replace(cells, at, put_cell(&cell, inside));
+    recount(cells, at, count_of(&cell, inside));
 }
 
-fn put_cell(cell: &Cell, inside: bool) -> Cell
-    ensures bare { bare result ≡ bare cell.now }
-    ensures holds { holds result ≡ inside }
+// The count of a leaf's cell that is put in or out.
+fn count_of(cell: &Cell, inside: bool) -> usize
+    ensures { holds (counting result cell.now) ≡ inside }
 {
-    let count = if cell.any == inside { 1 } else { 0 };
-    Cell { count, ..*cell }
+    if cell.any == inside { 1 } else { 0 }
 }
 
 /// Adds a cell that counts nothing yet.
@@ -43,7 +42,7 @@ pub(crate) fn push_cell(cells: &mut Vec<Cell>, cell: Cell) -> Result<(), AllocEr
     if cell.parent > 0 && is_told(&cell) {
         let up = cell.parent - 1;
         let above = cell_at(cells, up);
-        replace(cells, up, moved(&above, true));
+        recount(cells, up, moved(&above, true));
     }
     Ok(())
 }

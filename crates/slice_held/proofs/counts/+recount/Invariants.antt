@@ -1,5 +1,5 @@
 use Rattle.std.proofs.Common.{◌≡◌, ◌<◌, ◌≤◌, ◌^◌, ◌+◌, length, ℕ, ◌-◌, ◌*◌}
-use Rattle.slice_held.proofs.counts.+replace.Given as goal
+use Rattle.slice_held.proofs.counts.+recount.Given as goal
 
-abbrev pub decreases-replace : goal.decreases-replace
-decreases-replace l = l.at
+abbrev pub decreases-recount : goal.decreases-recount
+decreases-recount l = l.at
