@@ -1,6 +1,7 @@
 //! The bundles that have reached a height, and the edges that start later.
 
 use crate::lower_end::LowerEnd;
+use crate::room::Room;
 use crate::strand::Strand;
 use std::alloc::Global;
 
@@ -13,4 +14,5 @@ pub struct Front {
     pub(crate) ends: Vec<LowerEnd>,
     pub(crate) begun: usize,
     pub(crate) strands: Vec<Strand>,
+    pub(crate) room: Room,
 }

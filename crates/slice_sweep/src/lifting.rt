@@ -14,6 +14,7 @@ use crate::front::Front;
 use crate::key::key_of;
 use crate::lower_ends::{begin, lower_ends};
 use crate::mend::mend;
+use crate::room::Room;
 use crate::start::start_all;
 use crate::step::Step;
 use crate::wake::wake_all;
@@ -34,6 +35,7 @@ impl Front {
             ends: lower_ends(alloc, edges)?,
             begun: 0,
             strands: Vec::new(alloc),
+            room: Room::new(alloc),
         })
     }
 
@@ -56,9 +58,10 @@ impl Front {
         ensures changes { IfOk result (λ v. IsBegunTo edges.now lower.now self.old
             → AreChanges edges.now lower.now (bundles_in self.old) (bundles_in self.new) v.items) }
     {
-        let mut numbers = Vec::new(self.alloc);
-        self.begun = begin(&mut numbers, &self.ends, self.begun, lower)?;
-        start_all(edges, &mut self.strands, &numbers, lower)?;
+        let numbers = &mut self.room.numbers;
+        numbers.clear();
+        self.begun = begin(numbers, &self.ends, self.begun, lower)?;
+        start_all(edges, &mut self.strands, numbers, lower)?;
         let step = Step {
             alloc: self.alloc,
             edges,
@@ -66,7 +69,7 @@ impl Front {
             upper,
             key: key_of(lower),
         };
-        let changes = mend(&step, &mut self.strands)?;
+        let changes = mend(&step, &mut self.strands, &mut self.room)?;
         wake_all(&step, &mut self.strands, &changes);
         Ok(changes)
     }

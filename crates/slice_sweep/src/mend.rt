@@ -22,7 +22,11 @@ use crate::strand::Strand;
 use std::alloc::AllocError;
 
 /// Puts the strands at the lower height into the order that they have above it, and tells what changes.
-pub(crate) fn mend(step: &Step<'_>, strands: &mut Vec<Strand>) -> Result<Vec<Change>, AllocError>
+pub(crate) fn mend(
+    step: &Step<'_>,
+    strands: &mut Vec<Strand>,
+    room: &mut Room,
+) -> Result<Vec<Change>, AllocError>
     requires neighbours { AreNeighbours step.now.edges.now step.now.lower.now step.now.upper.now }
     requires waiting { AreWaiting step.now.edges.now step.now.lower.now strands.old.items }
     ensures ordered { OnOk result
@@ -35,10 +39,9 @@ pub(crate) fn mend(step: &Step<'_>, strands: &mut Vec<Strand>) -> Result<Vec<Cha
         (bundles_of strands.new.items) v.items) }
 {
     let mut changes = Vec::new(step.alloc);
-    let mut room = Room::new(step.alloc);
     let mut place = 0;
     'places: while place < strands.len() {
-        place = mend_at(step, strands, &mut changes, &mut room, place)?;
+        place = mend_at(step, strands, &mut changes, room, place)?;
     }
     Ok(changes)
 }
@@ -63,10 +66,30 @@ fn mend_at(
         → ArePlacedTo step.now.edges.now step.now.lower.now place all strands.old.items changes.old.items
         → ArePlacedTo step.now.edges.now step.now.lower.now n all strands.new.items changes.new.items) }
 {
-    if is_asleep(step, strands, place) {
-        return Ok(place + 1);
+    let awake = pass_asleep(step, strands, place);
+    if awake == strands.len() {
+        return Ok(awake);
     }
-    mend_awake(step, strands, changes, room, place)
+    mend_awake(step, strands, changes, room, awake)
+}
+
+// The first strand from a place on that isn't asleep, or the place behind all: those before it stay as they are.
+fn pass_asleep(step: &Step<'_>, strands: &[Strand], from: usize) -> usize
+    requires neighbours { AreNeighbours step.now.edges.now step.now.lower.now step.now.upper.now }
+    requires mended { AreMendedTo step.now.edges.now step.now.lower.now step.now.upper.now from strands.now }
+    requires there { from < length strands.now }
+    ensures mended { AreMendedTo step.now.edges.now step.now.lower.now step.now.upper.now result strands.now }
+    ensures from { from ≤ result }
+    ensures within { result ≤ length strands.now }
+    ensures told { (all : List Strand) (cs : List Change)
+        → ArePlacedTo step.now.edges.now step.now.lower.now from all strands.now cs
+        → ArePlacedTo step.now.edges.now step.now.lower.now result all strands.now cs }
+{
+    let mut place = from;
+    'asleep: while place < strands.len() && is_asleep(step, strands, place) {
+        place += 1;
+    }
+    place
 }
 
 fn mend_awake(

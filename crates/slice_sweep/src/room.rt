@@ -1,9 +1,10 @@
-//! Memory that the groups of a height use one after another.
+//! Memory that heights and their groups use one after another.
 
 use crate::ray::Ray;
 use std::alloc::Global;
 
-/// What is gathered of one group, kept for the next so that it takes no memory anew.
+/// What is gathered of the edges that start at a height and then of one group, kept for the next so that it takes no
+/// memory anew.
 #[derive(Drop)]
 pub(crate) struct Room {
     pub(crate) numbers: Vec<u32>,

@@ -18,15 +18,15 @@ use Rattle.slice_sweep.proofs.EdgeStarts.{all_came_from_below, begun_at_height, 
 use Rattle.slice_sweep.proofs.HeightStep.{made_by, begun_there}
 use Rattle.slice_sweep.proofs.Starts.{starts_left, rising_left, begun_by, pending_by}
 use Rattle.slice_sweep.proofs.front.Front.advance.Goals as goal
-use Rattle.slice_sweep.proofs.front.Front.advance.Goals.{After-drop-numbers-2}
+use Rattle.slice_sweep.proofs.front.Front.advance.Goals.{After-wake_all}
 
 pub start_all-requires-clause-there : goal.start_all-requires-clause-there
 start_all-requires-clause-there c =
     let es = c.args.edges.now in
     let s = c.args.self.now in
     subst (All (λ k. k < length es)) (sym (begun_by c.args.lower.now s.begun s.ends.items c.deref.result.now
-    c.new-numbers.result.items c.begin.new.numbers.items c.deref-2.result.now c.deref.ensures.value
-    c.new-numbers.ensures.items c.in_ok-self.ensures.begun c.deref-2.ensures.value))
+    c.clear.new.self.items c.begin.new.numbers.items c.deref-2.result.now c.deref.ensures.value
+    c.clear.ensures.items c.in_ok-self.ensures.begun c.deref-2.ensures.value))
     (begun_there es c.args.lower.now (starts_of (drop s.begun s.ends.items))
     (starts_left es s.begun s.ends.items c.requires.ready.starts))
 
@@ -47,7 +47,7 @@ invariant_of-step-clause-key_is c =
     subst (λ (z : ℤ). (wake : ℤ) → z <ℤ wake → IsBelowKey c.args.lower.now wake)
     (sym (to_z-of_z w128 c.key_of.result (record { sfits = c.key_of.type_inv }))) c.key_of.ensures
 
-made : (c : After-drop-numbers-2)
+made : (c : After-wake_all)
     → AreBundles c.args.edges.now c.args.lower.now c.args.upper.now (bundles_of c.wake_all.new.strands.items)
     × AreWaiting c.args.edges.now c.args.upper.now c.wake_all.new.strands.items
     × ((h : Level) → pos 0 <ℤ h.d → IsAtMost c.args.upper.now h
@@ -61,8 +61,8 @@ made c =
     c.start_all.new.strands.items c.mend.new.strands.items c.wake_all.new.strands.items
     (starts_left es s.begun s.ends.items c.requires.ready.starts)
     (rising_left s.begun s.ends.items c.requires.ready.rising) c.requires.ready.waiting c.requires.ready.later
-    (begun_by c.args.lower.now s.begun s.ends.items c.deref.result.now c.new-numbers.result.items
-    c.begin.new.numbers.items c.deref-2.result.now c.deref.ensures.value c.new-numbers.ensures.items
+    (begun_by c.args.lower.now s.begun s.ends.items c.deref.result.now c.clear.new.self.items
+    c.begin.new.numbers.items c.deref-2.result.now c.deref.ensures.value c.clear.ensures.items
     c.in_ok-self.ensures.begun c.deref-2.ensures.value)
     (pending_by c.args.lower.now s.begun c.in_ok-self.field-0 s.ends.items c.deref.result.now c.deref.ensures.value
     c.in_ok-self.ensures.pending) c.in_ok-start_all.ensures.numbers c.in_ok-changes.ensures.numbers
@@ -105,8 +105,8 @@ returns-clause-changes c h =
     let P : List Start = starts_of (drop s.begun s.ends.items) in
     let old = all_came_from_below es l s.strands.items c.requires.ready.waiting.held h.live in
     let begin_now = subst (All (StartsAt es l)) (sym (begun_by l s.begun s.ends.items c.deref.result.now
-    c.new-numbers.result.items c.begin.new.numbers.items c.deref-2.result.now c.deref.ensures.value
-    c.new-numbers.ensures.items c.in_ok-self.ensures.begun c.deref-2.ensures.value))
+    c.clear.new.self.items c.begin.new.numbers.items c.deref-2.result.now c.deref.ensures.value
+    c.clear.ensures.items c.in_ok-self.ensures.begun c.deref-2.ensures.value))
     (begun_at_height es l P (starts_left es s.begun s.ends.items c.requires.ready.starts) h.pending) in
     let below = c.in_ok-start_all.ensures.below begin_now ∙ old.0 in
     let keyless = c.in_ok-start_all.ensures.keyless old.1 in
