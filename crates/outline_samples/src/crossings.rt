@@ -8,7 +8,12 @@ use slice_events::{EventFault, levels};
 use std::alloc::{AllocError, Global};
 
 // One edge many times over: its copies don't cross each other.
-fn push_copies(edges: &mut Vec<LeafEdge>, count: u16, a: Pt, b: Pt) -> Result<(), AllocError>
+pub(crate) fn push_copies(
+    edges: &mut Vec<LeafEdge>,
+    count: u16,
+    a: Pt,
+    b: Pt,
+) -> Result<(), AllocError>
     requires edges { All (λ e. IsEdgeWithin coordinate_limit e.edge) edges.old.items }
     requires a { IsWithin coordinate_limit a }
     requires b { IsWithin coordinate_limit b }
