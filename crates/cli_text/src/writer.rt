@@ -1,5 +1,5 @@
 //! The head, the layers and the end of a file.
-ghost use Rattle.std.specs.Prelude.{◌≡◌, ◌++◌, List, take, OnOk, OnErr};
+ghost use Rattle.std.specs.Prelude.{◌≡◌, ◌++◌, List, OnOk, OnErr};
 ghost use Rattle.std.specs.List.{flat_map};
 ghost use Rattle.scad_geom.specs.declared.point.Pt.{Pt};
 ghost use Rattle.scad_geom.specs.declared.point.Edge.{Edge};
@@ -11,6 +11,7 @@ use crate::number::push_unsigned;
 use crate::polyline::push_polyline;
 use scad_geom::{Edge, Loop};
 use std::alloc::AllocError;
+use text_scan::whole_or_nothing;
 
 /// Appends the head of a file of `layers` layers. Where memory runs out, `out` is as it was.
 pub fn write_head(out: &mut Vec<u8>, layers: u32) -> Result<(), AllocError>
@@ -47,22 +48,6 @@ pub fn write_end(out: &mut Vec<u8>) -> Result<(), AllocError>
     ensures err { OnErr result (out.new.items ≡ out.old.items) }
 {
     out.extend_from_slice(b"$$GEOMETRYEND\n")
-}
-
-// Cuts the text back to its length before a call that ran out of memory.
-fn whole_or_nothing(
-    out: &mut Vec<u8>,
-    kept: usize,
-    written: Result<(), AllocError>,
-) -> Result<(), AllocError>
-    ensures answer { result ≡ written }
-    ensures whole { OnOk written (out.new.items ≡ out.old.items) }
-    ensures nothing { OnErr written (out.new.items ≡ take kept out.old.items) }
-{
-    if written.is_err() {
-        out.truncate(kept);
-    }
-    written
 }
 
 fn push_head(out: &mut Vec<u8>, layers: u32) -> Result<(), AllocError>

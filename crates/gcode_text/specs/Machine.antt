@@ -5,6 +5,7 @@ use Rattle.std.specs.Ordering.{int_eq}
 use Rattle.std.specs.List.{list_any}
 use Rattle.scad_base.specs.Results.{and_then}
 use Rattle.scad_geom.specs.declared.point3.Pt3.{Pt3}
+use Rattle.scad_geom.specs.Limits.{coordinate_limit}
 use Rattle.gcode_text.specs.declared.fault.GFault.{GFault}
 use Rattle.gcode_text.specs.declared.fault.GFault.TheVariants.{UnknownWord, BadNumber}
 use Rattle.gcode_text.specs.declared.machine.Move.{Move}
@@ -96,10 +97,10 @@ Range = ℕ → ℤ → Bool
 abbrev pub any : Range
 any letter z = true
 
--- axes within 1.1 m, amounts within 2 * 10 ^ 18 units
+-- axes within the limit of coordinates, amounts within 2 * 10 ^ 18 units
 unfoldable pub limited : Range
 limited letter z =
-    if is_axis letter then nat_le (unsigned_abs z) 1100000
+    if is_axis letter then nat_le (unsigned_abs z) coordinate_limit
     else (if letter == amount_letter then nat_le (unsigned_abs z) 2000000000000000000 else true)
 
 -- the number in its range, where it is one

@@ -2,6 +2,8 @@
 ghost use Rattle.std.specs.Prelude.{◌≡◌, IsTrue};
 ghost use Rattle.gcode_text.specs.Machine.{nothing_given, was_given, with_number, limited, names_none};
 
+use scad_geom::COORDINATE_LIMIT;
+
 /// The numbers that the words of a line name. Those of `F` and `S` change nothing.
 #[derive(Clone, Copy, Debug, PartialEq, Eq)]
 pub(crate) struct Given {
@@ -92,7 +94,7 @@ pub(crate) fn is_limited(letter: u8, number: i64) -> bool
     ensures { result ≡ limited letter number }
 {
     if letter == b'X' || letter == b'Y' || letter == b'Z' {
-        number.unsigned_abs() <= 1_100_000
+        number.unsigned_abs() <= u64::from(COORDINATE_LIMIT)
     } else if letter == b'E' {
         number.unsigned_abs() <= 2_000_000_000_000_000_000
     } else {

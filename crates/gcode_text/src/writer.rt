@@ -1,5 +1,5 @@
 //! The head, the layers and the end of a program.
-ghost use Rattle.std.specs.Prelude.{◌≡◌, ◌+◌, ◌^◌, ◌<◌, ◌≤◌, List, ◌++◌, take, length, OnOk, OnErr};
+ghost use Rattle.std.specs.Prelude.{◌≡◌, ◌+◌, ◌^◌, ◌<◌, ◌≤◌, List, ◌++◌, length, OnOk, OnErr};
 ghost use Rattle.std.specs.List.{sum_by};
 ghost use Rattle.scad_geom.specs.declared.point.Pt.{Pt};
 ghost use Rattle.gcode_text.specs.Amount.{paths_volume};
@@ -11,6 +11,7 @@ use crate::rates::Rates;
 use crate::word::push_heat;
 use scad_geom::Path;
 use std::alloc::AllocError;
+use text_scan::whole_or_nothing;
 
 /// Appends the head of a program, with the temperatures of the hot end and of the bed in degrees Celsius. Where
 /// memory runs out, `out` is as it was.
@@ -87,22 +88,6 @@ pub fn write_end(out: &mut Vec<u8>) -> Result<(), AllocError>
     ensures err { OnErr result (out.new.items ≡ out.old.items) }
 {
     out.extend_from_slice(b"M104 S0\nM140 S0\nM84\n")
-}
-
-// Cuts the text back to its length before a call that ran out of memory.
-fn whole_or_nothing(
-    out: &mut Vec<u8>,
-    kept: usize,
-    written: Result<(), AllocError>,
-) -> Result<(), AllocError>
-    ensures answer { result ≡ written }
-    ensures whole { OnOk written (out.new.items ≡ out.old.items) }
-    ensures nothing { OnErr written (out.new.items ≡ take kept out.old.items) }
-{
-    if written.is_err() {
-        out.truncate(kept);
-    }
-    written
 }
 
 fn push_head(out: &mut Vec<u8>, hot_end: u32, bed: u32) -> Result<(), AllocError>

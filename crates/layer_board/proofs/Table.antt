@@ -9,6 +9,7 @@ use Rattle.atomic_table.specs.Table.{State, Me, step, keeps, stepped, Allows, Sp
 use Rattle.atomic_table.proofs.Lists.{set_again, set_else, set_here}
 use Rattle.layer_board.specs.declared.view.View.{View}
 use Rattle.layer_board.specs.declared.view.Size.{Size}
+use Rattle.layer_board.specs.Limits.{worker_limit}
 use Rattle.layer_board.specs.Numbers.{lowest}
 use Rattle.layer_board.specs.Pass.{opened, spent, gives, given, draws, ends, claims, skips, is_above, looks, fails, finishes, joins}
 use Rattle.layer_board.specs.Events.{BoardState, IsLive}
@@ -37,8 +38,8 @@ members_given : (c : ℕ) (s : BoardState) → IsSound c s → sum_by (λ v. sum
     ≡ given_of s.passes
 members_given c s k = members_sum c s k (λ _. 1) ∙ length-below (given_of s.passes)
 
--- next lies within 64 of the number of layers
-pub next_within : (size : Size) (s : State (Unit {0}) View) → IsBoard size s → slice_index s.words 0 ≤ size.count + 64
+-- next lies within the limit of workers of the number of layers
+pub next_within : (size : Size) (s : State (Unit {0}) View) → IsBoard size s → slice_index s.words 0 ≤ size.count + worker_limit
 next_within size s b =
     let p = members_given size.count (board_of s) b.sound in
     let q = sum_mono ended_of (λ v. sum_by (λ _. 1) v.members) ended_few s.views in
@@ -47,7 +48,7 @@ next_within size s b =
     let u = b.workers in omega arith
 
 pub members_few : (size : Size) (s : State (Unit {0}) View) (i : ℕ) (v : View) → get_elem? s.views i ≡ some v
-    → IsBoard size s → length v.members ≤ 64
+    → IsBoard size s → length v.members ≤ worker_limit
 members_few size s i v e b =
     let p = members_given size.count (board_of s) b.sound in
     let q = part_le_sum (λ (u : View). sum_by (λ _. 1) u.members) s.views i v e in
@@ -236,7 +237,7 @@ joins_step size id other v w live_v live_w free_v free_w s b e apart f =
           s.views id other v w apart e there live_v live_w free_v free_w k;
     }
 
-pub opens_board : (size : Size) → 0 < size.workers → size.workers ≤ 64 → size.count < 4294967296
+pub opens_board : (size : Size) → 0 < size.workers → size.workers ≤ worker_limit → size.count < 4294967296
     → IsBoard size (record { words = 0 ∷ size.count ∷ []; homes = []; views = opened size.count ∷ [] })
 opens_board size some_worker few layers = record {
   words = refl;

@@ -1,5 +1,5 @@
 -- What the calls of a board say of its passes.
-use Rattle.std.specs.Prelude.{◌≡◌, ℕ, ◌-◌, ◌<◌, ◌∷◌, ◌++◌, Bool, true, false, List, [], length, All, Contains, replicate}
+use Rattle.std.specs.Prelude.{◌≡◌, ℕ, ◌-◌, ◌<◌, ◌∷◌, ◌++◌, Bool, true, false, None, List, [], length, All, Contains, replicate}
 use Rattle.layer_board.specs.declared.view.View.{View}
 use Rattle.layer_board.specs.declared.board.Board.{Board}
 use Rattle.layer_board.specs.declared.board.Pass.{Pass}
@@ -31,6 +31,12 @@ pub record IsFresh (b : Board) (p : Pass) : Type 0 where
   pub member : length (view p).members ≡ 1
   pub nothing : IsEmpty (view p)
   pub ended : (view p).ended ≡ false
+
+-- a pass that is done with its layers: it was told the end, and nothing is pending in it
+pub record IsThrough (b : Board) (p : Pass) : Type 0 where
+  pub «of» : IsOf b p
+  pub free : (view p).pending ≡ None
+  pub ended : (view p).ended ≡ true
 
 -- a board of so many layers has these passes, after its first pass was split so often, and after no other event
 abbrev pub AreSplit : ℕ → ℕ → View → List View → Type 0

@@ -1,4 +1,5 @@
 -- What the public calls promise.
+pub mod Limits
 pub mod Numbers
 pub mod Pass
 pub mod Events

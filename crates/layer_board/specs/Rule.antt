@@ -3,6 +3,7 @@ use Rattle.std.specs.Prelude.{◌≡◌, ℕ, ◌<◌, ◌≤◌, length, All, s
 use Rattle.atomic_table.specs.Table.{State, Me, Step}
 use Rattle.layer_board.specs.declared.view.View.{View}
 use Rattle.layer_board.specs.declared.view.Size.{Size}
+use Rattle.layer_board.specs.Limits.{worker_limit}
 use Rattle.layer_board.specs.Numbers.{lowest}
 use Rattle.layer_board.specs.Pass.{claims, looks, fails, finishes}
 use Rattle.layer_board.specs.Events.{BoardState}
@@ -15,7 +16,7 @@ board_of s = record { next = slice_index s.words 0; least = slice_index s.words 
 pub record IsBoard (size : Size) (s : State (Unit {0}) View) : Type 0 where
   pub words : length s.words ≡ 2
   pub layers : size.count < 4294967296
-  pub workers : size.workers ≤ 64
+  pub workers : size.workers ≤ worker_limit
   -- no more members than workers
   pub given : given_of s.views ≤ size.workers
   pub sound : IsSound size.count (board_of s)
@@ -38,7 +39,7 @@ module _ (st : Step (Unit {0})) (me : Me (Unit {0}) View) (found : ℕ) (me' : M
   abbrev pub Finished : Type 0
   Finished = me' ≡ (finishes me.0, me.1)
 
-  -- no event: a pass has at most 64 members
+  -- no event: a pass has no more members than a board may have workers
   pub record Counted : Type 0 where
     pub event : me' ≡ me
-    pub few : length me.0.members ≤ 64
+    pub few : length me.0.members ≤ worker_limit

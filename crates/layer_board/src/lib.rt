@@ -7,7 +7,9 @@
 mod board;
 pub mod laws;
 mod rule;
+mod share;
 mod view;
 
 pub use board::{Board, Claim, Outcome, Pass};
+pub use share::{Share, together};
 pub use view::View;

@@ -1,10 +1,14 @@
-//! Marks in bytes, by which lines and words are parted.
+//! Marks in bytes, by which lines and words are parted, and texts that are appended whole or not at all.
 //!
-//! The contract promises the place of the first mark.
+//! The contracts promise the place of the first mark, and that what is cut back is the text before.
 #![tactic(auto)]
+
+mod writing;
 
 ghost use Rattle.std.specs.Prelude.{◌≡◌, ◌≤◌, length};
 ghost use Rattle.text_scan.specs.Marks.{first_at};
+
+pub use writing::whole_or_nothing;
 
 /// Where the first mark stands, or the length where there is none.
 pub fn first_at(bytes: &[u8], mark: u8) -> usize

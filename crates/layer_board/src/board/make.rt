@@ -1,5 +1,6 @@
 //! How a board is made.
 ghost use Rattle.std.specs.Prelude.{◌≡◌, ◌<◌, ◌≤◌, length, IfOk, map, All, Contains, vec_len};
+ghost use Rattle.layer_board.specs.Limits.{worker_limit};
 ghost use Rattle.layer_board.specs.Pass.{opened, gives, given};
 ghost use Rattle.layer_board.specs.Calls.{view, layers_of, workers_of, IsOf, IsFresh, AreDealt};
 
@@ -13,7 +14,7 @@ impl Board {
     /// A board of so many layers, and a pass for each worker.
     pub fn new(alloc: Global, count: u32, workers: u32) -> Result<(Board, Vec<Pass>), AllocError>
         requires some { 0 < workers }
-        requires few { workers ≤ 64 }
+        requires few { workers ≤ worker_limit }
         ensures board { IfOk result (λ r. (layers_of r.0 ≡ count) × (workers_of r.0 ≡ workers)) }
         ensures splits { IfOk result (λ r. AreDealt count workers (map view r.1.items)) }
         ensures passes { IfOk result (λ r. (vec_len r.1 ≡ workers) × All (IsFresh r.0) r.1.items) }
@@ -30,7 +31,7 @@ impl Board {
     // A board with its first pass, which counts one number given: its own.
     fn open(alloc: Global, count: u32, workers: u32) -> Result<(Board, Pass), AllocError>
         requires some { 0 < workers }
-        requires few { workers ≤ 64 }
+        requires few { workers ≤ worker_limit }
         ensures board { IfOk result (λ r. (layers_of r.0 ≡ count) × (workers_of r.0 ≡ workers)) }
         ensures pass { IfOk result (λ r. IsOf r.0 r.1 × (view r.1 ≡ opened count)) }
     {
