@@ -83,5 +83,6 @@ pub fn lex(alloc: Global, bytes: &[u8]) -> Result<Tokens, LexFault>
         at = after(at, first(rest, len));
         done += len;
     }
+    list.shrink_to_fit();
     Ok(Tokens { list, end: at })
 }

@@ -60,6 +60,7 @@ pub(crate) fn arguments<'a>(alloc: Global, ts: &'a [Token], end: Place, room: u3
         let (_, rest) = behind_argument(rest, end)?;
         left = rest;
     }
+    args.shrink_to_fit();
     Ok((args, left))
 }
 

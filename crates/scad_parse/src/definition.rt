@@ -21,12 +21,15 @@ use scad_fault::{Place, Text};
 use scad_lex::{Sign, Token};
 use std::alloc::{AllocError, Global};
 
-/// The scope with one more item.
+/// The scope with one more item. A scope of one item takes memory for that one alone, since most hold no more.
 #[tactic(auto, using(crate::proofs::rules::Statements::items_push))]
 pub(crate) fn pushed(scope: Scope, item: Item) -> Result<Scope, AllocError>
     ensures { IfOk result (λ all. items all.items ≡ with_item (items scope.items) (item_of item)) }
 {
     let mut all = scope;
+    if all.is_empty() {
+        all.reserve_exact(1)?;
+    }
     all.push(item)?;
     Ok(all)
 }

@@ -41,6 +41,7 @@ pub(crate) fn brackets<'a>(
         let (_, rest) = behind_member(Sign::CloseSquare, rest, end)?;
         left = rest;
     }
+    all.shrink_to_fit();
     Ok((node::vector(at, all), behind(left)))
 }
 

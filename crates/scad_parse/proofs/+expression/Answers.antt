@@ -1,4 +1,4 @@
-use Rattle.std.proofs.Common.{length, ap, sym, subst, ◌∙◌}
+use Rattle.std.proofs.Common.{length, ap, sym, subst, ◌∙◌, Ok}
 use Rattle.std.proofs.lemmas.Result.{err_from_is_err_and}
 use Rattle.scad_ast.specs.Tree.{Arguments, Elements, no_arguments, no_elements}
 use Rattle.scad_ast.specs.View.{expression_of, element_of, arguments, elements}
@@ -46,6 +46,7 @@ pub argument::arguments-returns : goal.argument::arguments-returns
 argument::arguments-returns t c =
     args_end c.args.end c.args.room _ (arguments c.members.args.items) c.members.left.now
     (sym c.is_end_of_arguments.ensures ∙ c.members-test.false) c.members.invariant
+    ∙ ap (λ (all : Arguments). Ok (all, c.members.left.now)) (ap arguments (sym c.shrink_to_fit.ensures.items))
 
 pub element::element-returns-then-is_key : goal.element::element-returns-then-is_key
 element::element-returns-then-is_key t c =
@@ -267,6 +268,6 @@ vector::brackets-returns-in_err-rest t c =
 
 pub vector::brackets-returns : goal.vector::brackets-returns
 vector::brackets-returns t c =
-    rw (c.vector.ensures, c.behind.ensures) (elements_end c.args.end c.args.room c.args.at _
+    rw (c.vector.ensures, c.behind.ensures, c.shrink_to_fit.ensures.items) (elements_end c.args.end c.args.room c.args.at _
     (elements c.members.all.items) c.members.left.now (sym c.begins_with.ensures ∙ c.members-test.false)
     c.members.invariant)

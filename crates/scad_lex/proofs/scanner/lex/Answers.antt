@@ -1,4 +1,4 @@
-use Rattle.std.proofs.Common.{◌≡◌, ap, sym, ◌∙◌, ◌≤◌, ◌+◌, drop, take, length, subst}
+use Rattle.std.proofs.Common.{◌≡◌, ap, sym, ◌∙◌, ◌≤◌, ◌+◌, drop, take, length, subst, Ok}
 use Rattle.scad_lex.specs.Tokens.{after, onto, tokens_from, start, Refuses}
 use Rattle.scad_lex.proofs.Pieces.{room_left, piece_read, refused_later, end_read, after-line, after-col}
 use Rattle.scad_lex.proofs.scanner.lex.Goals as goal
@@ -34,3 +34,4 @@ returns-clause-found c =
     ap (tokens_from 0 start) (sym c.without_mark-text.ensures.value)
     ∙ sym (end_read c.without_mark-text.result.now c.pieces.done c.pieces.at c.pieces.list.items _ c.pieces-test.false
     c.pieces.invariant.so_far)
+    ∙ ap (λ all. Ok (all, c.pieces.at)) (sym c.shrink_to_fit.ensures.items)
