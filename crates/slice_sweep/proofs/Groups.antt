@@ -5,7 +5,7 @@ use lib.Signed.{◌<ℤ◌}
 use Rattle.std.specs.Prelude.{int_lt, int_le, nat_lt, ◌&&◌}
 use Rattle.std.specs.Ordering.{int_eq}
 use Rattle.std.specs.Cmp.{signed_Decides}
-use Rattle.std.specs.List.{AllByRecursion, concat}
+use Rattle.std.specs.List.{AllByRecursion, All, concat}
 use Rattle.std.proofs.lemmas.Bool.{and_parts}
 use Rattle.std.proofs.lemmas.Int.{ints}
 use Rattle.std.proofs.lemmas.List.{append-nil, length-append, length-drop, take-append-drop, get_or-take, get_or-drop, get_or_read, length-take-le, take_at, drop_at, drop-drop, drop-take, nil_from_length, append_cancel_right}
@@ -112,6 +112,17 @@ there_of es l L h k d o =
     let s = All-from_recursion (IsHeld es l) L h k d o in
     All-from_recursion (λ j. j < length es) (get_or L k d).bundle
     (weaker (IsReaching es l l) (λ j. j < length es) (λ j r. r.there) (get_or L k d).bundle s.reach)
+
+pub heads_reach : (es : List LeafEdge) (l : Level) (L : List Strand) → AllByRecursion (IsHeld es l) L
+    → All (λ s. reaches (head es s.bundle) l l ≡ true) L
+heads_reach es l L h k d o =
+    let s = All-from_recursion (IsHeld es l) L h k d o in
+    head_reaches (get_or L k d).bundle s.bundle s.reach
+  where
+    head_reaches : (b : List ℕ) → IsBundle es l b → AllByRecursion (IsReaching es l l) b
+        → reaches (head es b) l l ≡ true
+    head_reaches [] h r = absurd h
+    head_reaches (k ∷ ks) h r = r.0.reaches
 
 module _ (es : List LeafEdge) (l u : Level) (n : AreNeighbours es l u) (p : ℕ) (L : List Strand)
     (m : AreMendedTo es l u p L) (o : p < length L) where

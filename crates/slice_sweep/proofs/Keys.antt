@@ -32,7 +32,7 @@ times_at_most a b c h k =
     let p = sub_mul b a c in
     omega (arith, ints, m, p)
 
-times_less : (a b c : ℤ) → pos 0 <ℤ c → a <ℤ b → (a *ℤ c) <ℤ (b *ℤ c)
+pub times_less : (a b c : ℤ) → pos 0 <ℤ c → a <ℤ b → (a *ℤ c) <ℤ (b *ℤ c)
 times_less a b c h k =
     let m = positive_product (b -ℤ a) c (gap_of_less a b k) h in
     let p = sub_mul b a c in

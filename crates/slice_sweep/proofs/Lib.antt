@@ -2,6 +2,7 @@ mod Lists
 mod Keys
 mod Weakening
 mod Overwriting
+mod Sides
 mod Starting
 mod Mending
 mod Telling

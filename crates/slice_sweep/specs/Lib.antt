@@ -9,3 +9,4 @@ pub mod Changes
 pub mod Mending
 pub mod Rays
 pub mod Places
+pub mod Spots

@@ -126,8 +126,8 @@ fn has_started(step: &Step<'_>, s: &Strand) -> bool
     )
 }
 
-// How the height where an edge starts compares to a height.
-fn by_start(e: &Edge, at: &Level) -> Ordering
+/// How the height where an edge starts compares to a height.
+pub(crate) fn by_start(e: &Edge, at: &Level) -> Ordering
     requires edge { IsEdgeWithin coordinate_limit e.now }
     requires at { IsLevelWithin coordinate_limit at.now }
     ensures { result ≡ int_cmp ((low e.now).y *ℤ at.now.d) at.now.n }

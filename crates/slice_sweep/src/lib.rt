@@ -19,6 +19,7 @@ mod ray;
 mod replace;
 mod room;
 mod slope;
+mod spot;
 mod start;
 mod step;
 mod strand;

@@ -1,9 +1,10 @@
 -- The edge stands at the place that was found, and the strand before it has lost its key.
-use Rattle.std.proofs.Common.{arith, ◌≤◌, length, sym, subst, List}
+use Rattle.std.proofs.Common.{arith, ◌≡◌, ◌≤◌, true, length, sym, subst, List, All}
 use Rattle.std.proofs.lemmas.Result.{on_ok_weaker}
 use Rattle.slice_sweep.specs.declared.strand.Strand.{Strand}
-use Rattle.slice_sweep.specs.Strands.{AreThere}
-use Rattle.slice_sweep.proofs.Groups.{there_of}
+use Rattle.slice_slab.specs.Bundles.{reaches}
+use Rattle.slice_sweep.specs.Strands.{head, AreThere}
+use Rattle.slice_sweep.proofs.Groups.{there_of, heads_reach}
 use Rattle.slice_sweep.proofs.Starting.{started_by}
 use Rattle.slice_sweep.proofs.EdgeStarts.{begun_below, begun_keyless}
 use Rattle.slice_sweep.proofs.Weakening.{weakened_length}
@@ -13,6 +14,12 @@ pub place-i-requires-clause-strands : goal.place-i-requires-clause-strands
 place-i-requires-clause-strands c =
     subst (AreThere c.args.edges.now) (sym c.deref.ensures.value)
     (there_of c.args.edges.now c.args.at.now c.args.strands.now.items c.requires.waiting.held)
+
+pub place-i-requires-clause-reach : goal.place-i-requires-clause-reach
+place-i-requires-clause-reach c =
+    subst (All (λ (s : Strand). reaches (head c.args.edges.now s.bundle) c.args.at.now c.args.at.now ≡ true))
+    (sym c.deref.ensures.value)
+    (heads_reach c.args.edges.now c.args.at.now c.args.strands.now.items c.requires.waiting.held)
 
 pub returns-clause-waiting : goal.returns-clause-waiting
 returns-clause-waiting c = on_ok_weaker c.insert.result
