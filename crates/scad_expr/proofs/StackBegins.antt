@@ -1,5 +1,5 @@
 -- Parts that begin on the stack, as the code has them.
-use Rattle.std.proofs.Common.{◌≡◌, ◌≢◌, ℕ, zero, suc, ◌-◌, ◌+◌, ◌<◌, ◌≤◌, Bool, true, false, if◌then◌else◌, List, [], ◌∷◌, ◌++◌, map, length, get_or, drop, Option, Some, None, option_map, Vec, Global, codes, refl, sym, ap, ap₂, ◌∙◌, arith}
+use Rattle.std.proofs.Common.{◌≡◌, ◌≢◌, ℕ, zero, suc, ◌-◌, ◌+◌, ◌<◌, ◌≤◌, Bool, true, false, if◌then◌else◌, List, [], ◌∷◌, ◌++◌, map, length, get_or, drop, Option, Some, None, option_map, Vec, Box, Global, codes, refl, sym, ap, ap₂, ◌∙◌, arith}
 use Rattle.std.proofs.lemmas.List.{drop_more, drop_all}
 use Rattle.std.specs.Borrow.{Bor}
 use Rattle.std.specs.List.{flat_map}
@@ -23,7 +23,7 @@ use Rattle.scad_expr.specs.declared.frame.Within.{Within}
 use Rattle.scad_expr.specs.declared.frame.Loop.{Loop}
 use Rattle.scad_expr.specs.declared.frame.Opening.{Opening}
 use Rattle.scad_expr.specs.declared.frame.Variable.{Variable}
-use Rattle.scad_expr.specs.declared.frame.Course.{Course}
+use Rattle.scad_expr.specs.declared.frame.Turning.{Turning}
 use Rattle.scad_machine.specs.State.{State, Outcome, gives, refuses, Action, pure, and_then, ◌>>=◌, step, make, step_limit}
 use Rattle.scad_machine.specs.Machine.{Held, env_in, along_in}
 use Rattle.scad_machine.specs.Functions.{Function, Found}
@@ -100,17 +100,18 @@ let-element-begins depth back e args k h o made s i none out is =
     (λ b t. ap₂ (λ r x. and_then r (added k x)) (inner-element (meaning depth) (element_of e.now) b o made t)
     (left-inner back b o is))
 
-pub loop-begins : (depth back : ℕ) (l : Loop) (args : Arguments) (k : Rest) (h o : Held) (made : List Datum)
-    (s : State)
+pub loop-begins : (depth back : ℕ) (held : Box Loop Global) (args : Arguments) (k : Rest) (h o : Held)
+    (made : List Datum) (s : State)
     → IsInner h → bound_in h ≡ empty → outer h ≡ o → back ≡ o.here
     → and_then (and_then (bound_in_order (meaning depth) (env_in o) (along_in o) args empty s)
-    (λ b. loop_turns (meaning depth) l.turns l.at (expression_of l.test.now) (arguments l.steps.now)
-    (element_of l.body.now)
+    (λ b. loop_turns (meaning depth) held.value.turns held.value.at (expression_of held.value.test.now)
+    (arguments held.value.steps.now) (element_of held.value.body.now)
     (env_in o) (along_in o) b made)) (added k o)
-    ≡ binding (record { inside = InsideTurns l; back = back; depth = depth }) args k made h s
+    ≡ binding (record { inside = InsideTurns held; back = back; depth = depth }) args k made h s
 unfolding inside_of
-loop-begins depth back l args k h o made s i none out is =
-    binds-opened (meaning depth) args (inside_of (InsideTurns l) back depth k made) h o
+loop-begins depth back held args k h o made s i none out is =
+    let l = held.value in
+    binds-opened (meaning depth) args (inside_of (InsideTurns held) back depth k made) h o
     (λ b. loop_turns (meaning depth) l.turns l.at (expression_of l.test.now) (arguments l.steps.now)
     (element_of l.body.now)
     (env_in o) (along_in o) b made) (added k o) s i none out
@@ -120,13 +121,15 @@ loop-begins depth back l args k h o made s i none out is =
     (λ c now u. ap (λ x. added k x now u) (left-inner back c o is)) l.turns b made t)
 
 -- a turn of a loop with start, test and step whose test holds
-pub test-holds : (l : Loop) (back depth : ℕ) (k k1 : Rest) (h h1 : Held) (made made1 : List Datum) (d : Datum)
-    (s s1 : State)
-    → truth d ≡ true → step l.at s ≡ gives tt s1 → h1 ≡ h → made1 ≡ made
-    → k1 ≡ onto (Body l back depth) k → turning l back depth k h made d s
-    ≡ and_then ((meaning depth).element (env_in h1) (along_in h1) (element_of l.body.now) made1 s1) (added k1 h1)
+pub test-holds : (held : Box Loop Global) (back depth : ℕ) (k k1 : Rest) (h h1 : Held) (made made1 : List Datum)
+    (d : Datum) (s s1 : State)
+    → truth d ≡ true → step held.value.at s ≡ gives tt s1 → h1 ≡ h → made1 ≡ made
+    → k1 ≡ onto (Body held back depth) k → turning held.value back depth k h made d s
+    ≡ and_then ((meaning depth).element (env_in h1) (along_in h1) (element_of held.value.body.now) made1 s1)
+    (added k1 h1)
 unfolding turned onto
-test-holds l back depth k k1 h h1 made made1 d s s1 holds stepped kept same is =
+test-holds held back depth k k1 h h1 made made1 d s s1 holds stepped kept same is =
+    let l = held.value in
     let body = element_of l.body.now in
     let again : Held → List Datum → Action Whole = looped l l.turns back depth k in
     let names : List Datum → Action Whole = λ now. renewed (meaning depth) (arguments l.steps.now) again now h in
@@ -232,22 +235,28 @@ fills-defined all i p e below k h s there is some =
     (λ d. fills below (map (λ p. parameter p.now) (drop (i + 1) all)) k (set_in_last p.now.name d h))) some
 
 -- ---- a turn of a variable
-pub turn-begins : (v : Variable) (back : ℕ) (d : Datum) (more : Course) (k k1 k3 : Rest) (h h3 : Held)
-    (made made3 : List Datum) (s s2 s3 : State)
-    → step v.at s ≡ gives tt s2 → k1 ≡ onto (Turns v more) k → k3 ≡ onto (Leave back) k1
+pub turn-begins : (held : Box Turning Global) (v : Variable) (back : ℕ) (d : Datum) (k k1 k3 : Rest)
+    (h h3 : Held) (made made3 : List Datum) (s s2 s3 : State)
+    → v ≡ held.value.variable
+    → step v.at s ≡ gives tt s2 → k1 ≡ onto (Turns held) k → k3 ≡ onto (Leave back) k1
     → env_in h3 ≡ within (env_in h) (set v.name.now d empty).names
     → along_in h3 ≡ within (along_in h) (set v.name.now d empty).dollars
     → left back h3 ≡ h → made3 ≡ made → s3 ≡ s2
-    → and_then (turns_of v h (d ∷ course more) made s) (added k h)
+    → and_then (turns_of held.value.variable h (d ∷ course held.value.left) made s) (added k h)
     ≡ and_then (for_variables (meaning v.depth) v.at (arguments v.more.now) (element_of v.body.now) (env_in h3)
     (along_in h3) made3 s3) (added k3 h3)
 unfolding turns onto
-turn-begins v back d more k k1 k3 h h3 made made3 s s2 s3 stepped is1 is3 env_is along_is back_is made_is same =
+turn-begins held v back d k k1 k3 h h3 made made3 s s2 s3 same_variable stepped is1 is3 env_is along_is back_is
+    made_is same =
+    let more = held.value.left in
+    let after : Variable → Rest = λ (x : Variable) (y : Held) (now : List Datum) (e : Datum). turns_of x y (course more) now
+    >>= added k y in
     let into : Env → Env → List Datum → Action (List Datum) = for_variables (meaning v.depth) v.at (arguments v.more.now) (element_of v.body.now) in
     let rest_turns : List Datum → Action (List Datum) = turns (meaning v.depth) v.at v.name.now into (env_in h) (along_in h) (course more) in
     let e2 = within (env_in h) (set v.name.now d empty).names in
     let a2 = within (along_in h) (set v.name.now d empty).dollars in
-    ap (λ r. and_then (and_then r (λ _ t. and_then (into e2 a2 made t) rest_turns)) (added k h)) stepped
+    ap (λ (x : Variable). and_then (turns_of x h (d ∷ course more) made s) (added k h)) (sym same_variable)
+    ∙ ap (λ r. and_then (and_then r (λ _ t. and_then (into e2 a2 made t) rest_turns)) (added k h)) stepped
     ∙ twice (into e2 a2 made s2) rest_turns (added k h)
     ∙ ap (λ (y : Held). and_then (into e2 a2 made s2)
     (λ now t. and_then (turns_of v y (course more) now t) (added k y))) (sym back_is)
@@ -258,7 +267,7 @@ turn-begins v back d more k k1 k3 h h3 made made3 s s2 s3 stepped is1 is3 env_is
     (λ now u. and_then (turns_of v (left back h3) (course more) now u) (added k (left back h3)))) (sym made_is)
     (sym same)
     ∙ ap (λ (q : Rest). and_then (into (env_in h3) (along_in h3) made3 s3) (added q h3))
-    (sym (is3 ∙ ap (onto (Leave back)) is1))
+    (sym (is3 ∙ ap (onto (Leave back)) (is1 ∙ ap after (sym same_variable))))
 
 -- ---- nodes with names, as the code begins them
 pub let-node-begins : (depth back : ℕ) (at : Place) (e : Bor Expr) (args : Arguments) (k : Rest) (h o : Held)
@@ -293,14 +302,15 @@ let-element-node-begins depth back at e args k h o made s s1 t stepped judged i 
     ∙ let-element-begins depth back e args k h o made s1 i none out is
     ∙ ap (λ u. binding (record { inside = InsideElement e; back = back; depth = depth }) args k made h u) (sym same)
 
-pub loop-node-begins : (depth back : ℕ) (l : Loop) (args : Arguments) (k : Rest) (h o : Held) (made : List Datum)
+pub loop-node-begins : (depth back : ℕ) (l : Loop) (held : Box Loop Global) (args : Arguments) (k : Rest) (h o : Held) (made : List Datum)
     (s s1 t : State)
+    → held.value ≡ l
     → step l.at s ≡ gives tt s1 → judge_named l.at (codes "for") args s1 ≡ gives tt s1
     → judge_named l.at (codes "for") (arguments l.steps.now) s1 ≡ gives tt s1
     → IsInner h → bound_in h ≡ empty → outer h ≡ o → back ≡ o.here → t ≡ s1
     → and_then (loop_of l depth args o made s) (added k o)
-    ≡ binding (record { inside = InsideTurns l; back = back; depth = depth }) args k made h t
-loop-node-begins depth back l args k h o made s s1 t stepped judged judged2 i none out is same =
+    ≡ binding (record { inside = InsideTurns held; back = back; depth = depth }) args k made h t
+loop-node-begins depth back l held args k h o made s s1 t boxed stepped judged judged2 i none out is same =
     let f : Bound → Action (List Datum) = λ b. loop_turns (meaning depth) l.turns l.at (expression_of l.test.now) (arguments l.steps.now)
     (element_of l.body.now) (env_in o) (along_in o) b made in
     let bounds : State → Outcome (List Datum) = λ u. and_then (bound_in_order (meaning depth) (env_in o) (along_in o) args empty u) f in
@@ -309,8 +319,11 @@ loop-node-begins depth back l args k h o made s s1 t stepped judged judged2 i no
     (added k o)) stepped
     ∙ ap (λ r. and_then (and_then r (λ _. second)) (added k o)) judged
     ∙ ap (λ r. and_then (and_then r (λ _. bounds)) (added k o)) judged2
-    ∙ loop-begins depth back l args k h o made s1 i none out is
-    ∙ ap (λ u. binding (record { inside = InsideTurns l; back = back; depth = depth }) args k made h u) (sym same)
+    ∙ ap (λ (x : Loop). and_then (and_then (bound_in_order (meaning depth) (env_in o) (along_in o) args empty s1)
+    (λ b. loop_turns (meaning depth) x.turns x.at (expression_of x.test.now) (arguments x.steps.now)
+    (element_of x.body.now) (env_in o) (along_in o) b made)) (added k o)) (sym boxed)
+    ∙ loop-begins depth back held args k h o made s1 i none out is
+    ∙ ap (λ u. binding (record { inside = InsideTurns held; back = back; depth = depth }) args k made h u) (sym same)
 
 pub each-node-begins : (below : Below) (at : Place) (e : Element) (k k2 : Rest) (h h2 : Held) (made none : List Datum)
     (outer : Vec Part Global) (s s1 : State)

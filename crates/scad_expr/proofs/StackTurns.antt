@@ -1,17 +1,19 @@
 -- One turn of the machine: what follows a frame, a part, names that are bound, a call, and a turn of a loop.
-use Rattle.std.proofs.Common.{◌≡◌, ◌≢◌, ℕ, zero, suc, ◌-◌, ◌+◌, ◌<◌, ◌≤◌, Bool, true, false, if◌then◌else◌, List, [], ◌∷◌, ◌++◌, map, length, drop, Option, Some, None, codes, refl, sym, ap, ap₂, ◌∙◌, arith}
+use Rattle.std.proofs.Common.{◌≡◌, ◌≢◌, ℕ, zero, suc, ◌-◌, ◌+◌, ◌<◌, ◌≤◌, Bool, true, false, if◌then◌else◌, List, [], ◌∷◌, ◌++◌, map, length, get_or, drop, Option, Some, None, codes, refl, sym, ap, ap₂, ◌∙◌, arith}
 use Rattle.std.proofs.lemmas.List.{length-append}
 use Rattle.scad_fault.specs.declared.place.Place.{Place}
 use Rattle.scad_fault.specs.declared.budget.BudgetKind.TheVariants.{Steps}
-use Rattle.scad_ast.specs.Tree.{Expression, Arguments, no_arguments, argument, Element, Parameter, call}
+use Rattle.scad_ast.specs.declared.expression.Arg.{Arg}
+use Rattle.scad_ast.specs.Tree.{Expression, Arguments, no_arguments, argument, Element, Parameter, call, assert_in, echo_in}
+use Rattle.scad_ast.specs.View.{expression_of, arguments}
 use Rattle.scad_value.specs.Datum.{Datum}
 use Rattle.scad_value.specs.Comparison.{truth}
+use Rattle.scad_value.proofs.Lists.{arguments-drop, arguments-drop_all}
 use Rattle.scad_builtin.specs.Builtin.{builtin}
 use Rattle.scad_scope.specs.Env.{Env}
 use Rattle.scad_scope.specs.FrameStore.{env_at, envs}
 use Rattle.scad_machine.specs.declared.fault.EvalFault.{EvalFault}
 use Rattle.scad_expr.specs.declared.frame.Frame.{Frame}
-use Rattle.scad_expr.specs.declared.frame.Purpose.{Purpose}
 use Rattle.scad_machine.specs.State.{State, Outcome, gives, refuses, Action, pure, and_then, ◌>>=◌, over, step}
 use Rattle.scad_machine.specs.Machine.{Held, env_in, along_in}
 use Rattle.scad_machine.specs.Functions.{Found, function_named}
@@ -21,7 +23,7 @@ use Rattle.scad_expr.specs.Meaning.{Below, meaning, value, value_layer, node, va
 use Rattle.scad_machine.specs.OpenFrames.{opened, set_in_last, left, bound_in, outer, IsInner}
 use Rattle.scad_expr.specs.Pieces.{named_of}
 use Rattle.scad_expr.specs.Portions.{defaulted, lone}
-use Rattle.scad_expr.specs.Stack.{Whole, Rest, ended, added, binds, fills, renewed, turned, repeats, served, supplied, onto, rest_of}
+use Rattle.scad_expr.specs.Stack.{Whole, Rest, ended, added, behind, args_of, binds, fills, renewed, turned, repeats, served, supplied, onto, rest_of}
 use Rattle.scad_expr.proofs.DepthLeft.{value_none, value_more, place_of, element_none, element_more}
 use Rattle.scad_expr.proofs.InPlace.{values-lone}
 use Rattle.scad_expr.proofs.Loops.{twice, same-then}
@@ -47,25 +49,73 @@ pub ruleset element_depths = (element_none, element_more)
 pub ruleset nodes = (twice, value_layered)
 
 -- ---- arguments
-pub supplied-next : {C : Type 0} (below : Below) (p : Purpose) (env along : Env) (word : Option (List ℕ))
-    (e : Expression) (more : Arguments) (so_far : List Datum) (s : State) (g : Datum → Action C)
-    → and_then (supplied below p env along (argument word e more) so_far s) g
-    ≡ and_then (below.value env along e s)
-    (λ d t. and_then (supplied below p env along more (so_far ++ d ∷ []) t) g)
+pub behind-drop : (i : ℕ) (all : List Arg) → behind i (arguments all) ≡ arguments (drop i all)
+unfolding behind
+behind-drop zero all = refl
+behind-drop (suc i) [] = refl
+behind-drop (suc i) (a ∷ all) = behind-drop i all
+
+-- the arguments of an expression, as the code reads them
+pub behind-all : (i : ℕ) (all : List Arg) (args : Arguments) → arguments all ≡ args → length all ≤ i
+    → behind i args ≡ no_arguments
+behind-all i all args is past = ap (behind i) (sym is) ∙ behind-drop i all ∙ arguments-drop_all all i past
+
+pub behind-next : (i : ℕ) (all : List Arg) (args : Arguments) (a : Arg) → arguments all ≡ args → i < length all
+    → a ≡ get_or all i a → behind i args ≡ argument a.name (expression_of a.value) (behind (i + 1) args)
+behind-next i all args a is there at =
+    ap (behind i) (sym is) ∙ behind-drop i all ∙ arguments-drop all i a there at
+    ∙ ap (argument a.name (expression_of a.value)) (sym (behind-drop (i + 1) all) ∙ ap (behind (i + 1)) is)
+
+pub supplied-next : {C : Type 0} (below : Below) (e : Expression) (env along : Env) (word : Option (List ℕ))
+    (x : Expression) (so_far : List Datum) (s : State) (g : Datum → Action C)
+    → behind (length so_far) (args_of e) ≡ argument word x (behind (length so_far + 1) (args_of e))
+    → and_then (supplied below e env along so_far s) g
+    ≡ and_then (below.value env along x s)
+    (λ d t. and_then (supplied below e env along (so_far ++ d ∷ []) t) g)
 unfolding supplied values
-supplied-next below p env along word e more so_far s g = by (below.value env along e s)
+supplied-next below e env along word x so_far s g next =
+    ap (λ a. and_then (and_then (values below env along a so_far s) (served below e env along)) g) next
+    ∙ by (below.value env along x s)
   where
+    longer : (d : Datum) → length so_far + 1 ≡ length (so_far ++ d ∷ [])
+    longer d = sym (length-append so_far (d ∷ []))
+
     by : (o : Outcome Datum) → and_then (and_then
-        (and_then o (λ d. values below env along more (so_far ++ d ∷ []))) (served below p env along)) g
-        ≡ and_then o (λ d t. and_then (and_then (values below env along more (so_far ++ d ∷ []) t)
-        (served below p env along)) g)
-    by (gives d t) = refl
+        (and_then o (λ d. values below env along (behind (length so_far + 1) (args_of e)) (so_far ++ d ∷ [])))
+        (served below e env along)) g
+        ≡ and_then o (λ d t. and_then (and_then (values below env along (behind (length (so_far ++ d ∷ [])) (args_of e))
+        (so_far ++ d ∷ []) t) (served below e env along)) g)
+    by (gives d t) = ap (λ n. and_then (and_then (values below env along (behind n (args_of e)) (so_far ++ d ∷ []) t)
+        (served below e env along)) g) (longer d)
     by (refuses f t) = refl
 
-pub supplied-end : (below : Below) (p : Purpose) (env along : Env) (so_far : List Datum) (s : State)
-    → supplied below p env along no_arguments so_far s ≡ served below p env along so_far s
+pub supplied-end : (below : Below) (e : Expression) (env along : Env) (so_far : List Datum) (s : State)
+    → behind (length so_far) (args_of e) ≡ no_arguments
+    → supplied below e env along so_far s ≡ served below e env along so_far s
 unfolding supplied values
-supplied-end below p env along so_far s = refl
+supplied-end below e env along so_far s none =
+    ap (λ a. and_then (values below env along a so_far s) (served below e env along)) none
+
+-- an expression with arguments begins with them
+pub call-supplied : (below : Below) (env along : Env) (at : Place) (word : List ℕ) (args : Arguments) (e : Expression)
+    (s : State) → call at word args ≡ e
+    → node below env along (call at word args) s ≡ supplied below e env along [] s
+unfolding node supplied behind args_of served
+call-supplied below env along at word args e s is = ap (λ x. supplied below x env along [] s) is
+
+pub assert-supplied : (below : Below) (env along : Env) (at : Place) (args : Arguments) (body e : Expression)
+    (s : State) → assert_in at args body ≡ e
+    → node below env along e s ≡ supplied below e env along [] s
+unfolding node supplied behind args_of served
+assert-supplied below env along at args body e s is =
+    ap (λ x. node below env along x s) (sym is) ∙ ap (λ x. supplied below x env along [] s) is
+
+pub echo-supplied : (below : Below) (env along : Env) (at : Place) (args : Arguments) (body e : Expression)
+    (s : State) → echo_in at args body ≡ e
+    → node below env along e s ≡ supplied below e env along [] s
+unfolding node supplied behind args_of served
+echo-supplied below env along at args body e s is =
+    ap (λ x. node below env along x s) (sym is) ∙ ap (λ x. supplied below x env along [] s) is
 
 pub called-own : (below : Below) (at : Place) (word : List ℕ) (f : Option Found) (g : Found) (along : Env)
     (args : Arguments) (found : List Datum) (s : State)

@@ -4,7 +4,7 @@ use Rattle.std.specs.List.{flat_map}
 use Rattle.scad_fault.specs.declared.place.Place.{Place}
 use Rattle.scad_ast.specs.Scope.{parameter}
 use Rattle.scad_ast.specs.Tree.{Expression, Arguments, no_arguments, argument, Element, Parameter}
-use Rattle.scad_ast.specs.Tree.{call as call_at}
+use Rattle.scad_ast.specs.Tree.{call as call_at, assert_in, echo_in}
 use Rattle.scad_ast.specs.View.{expression_of, arguments, element_of, elements}
 use Rattle.scad_value.specs.Datum.{Datum, undef, boolean, vector}
 use Rattle.scad_value.specs.Comparison.{truth}
@@ -16,9 +16,8 @@ use Rattle.scad_scope.specs.Env.{Env}
 use Rattle.scad_machine.specs.declared.fault.EvalFault.{EvalFault}
 use Rattle.scad_machine.specs.declared.fault.EvalFault.TheVariants.{Memory}
 use Rattle.scad_expr.specs.declared.frame.Written.{Written}
-use Rattle.scad_expr.specs.declared.frame.Purpose.{Purpose}
-use Rattle.scad_expr.specs.declared.frame.Purpose.TheVariants.{Call, Assert, Echo}
-use Rattle.scad_expr.specs.declared.frame.Supply.{Supply}
+use Rattle.scad_expr.specs.declared.purpose.Purpose.{Purpose}
+use Rattle.scad_expr.specs.declared.purpose.Purpose.TheVariants.{Call, Assert, Echo}
 use Rattle.scad_expr.specs.declared.frame.Opening.{Opening}
 use Rattle.scad_expr.specs.declared.frame.Loop.{Loop}
 use Rattle.scad_expr.specs.declared.frame.Inside.{Inside}
@@ -99,25 +98,44 @@ module _ (below : Below) where
   repeats (suc n) at test steps body k h made =
       below.value (env_in h) (along_in h) test >>= turned at steps body (repeats n at test steps body k) k h made
 
--- ---- what arguments are for
--- what is done with their values
-unfoldable pub served : Below → Purpose → Env → Env → List Datum → Action Datum
-served below (Call c) env along found = called below c.at c.word.now (function_named c.word.now env) along
-    (arguments c.args.now) found
-served below (Assert at args body) env along found
-    = asserted at (arguments args.now) found >> below.value env along (expression_of body.now)
-served below (Echo at args body) env along found
-    = say at (echo_line (arguments args.now) found) >> below.value env along (expression_of body.now)
+-- ---- arguments
+-- those behind the first n
+unfoldable pub behind : ℕ → Arguments → Arguments
+behind zero args = args
+behind (suc n) no_arguments = no_arguments
+behind (suc n) (argument word e more) = behind n more
 
--- the values of arguments, behind those so far, and what is done with them
-unfoldable pub supplied : Below → Purpose → Env → Env → Arguments → List Datum → Action Datum
-supplied below p env along args so_far = values below env along args so_far >>= served below p env along
+-- the first one takes a value, where it has a name
+unfoldable pub set_first : Arguments → Datum → Held → Held
+set_first no_arguments d h = h
+set_first (argument None e more) d h = h
+set_first (argument (Some name) e more) d h = set_in_last name d h
 
-abbrev pub served_in : Supply → Held → Action Datum
-served_in p h = served (meaning p.depth) p.purpose (env_in h) (along_in h) (data_in p.so_far)
+-- what the values of arguments are for
+unfoldable pub purposed : Purpose → Expression
+purposed (Call c) = call_at c.at c.word.now (arguments c.args.now)
+purposed (Assert at args body) = assert_in at (arguments args.now) (expression_of body.now)
+purposed (Echo at args body) = echo_in at (arguments args.now) (expression_of body.now)
 
-abbrev pub supplied_in : Supply → Held → Arguments → Action Datum
-supplied_in p h args = supplied (meaning p.depth) p.purpose (env_in h) (along_in h) args (data_in p.so_far)
+-- those of a call, an `assert` or an `echo`; another expression has none
+unfoldable pub args_of : Expression → Arguments
+args_of (call_at at word args) = args
+args_of (assert_in at args e) = args
+args_of (echo_in at args e) = args
+args_of _ = no_arguments
+
+-- what is done with their values; those of another expression are never asked for
+unfoldable pub served : Below → Expression → Env → Env → List Datum → Action Datum
+served below (call_at at word args) env along found =
+    called below at word (function_named word env) along args found
+served below (assert_in at args e) env along found = asserted at args found >> below.value env along e
+served below (echo_in at args e) env along found = say at (echo_line args found) >> below.value env along e
+served below _ env along found = λ s. refuses Memory s
+
+-- the values of the arguments behind those so far, and what is done with them
+unfoldable pub supplied : Below → Expression → Env → Env → List Datum → Action Datum
+supplied below e env along so_far =
+    values below env along (behind (length so_far) (args_of e)) so_far >>= served below e env along
 
 -- a call as it is written, once its arguments have their values
 abbrev pub called_as : Written → ℕ → Held → List Datum → Action Datum
@@ -155,7 +173,7 @@ inside_of (InsideValue e) back depth k made h =
     value depth (env_in h) (along_in h) (expression_of e.now) >>= k (left back h) made
 inside_of (InsideElement e) back depth k made h =
     (meaning depth).element (env_in h) (along_in h) (element_of e.now) made >>= added k (left back h)
-inside_of (InsideTurns l) back depth k made h = looped l l.turns back depth k h made
+inside_of (InsideTurns l) back depth k made h = looped l.value l.value.turns back depth k h made
 
 abbrev pub inside : Within → Rest → List Datum → Held → Action Whole
 inside w = inside_of w.inside w.back w.depth
@@ -208,8 +226,8 @@ onto (Ends a) k h made d = k h made (ranged_by_one (datum_of a) d)
 onto (StepAndEnd at e end depth) k h made d =
     step_and_end (meaning depth) (env_in h) (along_in h) at d (expression_of e.now) (expression_of end.now) >>= k h made
 onto (SteppedEnd at a end depth) k h made d =
-    stepped_end (meaning depth) (env_in h) (along_in h) at (datum_of a) d (expression_of end.now) >>= k h made
-onto (Stepped at a s) k h made d = ranged at (datum_of a) (datum_of s) d >>= k h made
+    stepped_end (meaning depth) (env_in h) (along_in h) at (datum_of a.value) d (expression_of end.now) >>= k h made
+onto (Stepped at a s) k h made d = ranged at (datum_of a.value) (datum_of s.value) d >>= k h made
 onto (Unary at o) k h made d = make at (unary_op o d) >>= k h made
 onto (Right at o b depth) k h made d = right_side (meaning depth) (env_in h) (along_in h) at o d (expression_of b.now)
     >>= k h made
@@ -222,12 +240,12 @@ onto (IndexOf i depth) k h made d = index_of (meaning depth) (env_in h) (along_i
 onto (Indexed a) k h made d = k h made (indexed (datum_of a) d)
 onto (IndexedName word) k h made d = k h made (indexed (variable word.now (env_in h) (along_in h)) d)
 onto (Member word) k h made d = k h made (member_of word.now d)
-onto (ArgumentsFrame p more) k h made d =
-    supplied (meaning p.depth) p.purpose (env_in h) (along_in h) (arguments more.now) (data_in p.so_far ++ d ∷ [])
-    >>= k h made
-onto (Default name o) k h made d = filling o k made (set_in_last name.now d h)
+onto (ArgumentsFrame e so_far depth) k h made d =
+    supplied (meaning depth) (expression_of e.now) (env_in h) (along_in h) (data_in so_far ++ d ∷ []) >>= k h made
+onto (Default name o) k h made d = filling o.value k made (set_in_last name.now d h)
 onto (Leave back) k h made d = k (left back h) made d
-onto (Bind name more w) k h made d = binding w (arguments more.now) k made (set_in_last name.now d h)
+onto (Bind args w) k h made d =
+    binding w (behind 1 (arguments args.now)) k made (set_first (arguments args.now) d h)
 onto (Vector at outer) k h made d = make at (vector (as_elements made)) >>= k h (parts_in outer)
 onto (Elements more depth) k h made d =
     elements_given (meaning depth) (env_in h) (along_in h) (elements more.now) made >>= added k h
@@ -238,10 +256,10 @@ onto (If e depth) k h made d = element_if (meaning depth) (env_in h) (along_in h
 onto (Either e other depth) k h made d =
     either_element (meaning depth) (env_in h) (along_in h) d (element_of e.now) (element_of other.now) made
     >>= added k h
-onto (Over v) k h made d = turns_of v h (items d) made >>= added k h
-onto (Turns v left_over) k h made d = turns_of v h (course left_over) made >>= added k h
-onto (Test l back depth) k h made d = turning l back depth k h made d
-onto (Body l back depth) k h made d = renewing l back depth k made h
+onto (Over t) k h made d = turns_of t.value.variable h (items d) made >>= added k h
+onto (Turns t) k h made d = turns_of t.value.variable h (course t.value.left) made >>= added k h
+onto (Test l back depth) k h made d = turning l.value back depth k h made d
+onto (Body l back depth) k h made d = renewing l.value back depth k made h
 
 abbrev pub rest_of : List Frame → Rest → Rest
 rest_of [] k = k

@@ -12,10 +12,11 @@ ghost use Rattle.scad_expr.specs.Stack.{Leads, Below_by, followed, followed_list
 use crate::calls::next_argument;
 use crate::defaults::next_parameter;
 use crate::elements::{add, either, if_element, make, more_elements, spread};
-use crate::frame::{Focus, Frame, Variable};
+use crate::frame::{Focus, Frame, Turning};
 use crate::named::{bind_next, renew, tested};
 use crate::operands::{
-    at_index, before_one, between_two, member_at, range_of_both, range_of_three, variable_at_index,
+    Bounds, at_index, before_one, between_two, member_at, range_by, range_from, range_of_both,
+    range_of_three, variable_at_index,
 };
 use crate::stack::Stack;
 use crate::turns::{course_of, turn};
@@ -40,9 +41,9 @@ pub(crate) fn given<'p>(
         Frame::RangeEnd(end, depth) => stack.wait(Frame::Ends(v), end, depth),
         Frame::Ends(a) => range_of_both(a, v, stack, m),
         Frame::StepAndEnd(at, step, end, depth) => {
-            stack.wait(Frame::SteppedEnd(at, v, end, depth), step, depth)
+            range_from(Bounds { at, end, depth }, step, v, stack, m)
         }
-        Frame::SteppedEnd(at, a, end, depth) => stack.wait(Frame::Stepped(at, a, v), end, depth),
+        Frame::SteppedEnd(at, a, end, depth) => range_by(Bounds { at, end, depth }, a, v, stack, m),
         Frame::Stepped(at, a, s) => range_of_three(at, a, s, v, stack, m),
         Frame::Unary(at, op) => before_one(at, op, v, stack, m),
         Frame::Right(at, op, b, depth) => {
@@ -56,18 +57,18 @@ pub(crate) fn given<'p>(
         Frame::Indexed(a) => at_index(a, v, stack, m),
         Frame::IndexedName(word) => variable_at_index(word, v, stack, m),
         Frame::Member(word) => member_at(word, v, stack, m),
-        Frame::Arguments(supply, more) => next_argument(supply, more, v, stack, m),
+        Frame::Arguments(e, so_far, depth) => next_argument(e, so_far, depth, v, stack, m),
         Frame::Default(name, opening) => next_parameter(name, opening, v, stack, m),
         Frame::Leave(back) => leave(back, v, stack, m),
-        Frame::Bind(name, more, within) => bind_next(name, more, within, v, stack, m),
+        Frame::Bind(args, within) => bind_next(args, within, v, stack, m),
         Frame::Vector(at, outer) => make(at, outer, stack, m),
         Frame::Elements(more, depth) => more_elements(more, depth, stack, m),
         Frame::Item => add(v, stack, m),
         Frame::Each(outer) => spread(outer, stack, m),
         Frame::If(e, depth) => if_element(&v, e, depth, stack, m),
         Frame::Either(e, other, depth) => either(&v, e, other, depth, stack, m),
-        Frame::Over(variable) => over(variable, v, stack, m),
-        Frame::Turns(variable, left) => turn(variable, left, stack, m),
+        Frame::Over(turning) => over(turning, v, stack, m),
+        Frame::Turns(turning) => turn(turning, stack, m),
         Frame::Test(all, back, depth) => tested(all, back, depth, &v, stack, m),
         Frame::Body(all, back, depth) => renew(all, back, depth, stack, m),
     }
@@ -157,15 +158,16 @@ fn leave<'p>(
 /// A variable runs over the value.
 #[tactic(auto, using(crate::proofs::StackTurns::nodes))]
 fn over<'p>(
-    variable: Variable<'p>,
+    turning: Box<Turning<'p>>,
     v: Value,
     stack: &mut Stack<'p>,
     m: &mut Machine<'p>,
 ) -> Result<Focus<'p>, EvalFault>
-    ensures goes { Leads (followed_list (turns_of variable.entry (held m.old) (items (datum_of v)) (made_in stack.old))
+    ensures goes { Leads (followed_list (turns_of turning.entry.value.variable (held m.old) (items (datum_of v)) (made_in stack.old))
         stack.old m.old) result stack.new m.new }
     ensures less { Below_by 4 result stack.old m.old stack.new m.new }
 {
-    let left = course_of(stack.alloc(), v)?;
-    turn(variable, left, stack, m)
+    let mut turning = turning;
+    turning.left = course_of(stack.alloc(), v)?;
+    turn(turning, stack, m)
 }

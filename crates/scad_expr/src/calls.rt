@@ -11,14 +11,15 @@ ghost use Rattle.scad_machine.specs.EchoLines.{echo_line};
 ghost use Rattle.scad_machine.specs.State.{State, say};
 ghost use Rattle.scad_expr.specs.Meaning.{asserted, called_builtin, called_own, meaning, value};
 ghost use Rattle.scad_expr.specs.Runs.{as_elements};
-ghost use Rattle.scad_expr.specs.Stack.{Leads, Below_by, followed, supplied, served_in, supplied_in, called_as};
+ghost use Rattle.scad_expr.specs.Stack.{Leads, Below_by, followed, purposed, supplied, served, called_as};
 ghost use Rattle.scad_machine.specs.Variables.{variable};
 ghost use Rattle.scad_machine.specs.View.{found_at};
 
 use crate::defaults::fill;
-use crate::frame::{Focus, Frame, Opening, Purpose, Supply, Written};
+use crate::frame::{Focus, Frame, Opening, Written};
 use crate::loans::builtin_on;
 use crate::operations::builtin_at;
+use crate::purpose::{Purpose, purpose_of};
 use crate::requirements::asserted;
 use crate::stack::Stack;
 use scad_ast::{Arg, Expr};
@@ -27,71 +28,78 @@ use scad_machine::{Call, Callee, DefinedAt, EvalFault, Invocation, Machine};
 use scad_value::Value;
 use std::alloc::Global;
 
-/// The next argument, or what is done with the values of all.
-#[tactic(auto, using(crate::proofs::StackTurns::calls), unfolding(crate::specs::Stack::onto))]
-pub(crate) fn arguments<'p>(
-    supply: Supply<'p>,
-    args: &'p [Arg],
+/// The first argument of a call, an `assert` or an `echo`, or what is done without one.
+pub(crate) fn first_argument<'p>(
+    e: &'p Expr,
+    depth: u32,
     stack: &mut Stack<'p>,
     m: &mut Machine<'p>,
 ) -> Result<Focus<'p>, EvalFault>
-    ensures goes { Leads (followed (supplied_in supply.entry (held m.old) (arguments args.now)) stack.old m.old)
-        result stack.new m.new }
+    ensures goes { Leads (followed (supplied (meaning depth) (expression_of e.now) (env_in (held m.old))
+        (along_in (held m.old)) []) stack.old m.old) result stack.new m.new }
     ensures less { Below_by 4 result stack.old m.old stack.new m.new }
 {
-    match args {
-        [first, more @ ..] => {
-            let depth = supply.depth;
-            stack.wait(Frame::Arguments(supply, more), &first.value, depth)
-        }
-        [] => serve(supply, stack, m),
+    arguments(e, Vec::new(stack.alloc()), depth, stack, m)
+}
+
+/// The next argument, or what is done with the values of all.
+#[tactic(auto, using(crate::proofs::StackTurns::calls), unfolding(crate::specs::Stack::onto))]
+fn arguments<'p>(
+    e: &'p Expr,
+    so_far: Vec<Value>,
+    depth: u32,
+    stack: &mut Stack<'p>,
+    m: &mut Machine<'p>,
+) -> Result<Focus<'p>, EvalFault>
+    ensures goes { Leads (followed (supplied (meaning depth) (expression_of e.now) (env_in (held m.old))
+        (along_in (held m.old)) (data_in so_far)) stack.old m.old) result stack.new m.new }
+    ensures less { Below_by 4 result stack.old m.old stack.new m.new }
+{
+    let Some(purpose) = purpose_of(e) else {
+        // No other expression has a frame for arguments.
+        return Err(EvalFault::Memory);
+    };
+    let args = purpose.args();
+    let i = so_far.len();
+    if i < args.len() {
+        stack.wait(Frame::Arguments(e, so_far, depth), &args[i].value, depth)
+    } else {
+        serve(purpose, so_far, depth, stack, m)
     }
 }
 
 /// An argument has its value.
 #[tactic(auto, using(crate::proofs::StackTurns::calls, crate::proofs::RunsLeft::kinds))]
 pub(crate) fn next_argument<'p>(
-    supply: Supply<'p>,
-    more: &'p [Arg],
+    e: &'p Expr,
+    so_far: Vec<Value>,
+    depth: u32,
     v: Value,
     stack: &mut Stack<'p>,
     m: &mut Machine<'p>,
 ) -> Result<Focus<'p>, EvalFault>
-    ensures goes { Leads (followed (supplied (meaning supply.entry.depth) supply.entry.purpose (env_in (held m.old))
-        (along_in (held m.old)) (arguments more.now) (data_in supply.entry.so_far ++ datum_of v ∷ [])) stack.old m.old)
-        result stack.new m.new }
+    ensures goes { Leads (followed (supplied (meaning depth) (expression_of e.now) (env_in (held m.old))
+        (along_in (held m.old)) (data_in so_far ++ datum_of v ∷ [])) stack.old m.old) result stack.new m.new }
     ensures less { Below_by 4 result stack.old m.old stack.new m.new }
 {
-    let Supply {
-        purpose,
-        so_far,
-        depth,
-    } = supply;
     let mut all = so_far;
     all.push(v)?;
-    let longer = Supply {
-        purpose,
-        so_far: all,
-        depth,
-    };
-    arguments(longer, more, stack, m)
+    arguments(e, all, depth, stack, m)
 }
 
 /// What is done with the values of arguments.
-#[tactic(auto, using(crate::proofs::StackTurns::nodes), unfolding(crate::specs::Stack::served))]
+#[tactic(auto, using(crate::proofs::StackTurns::nodes), unfolding(crate::specs::Stack::served, crate::specs::Stack::purposed))]
 fn serve<'p>(
-    supply: Supply<'p>,
+    purpose: Purpose<'p>,
+    so_far: Vec<Value>,
+    depth: u32,
     stack: &mut Stack<'p>,
     m: &mut Machine<'p>,
 ) -> Result<Focus<'p>, EvalFault>
-    ensures goes { Leads (followed (served_in supply.entry (held m.old)) stack.old m.old) result stack.new m.new }
+    ensures goes { Leads (followed (served (meaning depth) (purposed purpose.entry) (env_in (held m.old))
+        (along_in (held m.old)) (data_in so_far)) stack.old m.old) result stack.new m.new }
     ensures less { Below_by 4 result stack.old m.old stack.new m.new }
 {
-    let Supply {
-        purpose,
-        so_far,
-        depth,
-    } = supply;
     match purpose {
         Purpose::Call(written) => called(written, so_far, depth, stack, m),
         Purpose::Assert(at, args, body) => {

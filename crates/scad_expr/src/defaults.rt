@@ -72,22 +72,10 @@ pub(crate) fn fill<'p>(
 {
     match next_default(&opening.missing, opening.next, m)? {
         Some(wanted) => {
-            let Opening {
-                missing,
-                next: _next,
-                body,
-                inner,
-                back,
-                depth,
-            } = opening;
-            let later = Opening {
-                missing,
-                next: wanted.next,
-                body,
-                inner,
-                back,
-                depth,
-            };
+            let depth = opening.depth;
+            let mut later = opening;
+            later.next = wanted.next;
+            let later = Box::new(stack.alloc(), later)?;
             stack.wait(Frame::Default(wanted.name, later), wanted.value, depth)
         }
         None => enter(opening, stack, m),
@@ -113,15 +101,15 @@ fn enter<'p>(
 #[tactic(auto, using(crate::proofs::StackTurns::nodes), unfolding(crate::specs::Stack::onto))]
 pub(crate) fn next_parameter<'p>(
     name: &'p [u8],
-    opening: Opening<'p>,
+    opening: Box<Opening<'p>>,
     v: Value,
     stack: &mut Stack<'p>,
     m: &mut Machine<'p>,
 ) -> Result<Focus<'p>, EvalFault>
-    ensures goes { Leads (filling opening.entry (rest stack.old) (made_in stack.old) (set_in_last name.now (datum_of v)
+    ensures goes { Leads (filling opening.entry.value (rest stack.old) (made_in stack.old) (set_in_last name.now (datum_of v)
         (held m.old)) (state_of m.old)) result stack.new m.new }
     ensures less { Below_by 2 result stack.old m.old stack.new m.new }
 {
     m.set(name, v)?;
-    fill(opening, stack, m)
+    fill(Box::into_inner(opening), stack, m)
 }

@@ -21,25 +21,6 @@ pub(crate) struct Name<'p> {
     pub(crate) word: &'p [u8],
 }
 
-/// What arguments are for, once each has its value.
-#[derive(Clone, Copy)]
-pub(crate) enum Purpose<'p> {
-    /// A call of a function.
-    Call(Written<'p>),
-    /// An `assert` before an expression.
-    Assert(Place, &'p [Arg], &'p Expr),
-    /// An `echo` before an expression.
-    Echo(Place, &'p [Arg], &'p Expr),
-}
-
-/// Arguments whose first ones have their values, and how many levels of depth they have.
-#[derive(Drop)]
-pub(crate) struct Supply<'p> {
-    pub(crate) purpose: Purpose<'p>,
-    pub(crate) so_far: Vec<Value>,
-    pub(crate) depth: u32,
-}
-
 /// A call of a function of the program whose frames are opened: the parameters that take their defaults, of which those from
 /// `next` on are left, the function's expression, the number of its frame, and of that from which names were sought before.
 #[derive(Drop)]
@@ -63,16 +44,16 @@ pub(crate) struct Loop<'p> {
 }
 
 /// What stands inside names that are bound.
-#[derive(Clone, Copy)]
+#[derive(Drop)]
 pub(crate) enum Inside<'p> {
     Value(&'p Expr),
     Element(&'p Elem),
-    Turns(Loop<'p>),
+    Turns(Box<Loop<'p>>),
 }
 
 /// What stands inside, the number of the frame from which names were sought before, and how many levels of depth its parts
 /// have.
-#[derive(Clone, Copy)]
+#[derive(Drop)]
 pub(crate) struct Within<'p> {
     pub(crate) inside: Inside<'p>,
     pub(crate) back: u32,
@@ -98,7 +79,15 @@ pub(crate) enum Course {
     Numbers(Option<Num>, Num, Num),
 }
 
-/// What waits for the value of a part. A last number tells how many levels of depth its other parts have.
+/// A variable, and what it still runs over.
+#[derive(Drop)]
+pub(crate) struct Turning<'p> {
+    pub(crate) variable: Variable<'p>,
+    pub(crate) left: Course,
+}
+
+/// What waits for the value of a part. A last number tells how many levels of depth its other parts have. A frame is moved
+/// several times, so what is large and rare stands in a box.
 #[derive(Drop)]
 pub(crate) enum Frame<'p> {
     /// The end of a range without a step.
@@ -108,9 +97,9 @@ pub(crate) enum Frame<'p> {
     /// The step and the end of a range.
     StepAndEnd(Place, &'p Expr, &'p Expr, u32),
     /// A range with its start, and its end.
-    SteppedEnd(Place, Value, &'p Expr, u32),
+    SteppedEnd(Place, Box<Value>, &'p Expr, u32),
     /// A range with its start and its step.
-    Stepped(Place, Value, Value),
+    Stepped(Place, Box<Value>, Box<Value>),
     /// An operator before a value.
     Unary(Place, UnOp),
     /// An operator and its right side.
@@ -129,14 +118,14 @@ pub(crate) enum Frame<'p> {
     IndexedName(&'p [u8]),
     /// A member.
     Member(&'p [u8]),
-    /// Arguments, and those that follow.
-    Arguments(Supply<'p>, &'p [Arg]),
+    /// The next argument of a call, an `assert` or an `echo`, with the values of those before it.
+    Arguments(&'p Expr, Vec<Value>, u32),
     /// A parameter that takes its default.
-    Default(&'p [u8], Opening<'p>),
+    Default(&'p [u8], Box<Opening<'p>>),
     /// Frames of names are left.
     Leave(u32),
-    /// A name that is bound, and those that follow.
-    Bind(&'p [u8], &'p [Arg], Within<'p>),
+    /// Names that are bound, of which the first takes the value.
+    Bind(&'p [Arg], Within<'p>),
     /// A vector of what was added, and what was added to the one around it.
     Vector(Place, Vec<Part>),
     /// Elements that follow.
@@ -150,13 +139,13 @@ pub(crate) enum Frame<'p> {
     /// The elements of an `if` with `else`.
     Either(&'p Elem, &'p Elem, u32),
     /// A variable of a `for` that runs over the value.
-    Over(Variable<'p>),
+    Over(Box<Turning<'p>>),
     /// The turns of a variable that are left.
-    Turns(Variable<'p>, Course),
+    Turns(Box<Turning<'p>>),
     /// The test of a loop.
-    Test(Loop<'p>, u32, u32),
+    Test(Box<Loop<'p>>, u32, u32),
     /// The element of a loop.
-    Body(Loop<'p>, u32, u32),
+    Body(Box<Loop<'p>>, u32, u32),
 }
 
 /// What is at work.

@@ -18,6 +18,7 @@ mod operands;
 mod operations;
 mod part;
 mod pieces;
+mod purpose;
 mod requirements;
 mod run;
 mod sequence;

@@ -1,7 +1,7 @@
 //! Expressions that begin.
 
 ghost use Rattle.std.specs.Prelude.{◌≡◌, ◌+◌, ◌≤◌, ◌*◌, IfOk};
-ghost use Rattle.scad_ast.specs.Tree.{name, vector, index, member, let_in, assert_in, echo_in};
+ghost use Rattle.scad_ast.specs.Tree.{name, vector, index, member, call, let_in};
 ghost use Rattle.scad_ast.specs.View.{expression_of, arguments};
 ghost use Rattle.scad_ast.specs.View.{elements as tree_elements};
 ghost use Rattle.scad_value.specs.Datum.{string};
@@ -10,9 +10,9 @@ ghost use Rattle.scad_expr.specs.Meaning.{node, value, meaning};
 ghost use Rattle.scad_expr.specs.Stack.{Whole, Goes, Leads, Below_by, followed, written_node, rest, height, made_in, rank, size};
 ghost use Rattle.scad_machine.specs.State.{State, Outcome};
 
-use crate::calls::{arguments, call_of_name};
+use crate::calls::{call_of_name, first_argument};
 use crate::elements::more_elements;
-use crate::frame::{Focus, Frame, Inside, Name, Purpose, Supply, Within, Written};
+use crate::frame::{Focus, Frame, Inside, Name, Within, Written};
 use crate::loans::{lone_name, member_in, pass_name};
 use crate::named::bind_more;
 use crate::requirements::judge_named;
@@ -75,11 +75,11 @@ fn node<'p>(
                 word: word.as_slice(),
                 args,
             };
-            call_node(written, depth, stack, m)
+            call_node(e, written, depth, stack, m)
         }
         Node::Let(args, body) => let_node(e.at, args, body, depth, stack, m),
-        Node::Assert(args, body) => assert_node(e.at, args, body, depth, stack, m),
-        Node::Echo(args, body) => echo_node(e.at, args, body, depth, stack, m),
+        Node::Assert(_, _) => first_argument(e, depth, stack, m),
+        Node::Echo(_, _) => first_argument(e, depth, stack, m),
     }
 }
 
@@ -183,11 +183,13 @@ fn member_node<'p>(
 /// A call.
 #[tactic(auto, using(crate::proofs::StackTurns::calls), unfolding(crate::specs::Meaning::node, crate::specs::Stack::supplied, crate::specs::Stack::served))]
 fn call_node<'p>(
+    e: &'p Expr,
     written: Written<'p>,
     depth: u32,
     stack: &mut Stack<'p>,
     m: &mut Machine<'p>,
 ) -> Result<Focus<'p>, EvalFault>
+    requires { call written.at written.word.now (arguments written.args.now) ≡ expression_of e.now }
     ensures goes { Leads (followed (written_node written.entry depth (held m.old)) stack.old m.old)
         result stack.new m.new }
     ensures less { Below_by 9 result stack.old m.old stack.new m.new }
@@ -197,14 +199,7 @@ fn call_node<'p>(
             pass_name(at, word, depth, m)?;
             call_of_name(written, word, depth, stack, m)
         }
-        None => {
-            let supply = Supply {
-                purpose: Purpose::Call(written),
-                so_far: Vec::new(stack.alloc()),
-                depth,
-            };
-            arguments(supply, written.args, stack, m)
-        }
+        None => first_argument(e, depth, stack, m),
     }
 }
 
@@ -230,48 +225,4 @@ fn let_node<'p>(
         depth,
     };
     bind_more(within, args, stack, m)
-}
-
-/// `assert (arguments) body`
-#[tactic(auto, using(crate::proofs::StackTurns::nodes), unfolding(crate::specs::Meaning::node, crate::specs::Stack::supplied, crate::specs::Stack::served))]
-fn assert_node<'p>(
-    at: Place,
-    args: &'p [Arg],
-    body: &'p Expr,
-    depth: u32,
-    stack: &mut Stack<'p>,
-    m: &mut Machine<'p>,
-) -> Result<Focus<'p>, EvalFault>
-    ensures goes { Leads (followed (node (meaning depth) (env_in (held m.old)) (along_in (held m.old))
-        (assert_in at (arguments args.now) (expression_of body.now))) stack.old m.old) result stack.new m.new }
-    ensures less { Below_by 9 result stack.old m.old stack.new m.new }
-{
-    let supply = Supply {
-        purpose: Purpose::Assert(at, args, body),
-        so_far: Vec::new(stack.alloc()),
-        depth,
-    };
-    arguments(supply, args, stack, m)
-}
-
-/// `echo (arguments) body`
-#[tactic(auto, using(crate::proofs::StackTurns::nodes), unfolding(crate::specs::Meaning::node, crate::specs::Stack::supplied, crate::specs::Stack::served))]
-fn echo_node<'p>(
-    at: Place,
-    args: &'p [Arg],
-    body: &'p Expr,
-    depth: u32,
-    stack: &mut Stack<'p>,
-    m: &mut Machine<'p>,
-) -> Result<Focus<'p>, EvalFault>
-    ensures goes { Leads (followed (node (meaning depth) (env_in (held m.old)) (along_in (held m.old))
-        (echo_in at (arguments args.now) (expression_of body.now))) stack.old m.old) result stack.new m.new }
-    ensures less { Below_by 9 result stack.old m.old stack.new m.new }
-{
-    let supply = Supply {
-        purpose: Purpose::Echo(at, args, body),
-        so_far: Vec::new(stack.alloc()),
-        depth,
-    };
-    arguments(supply, args, stack, m)
 }

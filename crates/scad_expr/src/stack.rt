@@ -1,11 +1,13 @@
 //! The stack of an evaluation.
 
+ghost use Rattle.std.specs.Prelude.{◌≡◌, ◌++◌, ◌∷◌, [], OnOk};
+
 use crate::frame::{Focus, Frame};
 use crate::part::Part;
 use scad_ast::Expr;
 use scad_machine::EvalFault;
 use scad_value::Value;
-use std::alloc::{AllocError, AllocFailed, Global};
+use std::alloc::{AllocError, Global};
 use std::mem::replace;
 
 /// Frames, the top one last, and what was added to the vector that is being made.
@@ -14,6 +16,15 @@ pub(crate) struct Stack<'p> {
     alloc: Global,
     frames: Vec<Frame<'p>>,
     made: Vec<Part>,
+}
+
+/// A value behind others. Where there is no memory it is let go by one call, since its type is a parameter.
+fn append<T: Drop>(all: &mut Vec<T>, value: T) -> Result<(), AllocError>
+    ensures { OnOk result (all.new.items ≡ all.old.items ++ value ∷ []) }
+{
+    all.reserve(1)?;
+    all.push_reserved(value);
+    Ok(())
 }
 
 impl<'p> Stack<'p> {
@@ -46,12 +57,12 @@ impl<'p> Stack<'p> {
 
     /// A frame waits.
     #[tactic(auto, using(crate::proofs::StackTurns::stacks), unfolding(crate::specs::Stack::rest, crate::specs::Stack::height, crate::specs::Stack::made_in))]
-    pub(crate) fn push(&mut self, frame: Frame<'p>) -> Result<(), AllocFailed<Frame<'p>>>
+    pub(crate) fn push(&mut self, frame: Frame<'p>) -> Result<(), AllocError>
         ensures rest { OnOk result (rest self.new ≡ onto frame.entry (rest self.old)) }
         ensures height { OnOk result (height self.new ≡ height self.old + 1) }
         ensures made { made_in self.new ≡ made_in self.old }
     {
-        self.frames.push(frame)
+        append(&mut self.frames, frame)
     }
 
     /// The frame on the top goes on.

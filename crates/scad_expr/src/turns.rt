@@ -8,7 +8,7 @@ ghost use Rattle.scad_expr.specs.Meaning.{for_variables, meaning};
 ghost use Rattle.scad_expr.specs.Runs.{items};
 ghost use Rattle.scad_expr.specs.Stack.{Leads, Below_by, followed_list, turns_of, course, rest, made_in};
 
-use crate::frame::{Course, Focus, Frame, Variable};
+use crate::frame::{Course, Focus, Frame, Turning, Variable};
 use crate::named::named;
 use crate::sequence::{items_of, next_number};
 use crate::stack::Stack;
@@ -42,7 +42,9 @@ pub(crate) fn variables<'p>(
                 body,
                 depth,
             };
-            stack.wait(Frame::Over(variable), n.value, depth)
+            let left = Course::Values(Vec::new(stack.alloc()), 0);
+            let turning = Box::new(stack.alloc(), Turning { variable, left })?;
+            stack.wait(Frame::Over(turning), n.value, depth)
         }
         None => Ok(Focus::Element(body, depth)),
     }
@@ -59,22 +61,26 @@ pub(crate) fn course_of(alloc: Global, value: Value) -> Result<Course, AllocErro
     }
 }
 
-/// The next value, and what comes behind it.
+/// The next value; what is left comes behind it.
 #[tactic(auto, using(scad_value::proofs::Lists::lists))]
-fn next_of(alloc: Global, left: Course) -> Result<Option<(Value, Course)>, AllocError>
-    ensures { IfOk result (λ r. MatchOption r (course left ≡ [])
-        (λ p. course left ≡ datum_of p.0 ∷ course p.1)) }
+fn next_of(alloc: Global, left: &mut Course) -> Result<Option<Value>, AllocError>
+    ensures { IfOk result (λ r. MatchOption r (course left.old ≡ [])
+        (λ v. course left.old ≡ datum_of v ∷ course left.new)) }
 {
     match left {
         Course::Values(all, i) => {
-            if i >= all.len() {
+            if *i >= all.len() {
                 return Ok(None);
             }
-            let value = copy(alloc, &all[i])?;
-            Ok(Some((value, Course::Values(all, i + 1))))
+            let value = copy(alloc, &all[*i])?;
+            *i += 1;
+            Ok(Some(value))
         }
-        Course::Numbers(next, step, end) => match next_number(next, step, end) {
-            Some((n, rest)) => Ok(Some((Value::Number(n), Course::Numbers(rest, step, end)))),
+        Course::Numbers(next, step, end) => match next_number(*next, *step, *end) {
+            Some((n, rest)) => {
+                *next = rest;
+                Ok(Some(Value::Number(n)))
+            }
             None => Ok(None),
         },
     }
@@ -83,17 +89,17 @@ fn next_of(alloc: Global, left: Course) -> Result<Option<(Value, Course)>, Alloc
 /// The next turn of a variable, or none.
 #[tactic(auto, using(crate::proofs::StackTurns::turnings), unfolding(crate::specs::Stack::goes_on))]
 pub(crate) fn turn<'p>(
-    variable: Variable<'p>,
-    left: Course,
+    turning: Box<Turning<'p>>,
     stack: &mut Stack<'p>,
     m: &mut Machine<'p>,
 ) -> Result<Focus<'p>, EvalFault>
-    ensures goes { Leads (followed_list (turns_of variable.entry (held m.old) (course left) (made_in stack.old))
-        stack.old m.old) result stack.new m.new }
+    ensures goes { Leads (followed_list (turns_of turning.entry.value.variable (held m.old) (course turning.entry.value.left)
+        (made_in stack.old)) stack.old m.old) result stack.new m.new }
     ensures less { Below_by 4 result stack.old m.old stack.new m.new }
 {
-    match next_of(stack.alloc(), left)? {
-        Some((value, more)) => turn_on(variable, value, more, stack, m),
+    let mut turning = turning;
+    match next_of(stack.alloc(), &mut turning.left)? {
+        Some(value) => turn_on(turning, value, stack, m),
         None => Ok(Focus::Given(Value::Undef)),
     }
 }
@@ -101,18 +107,18 @@ pub(crate) fn turn<'p>(
 /// A turn of a variable with one value.
 #[tactic(auto, using(crate::proofs::StackTurns::turnings), unfolding(crate::specs::Stack::onto, crate::specs::Meaning::turns))]
 fn turn_on<'p>(
-    variable: Variable<'p>,
+    turning: Box<Turning<'p>>,
     value: Value,
-    more: Course,
     stack: &mut Stack<'p>,
     m: &mut Machine<'p>,
 ) -> Result<Focus<'p>, EvalFault>
-    ensures goes { Leads (followed_list (turns_of variable.entry (held m.old) (datum_of value ∷ course more)
-        (made_in stack.old)) stack.old m.old) result stack.new m.new }
+    ensures goes { Leads (followed_list (turns_of turning.entry.value.variable (held m.old) (datum_of value
+        ∷ course turning.entry.value.left) (made_in stack.old)) stack.old m.old) result stack.new m.new }
     ensures less { Below_by 4 result stack.old m.old stack.new m.new }
 {
+    let variable = turning.variable;
     m.step(variable.at)?;
-    stack.push(Frame::Turns(variable, more))?;
+    stack.push(Frame::Turns(turning))?;
     let back = m.open_with(variable.name, value)?;
     stack.push(Frame::Leave(back))?;
     variables(

@@ -6,14 +6,15 @@ use Rattle.scad_ast.specs.View.{expression_of}
 use Rattle.scad_machine.specs.Machine.{Held, held, env_in, along_in, state_of}
 use Rattle.scad_expr.specs.Meaning.{meaning}
 use Rattle.scad_machine.specs.OpenFrames.{set_in_last}
-use Rattle.scad_expr.specs.Stack.{Whole, fills, to_fill, entered, onto, rest, made_in}
+use Rattle.scad_expr.specs.declared.frame.Opening.{Opening}
+use Rattle.scad_expr.specs.Stack.{Whole, fills, filling, to_fill, entered, onto, rest, made_in}
 use Rattle.scad_machine.specs.State.{State, Action, and_then}
 use Rattle.scad_expr.proofs.Loops.{same-state}
 use Rattle.scad_expr.proofs.defaults.fill.Goals as goal
 
-pub returns-in-Some-clause-goes : goal.returns-in-Some-clause-goes
+pub returns-in_ok-later-in-Some-clause-goes : goal.returns-in_ok-later-in-Some-clause-goes
 unfolding onto entered
-returns-in-Some-clause-goes c = λ o is.
+returns-in_ok-later-in-Some-clause-goes c = λ o is.
     let opening = c.args.opening in
     let below = meaning opening.depth in
     let k : Held → Action Whole = entered opening (rest c.args.stack.now) (made_in c.args.stack.now) in
@@ -29,4 +30,7 @@ returns-in-Some-clause-goes c = λ o is.
     ∙ found
     ∙ ap (λ (l : List (Bor Param)). and_then (below.value (env_in h) (along_in h) (expression_of w.value.now) t)
     (λ d. fills below (map (λ (p : Bor Param). parameter p.now) (drop w.next l)) k (set_in_last w.name.now d h)))
-    c.deref.ensures.value)
+    c.deref.ensures.value
+    ∙ ap (λ (q : Opening). and_then ((meaning opening.depth).value (env_in h) (along_in h) (expression_of w.value.now) t)
+    (λ d. filling q (rest c.args.stack.now) (made_in c.args.stack.now) (set_in_last w.name.now d h)))
+    (sym c.in_ok-later-in-Some.ensures.ok))

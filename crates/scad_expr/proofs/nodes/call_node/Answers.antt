@@ -3,7 +3,7 @@ use Rattle.std.proofs.lemmas.Result.{err_from_is_err_and}
 use Rattle.std.specs.Borrow.{Bor}
 use Rattle.scad_fault.specs.declared.place.Place.{Place}
 use Rattle.scad_ast.specs.Tree.{name}
-use Rattle.scad_ast.specs.View.{arguments}
+use Rattle.scad_ast.specs.View.{arguments, expression_of}
 use Rattle.scad_value.specs.Datum.{Datum}
 use Rattle.scad_machine.specs.Functions.{function_named}
 use Rattle.scad_machine.specs.Machine.{Held, held, env_in, along_in, state_of}
@@ -12,7 +12,7 @@ use Rattle.scad_expr.specs.Portions.{lone}
 use Rattle.scad_expr.specs.Stack.{rest, made_in, called_as}
 use Rattle.scad_machine.specs.State.{Outcome, Action, and_then}
 use Rattle.scad_machine.specs.Variables.{variable}
-use Rattle.scad_expr.proofs.StackTurns.{node-lone}
+use Rattle.scad_expr.proofs.StackTurns.{node-lone, call-supplied}
 use Rattle.scad_expr.proofs.nodes.call_node.Goals as goal
 
 pub returns-in_err-pass_name-in-Some-clause-goes : goal.returns-in_err-pass_name-in-Some-clause-goes
@@ -51,3 +51,12 @@ returns-in_ok-pass_name-in-Some-clause-goes c = λ o is.
     ∙ ap (λ (x : Held). and_then (called_as w c.args.depth x (variable word (env_in x) (along_in x) ∷ [])
     (state_of c.pass_name.new.m)) (rest c.args.stack.now x (made_in c.args.stack.now)))
     (sym c.in_ok-pass_name-in-Some.ensures.kept))
+
+pub returns-in-None-clause-goes : goal.returns-in-None-clause-goes
+returns-in-None-clause-goes c = λ o is.
+    let w = c.args.written in
+    let h = held c.args.m.now in
+    c.first_argument.ensures.goes o (is
+    ∙ ap (λ (r : Outcome Datum). and_then r (rest c.args.stack.now h (made_in c.args.stack.now)))
+    (call-supplied (meaning c.args.depth) (env_in h) (along_in h) w.at w.word.now (arguments w.args.now)
+    (expression_of c.args.e.now) (state_of c.args.m.now) c.requires))

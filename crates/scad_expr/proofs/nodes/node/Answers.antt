@@ -1,15 +1,17 @@
-use Rattle.std.proofs.Common.{◌≡◌, ℕ, List, sym, ap, ◌∙◌}
+use Rattle.std.proofs.Common.{◌≡◌, ℕ, List, refl, sym, ap, ◌∙◌}
 use Rattle.std.proofs.lemmas.Result.{err_from_is_err_and}
 use Rattle.scad_ast.specs.Tree.{name}
-use Rattle.scad_ast.specs.View.{expression_at, expression_of}
+use Rattle.scad_ast.specs.View.{expression_at, expression_of, arguments}
 use Rattle.scad_value.specs.Datum.{Datum}
 use Rattle.scad_value.specs.View.{datum_of}
 use Rattle.scad_machine.specs.Machine.{held, env_in, along_in, state_of}
-use Rattle.scad_expr.specs.Meaning.{node}
+use Rattle.scad_machine.specs.State.{Outcome, and_then}
+use Rattle.scad_expr.specs.Meaning.{node, meaning}
 use Rattle.scad_expr.specs.Stack.{rest, made_in, goes_on}
 use Rattle.scad_machine.specs.Variables.{variable}
 use Rattle.scad_expr.proofs.Views.{list_node, call_node, let_node, assert_node, echo_node}
 use Rattle.scad_expr.proofs.StackBegins.{node-same}
+use Rattle.scad_expr.proofs.StackTurns.{assert-supplied, echo-supplied}
 use Rattle.scad_expr.proofs.nodes.node.Goals as goal
 
 pub returns-in-List-clause-goes : goal.returns-in-List-clause-goes
@@ -25,6 +27,11 @@ returns-in-Call-clause-goes c = λ o is.
     (call_node c.args.e.now c.in-Call.word c.in-Call.args c.as_slice-in-Call.result.now c.deref-in-Call.result.now
     c.in-Call.is c.as_slice-in-Call.ensures c.deref-in-Call.ensures.value))
 
+pub call_node-requires : goal.call_node-requires
+call_node-requires c =
+    call_node c.args.e.now c.in-Call.word c.in-Call.args c.as_slice-in-Call.result.now c.deref-in-Call.result.now
+    c.in-Call.is c.as_slice-in-Call.ensures c.deref-in-Call.ensures.value
+
 pub returns-in-Let-clause-goes : goal.returns-in-Let-clause-goes
 returns-in-Let-clause-goes c = λ o is.
     c.let_node.ensures.goes o (is ∙ node-same c.args.depth (held c.args.m.now) (rest c.args.stack.now)
@@ -34,17 +41,27 @@ returns-in-Let-clause-goes c = λ o is.
 
 pub returns-in-Assert-clause-goes : goal.returns-in-Assert-clause-goes
 returns-in-Assert-clause-goes c = λ o is.
-    c.assert_node.ensures.goes o (is ∙ node-same c.args.depth (held c.args.m.now) (rest c.args.stack.now)
-    (made_in c.args.stack.now) (state_of c.args.m.now) _ _
-    (assert_node c.args.e.now c.in-Assert.args c.in-Assert.body c.deref-in-Assert.result.now
-    c.deref-in-Assert-2.result.now c.in-Assert.is c.deref-in-Assert.ensures.value c.deref-in-Assert-2.ensures))
+    let e = c.args.e.now in
+    let h = held c.args.m.now in
+    let args = c.in-Assert.field-0 in
+    let body = c.in-Assert.field-1 in
+    c.first_argument.ensures.goes o (is
+    ∙ ap (λ (r : Outcome Datum). and_then r (rest c.args.stack.now h (made_in c.args.stack.now)))
+    (assert-supplied (meaning c.args.depth) (env_in h) (along_in h) e.at (arguments args.items)
+    (expression_of body.value) (expression_of e) (state_of c.args.m.now)
+    (assert_node e args body args.items body.value c.in-Assert.is refl refl)))
 
 pub returns-in-Echo-clause-goes : goal.returns-in-Echo-clause-goes
 returns-in-Echo-clause-goes c = λ o is.
-    c.echo_node.ensures.goes o (is ∙ node-same c.args.depth (held c.args.m.now) (rest c.args.stack.now)
-    (made_in c.args.stack.now) (state_of c.args.m.now) _ _
-    (echo_node c.args.e.now c.in-Echo.args c.in-Echo.body c.deref-in-Echo.result.now c.deref-in-Echo-2.result.now
-    c.in-Echo.is c.deref-in-Echo.ensures.value c.deref-in-Echo-2.ensures))
+    let e = c.args.e.now in
+    let h = held c.args.m.now in
+    let args = c.in-Echo.field-0 in
+    let body = c.in-Echo.field-1 in
+    c.first_argument-in-Echo.ensures.goes o (is
+    ∙ ap (λ (r : Outcome Datum). and_then r (rest c.args.stack.now h (made_in c.args.stack.now)))
+    (echo-supplied (meaning c.args.depth) (env_in h) (along_in h) e.at (arguments args.items)
+    (expression_of body.value) (expression_of e) (state_of c.args.m.now)
+    (echo_node e args body args.items body.value c.in-Echo.is refl refl)))
 
 pub returns-in_err-variable-in-Name-clause-goes : goal.returns-in_err-variable-in-Name-clause-goes
 returns-in_err-variable-in-Name-clause-goes c =

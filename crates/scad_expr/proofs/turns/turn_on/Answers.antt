@@ -1,6 +1,6 @@
 use Rattle.std.proofs.Common.{sym, ap, ◌∙◌}
 use Rattle.scad_value.specs.View.{datum_of}
-use Rattle.scad_expr.specs.declared.frame.Frame.TheVariants.{Turns}
+use Rattle.scad_expr.specs.declared.frame.Turning.{Turning}
 use Rattle.scad_machine.specs.Machine.{Held, held, env_in, along_in, state_of}
 use Rattle.scad_expr.specs.Stack.{rest, made_in}
 use Rattle.scad_machine.specs.Variables.{set, empty, within}
@@ -11,12 +11,13 @@ use Rattle.scad_expr.proofs.turns.turn_on.Goals as goal
 pub returns-clause-goes : goal.returns-clause-goes
 returns-clause-goes c = λ o is.
     let d = datum_of c.args.value in
-    let names = set c.args.variable.name.now d empty in
-    c.variables.ensures.goes o (is ∙ turn-begins c.args.variable c.in_ok-back.back d c.args.more
+    let v = c.deref.result.now.variable in
+    let names = set v.name.now d empty in
+    c.variables.ensures.goes o (is ∙ turn-begins c.args.turning v c.in_ok-back.back d
     (rest c.args.stack.now)
     (rest c.push.new.self) (rest c.push-2.new.self) (held c.args.m.now) (held c.open_with.new.self)
     (made_in c.args.stack.now) (made_in c.push-2.new.self) (state_of c.args.m.now) (state_of c.step.new.self)
-    (state_of c.open_with.new.self) c.in_ok-step.ensures.does c.in_ok-push.ensures.rest c.in_ok-push-2.ensures.rest
+    (state_of c.open_with.new.self) (ap (λ (t : Turning). t.variable) c.deref.ensures) c.in_ok-step.ensures.does c.in_ok-push.ensures.rest c.in_ok-push-2.ensures.rest
     (c.in_ok-back.ensures.env ∙ ap (λ (h : Held). within (env_in h) names.names) c.in_ok-step.ensures.kept)
     (c.in_ok-back.ensures.along ∙ ap (λ (h : Held). within (along_in h) names.dollars) c.in_ok-step.ensures.kept)
     (c.in_ok-back.ensures.back ∙ c.in_ok-step.ensures.kept)
