@@ -15,3 +15,16 @@ pub record Keeps {Self T : Type 0} (contents : Self → Files) (view : Self → 
   pub files : contents new ≡ contents old
   pub later : faults old ≤ faults new
   pub cause : HasRisen result (faults old) (faults new)
+
+-- Of a desk that may have failed or created an output, the part of this that holds however a script goes: the files
+-- stand, and the count of faults doesn't fall.
+pub record KeepsFiles {Self : Type 0} (contents : Self → Files) (faults : Self → ℕ) (old new : Self) : Type 0 where
+  pub files : contents new ≡ contents old
+  pub later : faults old ≤ faults new
+
+-- And where a part stopped because an object failed, the count rose.
+pub record Leaves {Self T : Type 0} (contents : Self → Files) (faults : Self → ℕ) (old new : Self)
+    (result : Result T Stop) : Type 0 where
+  pub files : contents new ≡ contents old
+  pub later : faults old ≤ faults new
+  pub cause : HasRisen result (faults old) (faults new)

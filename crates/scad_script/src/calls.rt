@@ -1,11 +1,11 @@
 //! The two steps that draw: an output is created, and a piece is written to it.
-ghost use Rattle.std.specs.Prelude.{◌≡◌, ◌≢◌, ◌<◌, ◌≤◌, ◌∷◌, [], true, false, OnOk, IsErrOf, OnErr};
+ghost use Rattle.std.specs.Prelude.{◌≡◌, ◌≢◌, ◌<◌, ◌∷◌, [], true, false, OnOk, IsErrOf, OnErr};
 ghost use Rattle.scad_io.specs.Desk.{side, HasCause};
 ghost use Rattle.scad_script.specs.Steps.{Makes, Sends};
 ghost use Rattle.scad_script.specs.Script.{first};
 ghost use Rattle.scad_script.specs.Play.{Carries, IsThere, stop_of};
 ghost use Rattle.scad_script.specs.Run.{Sound, CreatesOne};
-ghost use Rattle.scad_script.specs.Departure.{Keeps};
+ghost use Rattle.scad_script.specs.Departure.{Keeps, KeepsFiles};
 
 use crate::Stop;
 use scad_io::{Desk, Failed, Out, write_all};
@@ -19,8 +19,7 @@ pub fn make<D: Desk>(desk: &mut D, out: Out, name: &str) -> Result<(), Stop>
     ensures carries { Carries (first (Makes out name.now ∷ [])) result (D.view desk.old) (D.view desk.new) }
     ensures sound { OnOk result (Sound (D.view desk.new)) }
     ensures creates { OnOk result (CreatesOne out (D.view desk.old) (D.view desk.new)) }
-    ensures files { D.files desk.new ≡ D.files desk.old }
-    ensures later { D.faults desk.old ≤ D.faults desk.new }
+    ensures kept { KeepsFiles D.files D.faults desk.old desk.new }
     ensures cause { OnErr result (D.faults desk.old < D.faults desk.new) }
 {
     match desk.create(out, name) {

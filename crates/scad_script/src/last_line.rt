@@ -1,6 +1,7 @@
 //! The report's last line.
-ghost use Rattle.std.specs.Prelude.{◌≡◌, ◌≢◌, ◌⊎◌, ◌<◌, ◌≤◌, false};
+ghost use Rattle.std.specs.Prelude.{◌≡◌, ◌≢◌, ◌⊎◌, ◌<◌, false};
 ghost use Rattle.scad_script.specs.Run.{Tells, Reports};
+ghost use Rattle.scad_script.specs.Departure.{KeepsFiles};
 
 use crate::{Refusal, Stop};
 use scad_fault::{OUT_OF_MEMORY, READ_FAULT, Status, Text, WRITE_FAULT};
@@ -14,8 +15,7 @@ pub fn report<D: Desk>(alloc: Global, ended: Result<Text, Stop>, desk: &mut D) -
     requires sound { ended ≢ Err Stop.Silent → (D.view desk.old).report.failed ≡ false }
 
     ensures reports { Reports ended result (D.view desk.old) (D.view desk.new) }
-    ensures files { D.files desk.new ≡ D.files desk.old }
-    ensures later { D.faults desk.old ≤ D.faults desk.new }
+    ensures kept { KeepsFiles D.files D.faults desk.old desk.new }
     ensures read { result ≡ Status.Read → ended ≡ Err Stop.Read }
     ensures write { result ≡ Status.Write
         → (ended ≡ Err Stop.Write) ⊎ ((ended ≡ Err Stop.Silent) ⊎ (D.faults desk.old < D.faults desk.new)) }
@@ -35,8 +35,7 @@ fn tell_refusal<D: Desk>(alloc: Global, refusal: Refusal, desk: &mut D) -> Statu
     requires sound { (D.view desk.old).report.failed ≡ false }
 
     ensures reports { Reports (Err (Stop.Ends refusal)) result (D.view desk.old) (D.view desk.new) }
-    ensures files { D.files desk.new ≡ D.files desk.old }
-    ensures later { D.faults desk.old ≤ D.faults desk.new }
+    ensures kept { KeepsFiles D.files D.faults desk.old desk.new }
     ensures read { result ≢ Status.Read }
     ensures write { result ≡ Status.Write → D.faults desk.old < D.faults desk.new }
 {
@@ -52,9 +51,8 @@ fn tell<D: Desk>(line: &[u8], status: Status, desk: &mut D) -> Status
     requires sound { (D.view desk.old).report.failed ≡ false }
 
     ensures tells { Tells line.now status result (D.view desk.old) (D.view desk.new) }
-    ensures files { D.files desk.new ≡ D.files desk.old }
-    ensures later { D.faults desk.old ≤ D.faults desk.new }
-    ensures kept { result ≢ Status.Write → result ≡ status }
+    ensures kept { KeepsFiles D.files D.faults desk.old desk.new }
+    ensures status { result ≢ Status.Write → result ≡ status }
     ensures write { result ≡ Status.Write → (status ≡ Status.Write) ⊎ (D.faults desk.old < D.faults desk.new) }
 {
     match write_all(desk, Out::Report, line) {

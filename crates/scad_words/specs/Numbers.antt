@@ -12,10 +12,14 @@ is_number most text = nat_le 1 (length text) && nat_le (length text) most && lis
 abbrev pub number_of : ℕ → List ℕ → Option ℕ
 number_of most text = if is_number most text then Some (digits_value 10 text) else None
 
-abbrev pub if_workers : ℕ → Option ℕ
-if_workers n = if nat_le 1 n && nat_le n 64 then Some n else None
+-- at most so many workers are asked for
+abbrev pub worker_limit : ℕ
+worker_limit = 64
 
--- how many workers a text says: from 1 to 64, in at most nine digits
+abbrev pub if_workers : ℕ → Option ℕ
+if_workers n = if nat_le 1 n && nat_le n worker_limit then Some n else None
+
+-- how many workers a text says: from 1 to their limit, in at most nine digits
 abbrev pub workers_of : List ℕ → Option ℕ
 workers_of text = option_and_then if_workers (number_of 9 text)
 

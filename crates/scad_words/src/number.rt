@@ -2,21 +2,24 @@
 ghost use Rattle.std.specs.Prelude.{◌≡◌, ◌≤◌, IfSome};
 ghost use Rattle.std.specs.Char.{is_ascii_digit};
 ghost use Rattle.std.specs.List.{list_all};
-ghost use Rattle.scad_words.specs.Numbers.{is_number, number_of, if_workers, workers_of, if_sample, sample_of};
+ghost use Rattle.scad_words.specs.Numbers.{is_number, number_of, worker_limit, if_workers, workers_of, if_sample, sample_of};
+
+/// The most workers that are asked for.
+const WORKER_LIMIT: u64 = 64;
 
 /// How many workers a text says: from 1 to 64, in at most nine digits.
 pub(crate) fn workers_of(text: &str) -> Option<u32>
     ensures number { result ≡ workers_of text.now }
-    ensures range { IfSome result (λ w. (1 ≤ w) × (w ≤ 64)) }
+    ensures range { IfSome result (λ w. (1 ≤ w) × (w ≤ worker_limit)) }
 {
     if_workers(number_of(text, 9)?)
 }
 
 fn if_workers(n: u64) -> Option<u32>
     ensures number { result ≡ if_workers n }
-    ensures range { IfSome result (λ w. (1 ≤ w) × (w ≤ 64)) }
+    ensures range { IfSome result (λ w. (1 ≤ w) × (w ≤ worker_limit)) }
 {
-    if 1 <= n && n <= 64 {
+    if 1 <= n && n <= WORKER_LIMIT {
         Some(n as u32)
     } else {
         None

@@ -2,6 +2,7 @@
 ghost use Rattle.std.specs.Prelude.{◌≡◌, ◌≢◌, ◌≤◌, Some, None, IfSome, IfOk, IfErr, Err, option_map};
 ghost use Rattle.clap.specs.Matches.{found_of};
 ghost use Rattle.clap.specs.Walk.{rows_of, first_of};
+ghost use Rattle.scad_words.specs.Numbers.{worker_limit};
 ghost use Rattle.scad_words.specs.Job.{slice_in, plan_in, sample_in, verify_in, command_of, settings_in, workers_in};
 
 use crate::job::{Command, WordFault};
@@ -92,7 +93,7 @@ pub(crate) fn settings(alloc: Global, given: &ArgMatches<'_>) -> Result<Option<F
 /// How many workers are asked for: one where no number is given.
 pub(crate) fn workers(given: &ArgMatches<'_>) -> Option<u32>
     ensures number { result ≡ workers_in (rows_of (found_of given.now)) }
-    ensures range { IfSome result (λ w. (1 ≤ w) × (w ≤ 64)) }
+    ensures range { IfSome result (λ w. (1 ≤ w) × (w ≤ worker_limit)) }
 {
     match value(given, "workers") {
         Some(text) => workers_of(text),

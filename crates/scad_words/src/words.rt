@@ -5,6 +5,7 @@ ghost use Rattle.clap.specs.Matches.{found_of};
 ghost use Rattle.clap.specs.Simple.{app_of, subcommand_rows_of};
 ghost use Rattle.clap.specs.Walk.{rows_of};
 ghost use Rattle.scad_words.specs.CommandSet.{command_set};
+ghost use Rattle.scad_words.specs.Numbers.{worker_limit};
 ghost use Rattle.scad_words.specs.Job.{files_of, named, differ, job_given, job_from, job_of};
 
 use crate::command_set::command_set;
@@ -24,7 +25,7 @@ use std::alloc::{AllocError, Global};
 /// the answer is `Usage`.
 pub fn read_words(alloc: Global, words: &[String]) -> Result<Job, WordFault>
     ensures job { IfOk result (λ job. job_of (map string_bytes words.now) ≡ Some job) }
-    ensures workers { IfOk result (λ job. (1 ≤ job.workers) × (job.workers ≤ 64)) }
+    ensures workers { IfOk result (λ job. (1 ≤ job.workers) × (job.workers ≤ worker_limit)) }
     ensures usage { (result ≡ Err WordFault.Usage) → (job_of (map string_bytes words.now) ≡ None) }
 {
     match command_set(alloc) {
@@ -41,7 +42,7 @@ fn asked<'a>(
 ) -> Result<Job, WordFault>
     requires { app_of commands ≡ command_set }
     ensures job { IfOk result (λ job. job_of (map string_bytes words.now) ≡ Some job) }
-    ensures workers { IfOk result (λ job. (1 ≤ job.workers) × (job.workers ≤ 64)) }
+    ensures workers { IfOk result (λ job. (1 ≤ job.workers) × (job.workers ≤ worker_limit)) }
     ensures usage { (result ≡ Err WordFault.Usage) → (job_of (map string_bytes words.now) ≡ None) }
 {
     match commands.try_get_matches_from(words) {
@@ -65,7 +66,7 @@ fn refusal(kind: ErrorKind) -> WordFault
 // The job of the command that the words name.
 fn job_met(alloc: Global, matches: &ArgMatches<'_>) -> Result<Job, WordFault>
     ensures job { IfOk result (λ job. option_and_then job_from (subcommand_rows_of matches.now) ≡ Some job) }
-    ensures workers { IfOk result (λ job. (1 ≤ job.workers) × (job.workers ≤ 64)) }
+    ensures workers { IfOk result (λ job. (1 ≤ job.workers) × (job.workers ≤ worker_limit)) }
     ensures usage { (result ≡ Err WordFault.Usage)
         → (option_and_then job_from (subcommand_rows_of matches.now) ≡ None) }
 {
@@ -78,7 +79,7 @@ fn job_met(alloc: Global, matches: &ArgMatches<'_>) -> Result<Job, WordFault>
 // The job of a command's name and of what it was given.
 fn job_given(alloc: Global, name: &str, given: &ArgMatches<'_>) -> Result<Job, WordFault>
     ensures job { IfOk result (λ job. job_given name.now (rows_of (found_of given.now)) ≡ Some job) }
-    ensures workers { IfOk result (λ job. (1 ≤ job.workers) × (job.workers ≤ 64)) }
+    ensures workers { IfOk result (λ job. (1 ≤ job.workers) × (job.workers ≤ worker_limit)) }
     ensures usage { (result ≡ Err WordFault.Usage) → (job_given name.now (rows_of (found_of given.now)) ≡ None) }
 {
     let command = command_of(alloc, name, given)?;
