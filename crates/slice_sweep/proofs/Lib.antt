@@ -8,6 +8,7 @@ mod Mending
 mod Telling
 mod Placing
 mod Groups
+mod Blocks
 mod Waking
 mod HeightStep
 mod Starts

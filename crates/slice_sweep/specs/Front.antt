@@ -12,6 +12,7 @@ use Rattle.slice_slab.specs.Active.{times}
 use Rattle.slice_sweep.specs.declared.front.Front.{Front}
 use Rattle.slice_sweep.specs.LowerEnds.{starts_of}
 use Rattle.slice_sweep.specs.Strands.{bundles_of, numbers_in, AreWaiting}
+use Rattle.slice_sweep.specs.Lows.{AreLow}
 
 -- the bundles above the height that it was lifted to last, from left to right
 abbrev pub bundles_in : Front → List (List ℕ)
@@ -29,6 +30,7 @@ pub record IsReadyFor (edges : List LeafEdge) (at : Level) (f : Front) : Type 0 
   pub rising : AreRising (starts_of f.ends.items)
   pub begun : f.begun ≤ length f.ends.items
   pub waiting : AreWaiting edges at f.strands.items
+  pub low : AreLow f.lows.items f.strands.items
   pub later : (h : Level) → pos 0 <ℤ h.d → IsAtMost at h
       → AreAll edges h (numbers_in f.strands.items) (starts_of (drop f.begun f.ends.items))
 

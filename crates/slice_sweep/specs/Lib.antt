@@ -2,6 +2,7 @@
 pub mod Keys
 pub mod Chains
 pub mod Strands
+pub mod Lows
 pub mod LowerEnds
 pub mod Front
 pub mod Changes

@@ -14,5 +14,7 @@ pub struct Front {
     pub(crate) ends: Vec<LowerEnd>,
     pub(crate) begun: usize,
     pub(crate) strands: Vec<Strand>,
+    // The keys of their blocks.
+    pub(crate) lows: Vec<i64>,
     pub(crate) room: Room,
 }

@@ -4,6 +4,7 @@
 //! edges at once.
 #![tactic(auto, using(scad_geom::proofs::Casts::casts))]
 
+mod asleep;
 mod change;
 mod coinciding;
 mod front;
@@ -13,6 +14,7 @@ mod leave;
 mod lifting;
 mod lower_end;
 mod lower_ends;
+mod lows;
 mod mend;
 mod place;
 mod ray;

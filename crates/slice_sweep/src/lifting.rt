@@ -13,6 +13,7 @@ use crate::change::Change;
 use crate::front::Front;
 use crate::key::key_of;
 use crate::lower_ends::{begin, lower_ends};
+use crate::lows::find_lows;
 use crate::mend::mend;
 use crate::room::Room;
 use crate::start::start_all;
@@ -35,6 +36,7 @@ impl Front {
             ends: lower_ends(alloc, edges)?,
             begun: 0,
             strands: Vec::new(alloc),
+            lows: Vec::new(alloc),
             room: Room::new(alloc),
         })
     }
@@ -61,7 +63,7 @@ impl Front {
         let numbers = &mut self.room.numbers;
         numbers.clear();
         self.begun = begin(numbers, &self.ends, self.begun, lower)?;
-        start_all(edges, &mut self.strands, numbers, lower)?;
+        start_all(edges, &mut self.strands, &mut self.lows, numbers, lower)?;
         let step = Step {
             alloc: self.alloc,
             edges,
@@ -69,8 +71,9 @@ impl Front {
             upper,
             key: key_of(lower),
         };
-        let changes = mend(&step, &mut self.strands, &mut self.room)?;
+        let changes = mend(&step, &mut self.strands, &mut self.lows, &mut self.room)?;
         wake_all(&step, &mut self.strands, &changes);
+        find_lows(&self.strands, &mut self.lows)?;
         Ok(changes)
     }
 

@@ -4,17 +4,19 @@ ghost use Rattle.std.specs.List.{AllByRecursion};
 ghost use Rattle.scad_geom.specs.Line.{high};
 ghost use Rattle.scad_geom.specs.Heights.{AreNeighbours};
 ghost use Rattle.slice_slab.specs.Bundles.{edge_at};
-ghost use Rattle.slice_sweep.specs.Keys.{IsBelowKey};
 ghost use Rattle.slice_sweep.specs.declared.change.Change.{Change};
 ghost use Rattle.slice_sweep.specs.declared.strand.Strand.{Strand};
 ghost use Rattle.slice_sweep.specs.Strands.{AreWaiting, AreThere, bundles_of, strand_at};
 ghost use Rattle.slice_sweep.specs.Mending.{AreOrdered, AreMendedTo, KeepTimes, IsGroup};
+ghost use Rattle.slice_sweep.specs.Lows.{AreLow};
 ghost use Rattle.slice_sweep.specs.Changes.{AreChanges, older, started};
 ghost use Rattle.slice_sweep.specs.Places.{came_from_below, StartsKeyless, ArePlacedTo};
 
+use crate::asleep::pass_asleep;
 use crate::change::Change;
 use crate::group::{goes_on, group_end, members, older};
 use crate::leave::leaving;
+use crate::lows::forget;
 use crate::replace::{replace, weaken};
 use crate::room::Room;
 use crate::step::Step;
@@ -25,10 +27,13 @@ use std::alloc::AllocError;
 pub(crate) fn mend(
     step: &Step<'_>,
     strands: &mut Vec<Strand>,
+    lows: &mut Vec<i64>,
     room: &mut Room,
 ) -> Result<Vec<Change>, AllocError>
     requires neighbours { AreNeighbours step.now.edges.now step.now.lower.now step.now.upper.now }
     requires waiting { AreWaiting step.now.edges.now step.now.lower.now strands.old.items }
+    requires low { AreLow lows.old.items strands.old.items }
+    ensures low { OnOk result (AreLow lows.new.items strands.new.items) }
     ensures ordered { OnOk result
         (AreOrdered step.now.edges.now step.now.lower.now step.now.upper.now strands.new.items) }
     ensures numbers { OnOk result (KeepTimes step.now.edges.now step.now.lower.now step.now.upper.now
@@ -41,7 +46,7 @@ pub(crate) fn mend(
     let mut changes = Vec::new(step.alloc);
     let mut place = 0;
     'places: while place < strands.len() {
-        place = mend_at(step, strands, &mut changes, room, place)?;
+        place = mend_at(step, strands, lows, &mut changes, room, place)?;
     }
     Ok(changes)
 }
@@ -50,6 +55,7 @@ pub(crate) fn mend(
 fn mend_at(
     step: &Step<'_>,
     strands: &mut Vec<Strand>,
+    lows: &mut Vec<i64>,
     changes: &mut Vec<Change>,
     room: &mut Room,
     place: usize,
@@ -57,6 +63,8 @@ fn mend_at(
     requires neighbours { AreNeighbours step.now.edges.now step.now.lower.now step.now.upper.now }
     requires mended { AreMendedTo step.now.edges.now step.now.lower.now step.now.upper.now place strands.old.items }
     requires there { place < length strands.old.items }
+    requires low { AreLow lows.old.items strands.old.items }
+    ensures low { OnOk result (AreLow lows.new.items strands.new.items) }
     ensures mended { IfOk result (λ n. AreMendedTo step.now.edges.now step.now.lower.now step.now.upper.now n
         strands.new.items) }
     ensures numbers { OnOk result (KeepTimes step.now.edges.now step.now.lower.now step.now.upper.now
@@ -66,35 +74,17 @@ fn mend_at(
         → ArePlacedTo step.now.edges.now step.now.lower.now place all strands.old.items changes.old.items
         → ArePlacedTo step.now.edges.now step.now.lower.now n all strands.new.items changes.new.items) }
 {
-    let awake = pass_asleep(step, strands, place);
+    let awake = pass_asleep(step, strands, lows, place);
     if awake == strands.len() {
         return Ok(awake);
     }
-    mend_awake(step, strands, changes, room, awake)
-}
-
-// The first strand from a place on that isn't asleep, or the place behind all: those before it stay as they are.
-fn pass_asleep(step: &Step<'_>, strands: &[Strand], from: usize) -> usize
-    requires neighbours { AreNeighbours step.now.edges.now step.now.lower.now step.now.upper.now }
-    requires mended { AreMendedTo step.now.edges.now step.now.lower.now step.now.upper.now from strands.now }
-    requires there { from < length strands.now }
-    ensures mended { AreMendedTo step.now.edges.now step.now.lower.now step.now.upper.now result strands.now }
-    ensures from { from ≤ result }
-    ensures within { result ≤ length strands.now }
-    ensures told { (all : List Strand) (cs : List Change)
-        → ArePlacedTo step.now.edges.now step.now.lower.now from all strands.now cs
-        → ArePlacedTo step.now.edges.now step.now.lower.now result all strands.now cs }
-{
-    let mut place = from;
-    'asleep: while place < strands.len() && is_asleep(step, strands, place) {
-        place += 1;
-    }
-    place
+    mend_awake(step, strands, lows, changes, room, awake)
 }
 
 fn mend_awake(
     step: &Step<'_>,
     strands: &mut Vec<Strand>,
+    lows: &mut Vec<i64>,
     changes: &mut Vec<Change>,
     room: &mut Room,
     place: usize,
@@ -102,6 +92,7 @@ fn mend_awake(
     requires neighbours { AreNeighbours step.now.edges.now step.now.lower.now step.now.upper.now }
     requires mended { AreMendedTo step.now.edges.now step.now.lower.now step.now.upper.now place strands.old.items }
     requires there { place < length strands.old.items }
+    ensures low { OnOk result (AreLow lows.old.items strands.old.items → AreLow lows.new.items strands.new.items) }
     ensures mended { IfOk result (λ n. AreMendedTo step.now.edges.now step.now.lower.now step.now.upper.now n
         strands.new.items) }
     ensures numbers { OnOk result (KeepTimes step.now.edges.now step.now.lower.now step.now.upper.now
@@ -117,7 +108,7 @@ fn mend_awake(
         tell_start(changes, place, gone)?;
         return Ok(place + 1);
     }
-    let behind = regroup(step, strands, room, place, end)?;
+    let behind = regroup(step, strands, lows, room, place, end)?;
     tell(
         changes,
         Change {
@@ -165,24 +156,11 @@ fn is_alone(step: &Step<'_>, strands: &[Strand], place: usize, end: usize) -> bo
     end - place == 1 && goes_on(step, &strands[place])
 }
 
-// Whether the lower height lies below the key of the strand at a place.
-fn is_asleep(step: &Step<'_>, strands: &[Strand], place: usize) -> bool
-    requires { place < length strands.now }
-    ensures { result ≡ true → IsBelowKey step.now.lower.now (strand_at strands.now place).wake }
-{
-    is_later(step, strands[place].wake)
-}
-
-fn is_later(step: &Step<'_>, wake: i64) -> bool
-    ensures { result ≡ true → IsBelowKey step.now.lower.now wake }
-{
-    step.key < wake as i128
-}
-
 // Puts in their place the bundles of those of their edges that go on.
 fn regroup(
     step: &Step<'_>,
     strands: &mut Vec<Strand>,
+    lows: &mut Vec<i64>,
     room: &mut Room,
     from: usize,
     to: usize,
@@ -190,6 +168,7 @@ fn regroup(
     requires neighbours { AreNeighbours step.now.edges.now step.now.lower.now step.now.upper.now }
     requires mended { AreMendedTo step.now.edges.now step.now.lower.now step.now.upper.now from strands.old.items }
     requires group { IsGroup step.now.edges.now step.now.lower.now from to strands.old.items }
+    ensures low { OnOk result (AreLow lows.old.items strands.old.items → AreLow lows.new.items strands.new.items) }
     ensures mended { IfOk result (λ n. AreMendedTo step.now.edges.now step.now.lower.now step.now.upper.now n
         strands.new.items) }
     ensures numbers { OnOk result (KeepTimes step.now.edges.now step.now.lower.now step.now.upper.now
@@ -205,6 +184,7 @@ fn regroup(
     members(strands, from, to, &mut room.numbers)?;
     let bundles = leaving(step, &room.numbers, &mut room.rays)?;
     let end = from + bundles.len();
+    forget(lows, from, to, end);
     weaken(strands, from);
     replace(step.alloc, strands, from, to, bundles)?;
     Ok(end)

@@ -7,10 +7,12 @@ ghost use Rattle.slice_slab.specs.Active.{times};
 ghost use Rattle.slice_slab.specs.Bundles.{edge_at, reaches};
 ghost use Rattle.std.specs.List.{AllByRecursion};
 ghost use Rattle.slice_sweep.specs.Strands.{bundles_of, numbers_in, fresh, AreWaiting, IsReaching};
+ghost use Rattle.slice_sweep.specs.Lows.{AreLow};
 ghost use Rattle.slice_sweep.specs.Places.{came_from_below, StartsKeyless, StartsAt};
 
 use crate::key::STALE;
 use crate::leave::reaches;
+use crate::lows::forget_from;
 use crate::place::place;
 use crate::replace::weaken;
 use crate::strand::Strand;
@@ -22,6 +24,7 @@ use std::alloc::AllocError;
 pub(crate) fn start_all(
     edges: &[LeafEdge],
     strands: &mut Vec<Strand>,
+    lows: &mut Vec<i64>,
     numbers: &[u32],
     at: &Level,
 ) -> Result<(), AllocError>
@@ -29,6 +32,7 @@ pub(crate) fn start_all(
     requires at { IsLevelWithin coordinate_limit at.now }
     requires there { All (λ k. k < length edges.now) numbers.now }
     requires waiting { AreWaiting edges.now at.now strands.old.items }
+    ensures low { OnOk result (AreLow lows.old.items strands.old.items → AreLow lows.new.items strands.new.items) }
     ensures waiting { OnOk result (AreWaiting edges.now at.now strands.new.items) }
     ensures numbers { OnOk result ((k : ℕ) → reaches (edge_at edges.now k) at.now at.now ≡ true
         → times k (numbers_in strands.new.items) ≡ times k (numbers_in strands.old.items) + times k numbers.now) }
@@ -39,7 +43,7 @@ pub(crate) fn start_all(
         → AllByRecursion (StartsKeyless edges.now at.now) strands.new.items) }
 {
     'numbers: for k in numbers {
-        start(edges, strands, *k, at)?;
+        start(edges, strands, lows, *k, at)?;
     }
     Ok(())
 }
@@ -48,6 +52,7 @@ pub(crate) fn start_all(
 fn start(
     edges: &[LeafEdge],
     strands: &mut Vec<Strand>,
+    lows: &mut Vec<i64>,
     k: u32,
     at: &Level,
 ) -> Result<(), AllocError>
@@ -55,6 +60,7 @@ fn start(
     requires at { IsLevelWithin coordinate_limit at.now }
     requires there { k < length edges.now }
     requires waiting { AreWaiting edges.now at.now strands.old.items }
+    ensures low { OnOk result (AreLow lows.old.items strands.old.items → AreLow lows.new.items strands.new.items) }
     ensures waiting { OnOk result (AreWaiting edges.now at.now strands.new.items) }
     ensures numbers { OnOk result ((j : ℕ) → reaches (edge_at edges.now j) at.now at.now ≡ true
         → times j (numbers_in strands.new.items) ≡ times j (numbers_in strands.old.items) + times j (k ∷ [])) }
@@ -67,12 +73,13 @@ fn start(
     if !reaches(&edges[k as usize].edge, at, at) {
         return Ok(());
     }
-    begin_at(edges, strands, k, at)
+    begin_at(edges, strands, lows, k, at)
 }
 
 fn begin_at(
     edges: &[LeafEdge],
     strands: &mut Vec<Strand>,
+    lows: &mut Vec<i64>,
     k: u32,
     at: &Level,
 ) -> Result<(), AllocError>
@@ -80,6 +87,7 @@ fn begin_at(
     requires at { IsLevelWithin coordinate_limit at.now }
     requires reaching { IsReaching edges.now at.now at.now k }
     requires waiting { AreWaiting edges.now at.now strands.old.items }
+    ensures low { OnOk result (AreLow lows.old.items strands.old.items → AreLow lows.new.items strands.new.items) }
     ensures waiting { OnOk result (AreWaiting edges.now at.now strands.new.items) }
     ensures numbers { OnOk result ((j : ℕ) → times j (numbers_in strands.new.items)
         ≡ times j (numbers_in strands.old.items) + times j (k ∷ [])) }
@@ -90,6 +98,7 @@ fn begin_at(
         → AllByRecursion (StartsKeyless edges.now at.now) strands.new.items) }
 {
     let i = place(edges, strands, k, at);
+    forget_from(lows, i.saturating_sub(1));
     weaken(strands, i);
     insert(strands, k, i)
 }

@@ -1,5 +1,5 @@
 //! From when on a strand is looked at.
-ghost use Rattle.std.specs.Prelude.{◌≡◌, ◌<◌, ◌+◌, ◌<ℤ◌, ◌≤ℤ◌, ℕ, ℤ, pos, length, All};
+ghost use Rattle.std.specs.Prelude.{◌≡◌, ◌<◌, ◌+◌, ◌<ℤ◌, ◌≤ℤ◌, ℕ, ℤ, List, pos, length, All};
 ghost use Rattle.scad_geom.specs.declared.level.Level.{Level};
 ghost use Rattle.scad_geom.specs.Limits.{coordinate_limit};
 ghost use Rattle.scad_geom.specs.Line.{high, rise};
@@ -8,8 +8,9 @@ ghost use Rattle.scad_geom.specs.EdgeOrder.{IsBefore};
 ghost use Rattle.scad_geom.specs.Level.{IsLevelWithin, IsLower};
 ghost use Rattle.slice_slab.specs.Bundles.{edge_at};
 ghost use Rattle.slice_slab.specs.KeptOrder.{IsLeftAt};
-ghost use Rattle.slice_sweep.specs.Keys.{IsBelowKey};
+ghost use Rattle.slice_sweep.specs.Keys.{IsBelowKey, stale};
 ghost use Rattle.slice_sweep.specs.Strands.{head, EndAbove, LiesLeft, AreThere, strand_at, bundles_of};
+ghost use Rattle.slice_sweep.specs.Lows.{AreLow};
 ghost use Rattle.slice_sweep.specs.Mending.{ComesBefore, AreOrdered};
 
 use crate::change::Change;
@@ -26,6 +27,7 @@ pub(crate) fn wake_all(step: &Step<'_>, strands: &mut Vec<Strand>, changes: &[Ch
     requires ordered { AreOrdered step.now.edges.now step.now.lower.now step.now.upper.now strands.old.items }
     ensures ordered { AreOrdered step.now.edges.now step.now.lower.now step.now.upper.now strands.new.items }
     ensures bundles { bundles_of strands.new.items ≡ bundles_of strands.old.items }
+    ensures low { (lows : List ℤ) → AreLow lows strands.old.items → AreLow lows strands.new.items }
 {
     'changes: for change in changes {
         wake_from(
@@ -42,6 +44,7 @@ fn wake_from(step: &Step<'_>, strands: &mut Vec<Strand>, from: usize, to: usize)
     requires ordered { AreOrdered step.now.edges.now step.now.lower.now step.now.upper.now strands.old.items }
     ensures ordered { AreOrdered step.now.edges.now step.now.lower.now step.now.upper.now strands.new.items }
     ensures bundles { bundles_of strands.new.items ≡ bundles_of strands.old.items }
+    ensures low { (lows : List ℤ) → AreLow lows strands.old.items → AreLow lows strands.new.items }
 {
     'strands: for i in from..to {
         if i < strands.len() && strands[i].wake == STALE {
@@ -54,8 +57,10 @@ fn wake_from(step: &Step<'_>, strands: &mut Vec<Strand>, from: usize, to: usize)
 fn wake(step: &Step<'_>, strands: &mut Vec<Strand>, i: usize)
     requires ordered { AreOrdered step.now.edges.now step.now.lower.now step.now.upper.now strands.old.items }
     requires there { i < length strands.old.items }
+    requires keyless { (strand_at strands.old.items i).wake ≡ stale }
     ensures ordered { AreOrdered step.now.edges.now step.now.lower.now step.now.upper.now strands.new.items }
     ensures bundles { bundles_of strands.new.items ≡ bundles_of strands.old.items }
+    ensures low { (lows : List ℤ) → AreLow lows strands.old.items → AreLow lows strands.new.items }
 {
     let key = wake_of(step.edges, strands, i);
     strands[i].wake = key;

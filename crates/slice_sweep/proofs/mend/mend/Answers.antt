@@ -14,6 +14,7 @@ places-init c =
       mended = none_mended s.edges.now s.lower.now s.upper.now L c.requires.waiting;
       placed = λ h. subst (λ (cs : List Change). ArePlacedTo s.edges.now s.lower.now 0 L L cs)
           (sym c.new-changes.ensures.items) (none_placed s.edges.now s.lower.now L h);
+      low = c.requires.low;
       numbers = λ k r. refl;
     }
 
@@ -21,6 +22,7 @@ pub places-preserved : goal.places-preserved
 places-preserved c = record {
   mended = c.in_ok-place.ensures.mended;
   placed = λ h. c.in_ok-place.ensures.told c.args.strands.now.items (c.places.invariant.placed h);
+  low = c.in_ok-place.ensures.low;
   numbers = search rules;
 }
 

@@ -1,5 +1,5 @@
 -- The bundles of the edges that go on stand in the place of the group.
-use Rattle.std.proofs.Common.{◌≡◌, ◌+◌, ◌-◌, ◌<◌, ◌++◌, ◌∙◌, drop, filter, refl, sym, ap, subst, arith, rules, List, ℕ, length, All, IsPermutation}
+use Rattle.std.proofs.Common.{◌≡◌, ◌+◌, ◌-◌, ◌<◌, ◌≤◌, ◌++◌, ◌∙◌, drop, filter, refl, sym, ap, subst, arith, rules, List, ℕ, length, All, IsPermutation}
 use Rattle.std.specs.List.{concat}
 use Rattle.slice_slab.specs.Bundles.{edge_at, reaches}
 use Rattle.slice_slab.specs.KeptOrder.{IsSamePlaceAt, AllStand}
@@ -8,6 +8,7 @@ use Rattle.slice_sweep.specs.Strands.{numbers_in, fresh}
 use Rattle.slice_sweep.specs.Mending.{AreMendedTo, KeepTimes}
 use Rattle.slice_sweep.proofs.Weakening.{length_fresh, weakened_length}
 use Rattle.slice_sweep.proofs.Groups.{group_there, group_together, placed_by, regrouped_by}
+use Rattle.slice_sweep.proofs.Blocks.{keys_before, keys_stay}
 use Rattle.slice_sweep.proofs.mend.regroup.Goals as goal
 use Rattle.slice_sweep.proofs.mend.regroup.Goals.{In_ok-replace}
 
@@ -86,3 +87,18 @@ returns-clause-told c all cs gone o a =
     c.in_ok-bundles.ensures.ranked same c.weaken.new.strands.items
     (fresh c.in_ok-bundles.bundles.items) c.replace.new.strands.items (c.args.from + c.len.result) c.weaken.ensures refl
     c.in_ok-replace.ensures (ap (λ (n : ℕ). c.args.from + n) size) all cs gone o a
+
+pub returns-clause-low : goal.returns-clause-low
+returns-clause-low c h =
+    let L : List Strand = c.args.strands.now.items in
+    let q = c.requires.group in
+    let some = q.some in
+    let within = q.within in
+    let bs = c.in_ok-bundles.bundles.items in
+    let here : c.args.from ≤ length L = omega (arith, some, within) in
+    let long : c.len.result ≡ length bs = search rules in
+    c.forget.ensures L c.replace.new.strands.items h
+    (keys_before L c.weaken.new.strands.items c.args.from here c.weaken.ensures c.replace.new.strands.items _
+    c.in_ok-replace.ensures)
+    (λ e. keys_stay L c.weaken.new.strands.items c.args.from here c.weaken.ensures c.replace.new.strands.items bs
+    c.args.to within (omega (arith, long, e)) c.in_ok-replace.ensures)

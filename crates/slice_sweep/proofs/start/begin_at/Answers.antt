@@ -1,12 +1,14 @@
 -- The edge stands at the place that was found, and the strand before it has lost its key.
-use Rattle.std.proofs.Common.{arith, ◌≡◌, ◌≤◌, true, length, sym, subst, List, All}
+use Rattle.std.proofs.Common.{arith, ℕ, ◌≡◌, ◌≤◌, true, length, sym, subst, List, All}
 use Rattle.std.proofs.lemmas.Result.{on_ok_weaker}
 use Rattle.slice_sweep.specs.declared.strand.Strand.{Strand}
 use Rattle.slice_slab.specs.Bundles.{reaches}
 use Rattle.slice_sweep.specs.Strands.{head, AreThere}
+use Rattle.slice_sweep.specs.Lows.{KeysStay}
 use Rattle.slice_sweep.proofs.Groups.{there_of, heads_reach}
 use Rattle.slice_sweep.proofs.Starting.{started_by}
 use Rattle.slice_sweep.proofs.EdgeStarts.{begun_below, begun_keyless}
+use Rattle.slice_sweep.proofs.Blocks.{keys_before}
 use Rattle.slice_sweep.proofs.Weakening.{weakened_length}
 use Rattle.slice_sweep.proofs.start.begin_at.Goals as goal
 
@@ -58,3 +60,13 @@ insert-requires c =
     let size = weakened_length c.args.strands.now.items c.weaken.new.strands.items c.place-i.result within
     c.weaken.ensures in
     omega (arith, within, size)
+
+pub returns-clause-low : goal.returns-clause-low
+returns-clause-low c = on_ok_weaker c.insert.result
+    (λ e h. let L : List Strand = c.args.strands.now.items in
+    let new : List Strand = c.insert.new.strands.items in
+    c.forget_from.ensures L new h (subst (λ (i : ℕ). KeysStay i (length new) L new) (sym c.saturating_sub.ensures)
+    (keys_before L c.weaken.new.strands.items c.place-i.result
+    (subst (λ (xs : List Strand). c.place-i.result ≤ length xs) c.deref.ensures.value c.place-i.ensures.within)
+    c.weaken.ensures new _ e)))
+    c.insert.ensures

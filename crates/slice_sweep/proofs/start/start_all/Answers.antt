@@ -5,6 +5,7 @@ use Rattle.slice_sweep.proofs.start.start_all.Goals as goal
 
 pub numbers-preserved : goal.numbers-preserved
 numbers-preserved c = record {
+  low = λ h. c.in_ok-start.ensures.low (c.numbers.invariant.low h);
   waiting = c.in_ok-start.ensures.waiting;
   numbers = λ k r. started_more k c.args.strands.now.items c.numbers.strands.items c.start.new.strands.items
       c.args.numbers.now c.numbers.k-index c.numbers-test.true (c.numbers.invariant.numbers k r)

@@ -11,6 +11,7 @@ use Rattle.slice_sweep.specs.declared.lower_end.LowerEnd.{LowerEnd}
 use Rattle.slice_sweep.specs.Keys.{IsBelowKey}
 use Rattle.slice_sweep.specs.LowerEnds.{starts_of}
 use Rattle.slice_sweep.specs.Strands.{bundles_of, numbers_in, AreWaiting}
+use Rattle.slice_sweep.specs.Lows.{AreLow}
 use Rattle.slice_sweep.specs.Front.{AreAll}
 use Rattle.slice_sweep.specs.Changes.{AreChanges}
 use Rattle.slice_sweep.specs.Places.{came_from_below, StartsAt}
@@ -18,7 +19,7 @@ use Rattle.slice_sweep.proofs.EdgeStarts.{all_came_from_below, begun_at_height, 
 use Rattle.slice_sweep.proofs.HeightStep.{made_by, begun_there}
 use Rattle.slice_sweep.proofs.Starts.{starts_left, rising_left, begun_by, pending_by}
 use Rattle.slice_sweep.proofs.front.Front.advance.Goals as goal
-use Rattle.slice_sweep.proofs.front.Front.advance.Goals.{After-wake_all}
+use Rattle.slice_sweep.proofs.front.Front.advance.Goals.{In_ok-find_lows}
 
 pub start_all-requires-clause-there : goal.start_all-requires-clause-there
 start_all-requires-clause-there c =
@@ -47,7 +48,16 @@ invariant_of-step-clause-key_is c =
     subst (λ (z : ℤ). (wake : ℤ) → z <ℤ wake → IsBelowKey c.args.lower.now wake)
     (sym (to_z-of_z w128 c.key_of.result (record { sfits = c.key_of.type_inv }))) c.key_of.ensures
 
-made : (c : After-wake_all)
+pub mend-requires-clause-low : goal.mend-requires-clause-low
+mend-requires-clause-low c = c.in_ok-start_all.ensures.low c.requires.ready.low
+
+pub find_lows-requires : goal.find_lows-requires
+find_lows-requires c = record {
+  low = subst (AreLow c.mend.new.lows.items) (sym c.deref-4.ensures.value)
+      (c.wake_all.ensures.low c.mend.new.lows.items c.in_ok-changes.ensures.low);
+}
+
+made : (c : In_ok-find_lows)
     → AreBundles c.args.edges.now c.args.lower.now c.args.upper.now (bundles_of c.wake_all.new.strands.items)
     × AreWaiting c.args.edges.now c.args.upper.now c.wake_all.new.strands.items
     × ((h : Level) → pos 0 <ℤ h.d → IsAtMost c.args.upper.now h
@@ -78,6 +88,7 @@ returns-clause-ready c = record {
   begun = subst (λ (es : List LowerEnd). c.in_ok-self.field-0 ≤ length es) c.deref.ensures.value
       c.in_ok-self.ensures.within;
   waiting = (made c).1;
+  low = subst (AreLow c.find_lows.new.lows.items) c.deref-4.ensures.value c.in_ok-find_lows.ensures.low;
   later = (made c).2;
 }
 

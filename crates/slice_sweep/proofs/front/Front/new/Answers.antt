@@ -1,10 +1,11 @@
 -- No edge has begun.
-use Rattle.std.proofs.Common.{sym, ap, subst, arith, List}
+use Rattle.std.proofs.Common.{ℤ, sym, ap, subst, arith, List}
 use Rattle.slice_slab.specs.declared.start.Start.{Start}
 use Rattle.slice_sweep.specs.declared.strand.Strand.{Strand}
 use Rattle.slice_sweep.specs.LowerEnds.{starts_of}
 use Rattle.slice_sweep.specs.Strands.{bundles_of, numbers_in, AreWaiting}
 use Rattle.std.specs.List.{AllByRecursion}
+use Rattle.slice_sweep.specs.Lows.{AreLow}
 use Rattle.slice_sweep.specs.Front.{AreAll, StartsBelow}
 use Rattle.slice_sweep.proofs.EdgeStarts.{starts_from}
 use Rattle.slice_sweep.proofs.HeightStep.{none_yet, none_waiting}
@@ -21,6 +22,7 @@ returns-clause-ready c =
       starts = c.in_ok-lower_ends.ensures.starts;
       rising = c.in_ok-lower_ends.ensures.rising;
       begun = omega arith;
+      low = subst (λ (ls : List ℤ). AreLow ls c.new.result.items) (sym c.new-2.ensures.items) (λ b o. absurd (omega (arith, o)));
       waiting = subst (AreWaiting es at) (sym c.new.ensures.items) (none_waiting es at);
       later = λ h d o. subst (λ (ss : List Strand). AreAll es h (numbers_in ss) starts) (sym c.new.ensures.items)
           (none_yet es h starts c.in_ok-lower_ends.ensures.all);
