@@ -4,17 +4,17 @@ use Rattle.std.proofs.lemmas.List.{length-append, map-append}
 use Rattle.std.proofs.lemmas.List.Elements.{All-append}
 use Rattle.layer_board.specs.declared.view.View.{View}
 use Rattle.layer_board.specs.declared.board.Board.{Board}
+use Rattle.layer_board.specs.declared.share.Share.{Share}
 use Rattle.layer_board.specs.Pass.{joins}
-use Rattle.layer_board.specs.Calls.{view}
+use Rattle.layer_board.specs.Calls.{view, IsThrough}
 use Rattle.plan_support.specs.declared.line.Line.{Line}
 use Rattle.plan_support.specs.declared.line.Want.{Want}
-use Rattle.plan_support.specs.declared.workers.Share.{Share}
 use Rattle.plan_support.specs.Rows.{Row}
-use Rattle.plan_support.specs.Shares.{IsOwnLine, IsThrough, IsPool}
+use Rattle.plan_support.specs.Shares.{IsOwnLine, IsPool}
 
-module _ (board : Board) (layers : List (List Row)) (heights : List ℤ) (want : Want) (m n : ℕ) (a b : Share)
+module _ (board : Board) (layers : List (List Row)) (heights : List ℤ) (want : Want) (m n : ℕ) (a b : Share Line)
     (p : IsPool board layers heights want m a) (q : IsPool board layers heights want n b) where
-  pool_of : (s : Share) → IsThrough board s.pass → view s.pass ≡ joins (view a.pass) (view b.pass)
+  pool_of : (s : Share Line) → IsThrough board s.pass → view s.pass ≡ joins (view a.pass) (view b.pass)
       → s.done.items ≡ a.done.items ++ b.done.items → IsPool board layers heights want (m + n) s
   pool_of s through joined done = record {
     share = record {
@@ -31,7 +31,7 @@ module _ (board : Board) (layers : List (List Row)) (heights : List ℤ) (want :
         ∙ ap₂ (λ (j k : ℕ). j + k) p.members q.members;
   }
 
-  pub pooled : {E : Type 0} (r : Result Share E) (total : ℕ) → total ≡ m + n
+  pub pooled : {E : Type 0} (r : Result (Share Line) E) (total : ℕ) → total ≡ m + n
       → IfOk r (λ s. IsThrough board s.pass) → IfOk r (λ s. view s.pass ≡ joins (view a.pass) (view b.pass))
       → IfOk r (λ s. s.done.items ≡ a.done.items ++ b.done.items) → IfOk r (IsPool board layers heights want total)
   pooled (Ok s) total all through joined done =

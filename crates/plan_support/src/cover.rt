@@ -1,5 +1,6 @@
 //! What lies below the runs of higher layers.
 ghost use Rattle.std.specs.Prelude.{◌≡◌, ℕ, ◌≤◌, ◌++◌, min, length, sum_by, IfOk, OnOk, All, Err};
+ghost use Rattle.layer_board.specs.Limits.{worker_limit};
 ghost use Rattle.plan_support.specs.declared.cover_fault.CoverFault.TheVariants.{Runs};
 ghost use Rattle.plan_support.specs.Rows.{AreRows};
 ghost use Rattle.plan_support.specs.Lines.{IsCount, AreRowsOfLines, kept_row, kept_rows, greatest_count};
@@ -29,7 +30,7 @@ pub fn covers<R: Threads + Sync>(
     workers: u32,
 ) -> Result<Covers, CoverFault>
     requires some { 1 ≤ workers }
-    requires few { workers ≤ 64 }
+    requires few { workers ≤ worker_limit }
     requires rows { All AreRows layers.now }
     ensures covers { IfOk result (AreCovers layers.now) }
     ensures rows { IfOk result (λ covers. All AreRows covers) }
@@ -55,7 +56,7 @@ fn counted<R: Threads + Sync>(
     workers: u32,
 ) -> Result<u64, AllocError>
     requires some { 1 ≤ workers }
-    requires few { workers ≤ 64 }
+    requires few { workers ≤ worker_limit }
     requires rows { All AreRows layers.now }
     ensures { IfOk result (IsCount layers.now heights.now) }
 {

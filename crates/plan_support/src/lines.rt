@@ -1,6 +1,7 @@
 //! The work on all lines.
 ghost use Rattle.std.specs.Prelude.{◌≤◌, length, map, IfOk, All};
 ghost use Rattle.std.specs.List.Sorted.{IsPermutation, IsNonDecreasingBy};
+ghost use Rattle.layer_board.specs.Limits.{worker_limit};
 ghost use Rattle.layer_board.specs.Numbers.{below, Rearranged};
 ghost use Rattle.plan_support.specs.Rows.{AreRows};
 ghost use Rattle.plan_support.specs.Lines.{HasLines};
@@ -8,8 +9,8 @@ ghost use Rattle.plan_support.specs.Shares.{IsOwnLine};
 
 use crate::line::{Line, Want};
 use crate::rows::Rows;
-use crate::workers::{Crew, Share, pool};
-use layer_board::Board;
+use crate::workers::{Crew, pool};
+use layer_board::{Board, Share};
 use std::alloc::{AllocError, Global};
 use std::thread::Threads;
 
@@ -23,7 +24,7 @@ pub(crate) fn work_lines<R: Threads + Sync>(
     workers: u32,
 ) -> Result<Vec<Line>, AllocError>
     requires some { 1 ≤ workers }
-    requires few { workers ≤ 64 }
+    requires few { workers ≤ worker_limit }
     requires rows { All AreRows layers.now }
     ensures { IfOk result (λ v. HasLines layers.now heights.now want v.items) }
 {
@@ -43,7 +44,7 @@ fn drawn<R: Threads + Sync>(
     workers: u32,
 ) -> Result<Vec<Line>, AllocError>
     requires some { 1 ≤ workers }
-    requires few { workers ≤ 64 }
+    requires few { workers ≤ worker_limit }
     requires rows { All AreRows layers.now }
 
     ensures numbers { IfOk result (λ v. Rearranged (map (λ l. l.number) v.items) (below (length heights.now))) }

@@ -8,8 +8,7 @@ ghost use Rattle.plan_support.specs.Shares.{IsOwnLine, IsShare};
 use crate::line::{Line, Want};
 use crate::line_work::work_line;
 use crate::rows::Rows;
-use crate::workers::Share;
-use layer_board::{Board, Claim, Pass};
+use layer_board::{Board, Claim, Pass, Share};
 use std::alloc::{AllocError, Global};
 
 /// One worker's part: draws lines from the board until the end is told, and works them.
@@ -20,7 +19,7 @@ pub(crate) fn share(
     layers: &[Rows],
     heights: &[i32],
     want: Want,
-) -> Result<Share, AllocError>
+) -> Result<Share<Line>, AllocError>
     requires of { IsOf board.now pass }
     requires empty { IsEmpty (view pass) }
     requires ended { (view pass).ended ≡ false }

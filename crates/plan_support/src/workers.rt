@@ -1,24 +1,16 @@
 //! What several workers do of lines, as one.
-ghost use Rattle.std.specs.Prelude.{◌≡◌, ◌<◌, ◌≤◌, ◌++◌, length, IfOk, All, vec_len};
+ghost use Rattle.std.specs.Prelude.{◌<◌, ◌≤◌, length, IfOk, All, vec_len};
 ghost use Rattle.std.specs.Thread.{IsSync};
-ghost use Rattle.layer_board.specs.Calls.{view, layers_of, IsFresh};
-ghost use Rattle.layer_board.specs.Pass.{joins};
+ghost use Rattle.layer_board.specs.Calls.{layers_of, IsFresh};
 ghost use Rattle.plan_support.specs.Rows.{AreRows};
-ghost use Rattle.plan_support.specs.Shares.{IsThrough, IsPool};
+ghost use Rattle.plan_support.specs.Shares.{IsPool};
 
 use crate::line::{Line, Want};
 use crate::rows::Rows;
 use crate::worker::share;
-use layer_board::{Board, Pass};
+use layer_board::{Board, Pass, Share, together};
 use std::alloc::{AllocError, Global};
 use std::thread::{Threads, join};
-
-/// What was done of lines: the pass that drew them, and what the work on each gave.
-#[derive(Drop)]
-pub(crate) struct Share {
-    pub(crate) pass: Pass,
-    pub(crate) done: Vec<Line>,
-}
 
 /// The passes of workers, and what their work is for.
 #[derive(Drop)]
@@ -35,7 +27,7 @@ pub(crate) fn pool<R: Threads + Sync>(
     crew: Crew,
     layers: &[Rows],
     heights: &[i32],
-) -> Result<Share, AllocError>
+) -> Result<Share<Line>, AllocError>
     requires some { 0 < vec_len crew.passes }
     requires fresh { All (IsFresh board.now) crew.passes.items }
     requires rows { All AreRows layers.now }
@@ -56,13 +48,13 @@ pub(crate) fn pool<R: Threads + Sync>(
     let high = Crew { passes: high, want };
     let (a, b) = join(
         rt,
-        move || -> Result<Share, AllocError>
+        move || -> Result<Share<Line>, AllocError>
             requires { IsSync R.row × (0 < vec_len low.passes) × All (IsFresh board.now) low.passes.items
                 × All AreRows layers.now × (layers_of board.now ≤ length heights.now) }
             ensures { IfOk result (IsPool board.entry.now layers.entry.now heights.entry.now low.want
                 (vec_len low.passes)) }
         { pool(rt, alloc, board, low, layers, heights) },
-        move || -> Result<Share, AllocError>
+        move || -> Result<Share<Line>, AllocError>
             requires { IsSync R.row × (0 < vec_len high.passes) × All (IsFresh board.now) high.passes.items
                 × All AreRows layers.now × (layers_of board.now ≤ length heights.now) }
             ensures { IfOk result (IsPool board.entry.now layers.entry.now heights.entry.now high.want
@@ -70,22 +62,4 @@ pub(crate) fn pool<R: Threads + Sync>(
         { pool(rt, alloc, board, high, layers, heights) },
     );
     together(board, a?, b?)
-}
-
-// Two shares as one: the passes are joined, and so are the lists.
-fn together(board: &Board, a: Share, b: Share) -> Result<Share, AllocError>
-    requires a { IsThrough board.now a.pass }
-    requires b { IsThrough board.now b.pass }
-
-    ensures through { IfOk result (λ s. IsThrough board.now s.pass) }
-    ensures joined { IfOk result (λ s. view s.pass ≡ joins (view a.pass) (view b.pass)) }
-    ensures done { IfOk result (λ s. s.done.items ≡ a.done.items ++ b.done.items) }
-{
-    let Share { pass, done } = a;
-    let mut pass = pass;
-    let mut done = done;
-    let mut more = b.done;
-    board.join(&mut pass, b.pass);
-    done.append(&mut more)?;
-    Ok(Share { pass, done })
 }

@@ -50,7 +50,7 @@ record IsGivenWithin (given : Given) : Type 0 where
   x : IfSome given.x Small
   y : IfSome given.y Small
 
-small_test : (z : ℤ) → nat_le (unsigned_abs z) 1100000 ≡ true → Small z
+small_test : (z : ℤ) → nat_le (unsigned_abs z) coordinate_limit ≡ true → Small z
 small_test z h = grind (arith, nat_tests)
 
 zero_small : Small (pos 0)
@@ -97,7 +97,7 @@ unfolding limited
 limited_x letter z h e = by_test (letter == upper_x) e h
   where
     by_test : (a : Bool) → a ≡ true → (if a || letter == upper_y || letter
-        == upper_z then nat_le (unsigned_abs z) 1100000
+        == upper_z then nat_le (unsigned_abs z) coordinate_limit
         else (if letter == amount_letter then nat_le (unsigned_abs z) 2000000000000000000 else true)) ≡ true
         → Small z
     by_test true f g = small_test z g
@@ -107,7 +107,7 @@ limited_y : (letter : ℕ) (z : ℤ) → limited letter z ≡ true → letter ==
 unfolding limited
 limited_y letter z h e = by_test (letter == upper_x) (letter == upper_y) e h
   where
-    by_test : (a b : Bool) → b ≡ true → (if a || b || letter == upper_z then nat_le (unsigned_abs z) 1100000
+    by_test : (a b : Bool) → b ≡ true → (if a || b || letter == upper_z then nat_le (unsigned_abs z) coordinate_limit
         else (if letter == amount_letter then nat_le (unsigned_abs z) 2000000000000000000 else true)) ≡ true
         → Small z
     by_test true true f g = small_test z g

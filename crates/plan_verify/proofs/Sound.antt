@@ -18,7 +18,7 @@ use Rattle.plan_verify.specs.declared.field.Field.{Field}
 use Rattle.plan_verify.specs.declared.trial.Trial.{Trial}
 use Rattle.plan_verify.specs.Stays.{KeepsClear}
 use Rattle.plan_verify.specs.Index.{sides_in, IsBoxed}
-use Rattle.plan_verify.specs.Trial.{IsNear, IsApart}
+use Rattle.plan_verify.specs.Trial.{ComesNear, IsApart}
 use Rattle.plan_verify.specs.Fields.{IsSound, IsFieldOf}
 use Rattle.plan_verify.proofs.Clearance.{kept_if, not_kept_near, not_kept_out}
 
@@ -61,7 +61,7 @@ module _ (f : Field) (line : Edge) (width : ℕ) (t : Trial) (sound : IsSound f)
       (reach_two (width / 2) (omega (arith, least))) s u (balanced f sound) all
       (λ e. some (is ∙ sym winds_alike ∙ e)))
 
-  pub near_fails : Any (IsNear t) (sides_in f.sides) → KeepsClear (sides_in f.sides) (width / 2) line → ⊥
+  pub near_fails : Any (ComesNear t) (sides_in f.sides) → KeepsClear (sides_in f.sides) (width / 2) line → ⊥
   near_fails near keeps = not_kept_near (sides_in f.sides) (width / 2) t.s t.u t.line (omega (arith, least))
       (reach_two (width / 2) (omega (arith, least))) s u near
       (subst (λ (l : Edge). KeepsClear (sides_in f.sides) (width / 2) l) (sym is_line) keeps)

@@ -16,8 +16,8 @@ pub record IsTrial (t : Trial) : Type 0 where
   pub reach : Reaches (pos t.s) t.reach t.line
 
 -- a point of the side is near to a point of the move
-abbrev pub IsNear : Trial → Edge → Type 0
-IsNear t e = ComeNear Closed (octagon (pos t.s) (pos t.u)) (whole t.line.a) (whole t.line.b) (whole e.a) (whole e.b)
+abbrev pub ComesNear : Trial → Edge → Type 0
+ComesNear t e = ComeNear Closed (octagon (pos t.s) (pos t.u)) (whole t.line.a) (whole t.line.b) (whole e.a) (whole e.b)
 
 -- no point of the side is near to any point of the move
 abbrev pub IsApart : Trial → Edge → Type 0

@@ -10,7 +10,7 @@ ghost use Rattle.scad_geom.specs.Segment.{segments};
 ghost use Rattle.scad_geom.specs.Winding.{wind};
 ghost use Rattle.plan_verify.specs.Extent.{IsIn};
 ghost use Rattle.plan_verify.specs.Index.{sides_in, extent_in, IsBoxed};
-ghost use Rattle.plan_verify.specs.Trial.{IsTrial, IsApart, IsNear};
+ghost use Rattle.plan_verify.specs.Trial.{IsTrial, IsApart, ComesNear};
 
 use crate::extent::Extent;
 use crate::trial::Trial;
@@ -110,7 +110,7 @@ pub fn is_clear(tree: &Tree, trial: &Trial) -> bool
     requires sides { All (IsEdgeWithin coordinate_limit) (sides_in tree.now) }
     requires trial { IsTrial trial.now }
     ensures clear { result ≡ true → All (IsApart trial.now) (sides_in tree.now) }
-    ensures near { result ≡ false → Any (IsNear trial.now) (sides_in tree.now) }
+    ensures near { result ≡ false → Any (ComesNear trial.now) (sides_in tree.now) }
 {
     if extent_in(tree).is_beyond(trial.reach) {
         return true;

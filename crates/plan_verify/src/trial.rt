@@ -3,7 +3,7 @@ ghost use Rattle.std.specs.Prelude.{◌≡◌, ◌≤◌, ◌^◌, All, true, fa
 ghost use Rattle.std.specs.List.{Any};
 ghost use Rattle.scad_geom.specs.Limits.{coordinate_limit};
 ghost use Rattle.scad_geom.specs.Within.{IsEdgeWithin};
-ghost use Rattle.plan_verify.specs.Trial.{IsTrial, IsApart, IsNear};
+ghost use Rattle.plan_verify.specs.Trial.{IsTrial, IsApart, ComesNear};
 
 use crate::extent::Extent;
 use scad_geom::Edge;
@@ -42,7 +42,7 @@ impl Trial {
         requires trial { IsTrial self.now }
         requires sides { All (IsEdgeWithin coordinate_limit) sides.now }
         ensures clear { result ≡ true → All (IsApart self.now) sides.now }
-        ensures near { result ≡ false → Any (IsNear self.now) sides.now }
+        ensures near { result ≡ false → Any (ComesNear self.now) sides.now }
     {
         'sides: for side in sides {
             if self.is_near(side) {
@@ -55,7 +55,7 @@ impl Trial {
     fn is_near(&self, side: &Edge) -> bool
         requires trial { IsTrial self.now }
         requires side { IsEdgeWithin coordinate_limit side.now }
-        ensures near { result ≡ true → IsNear self.now side.now }
+        ensures near { result ≡ true → ComesNear self.now side.now }
         ensures apart { result ≡ false → IsApart self.now side.now }
     {
         if Extent::around(side).is_beyond(self.reach) {

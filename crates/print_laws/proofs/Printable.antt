@@ -12,19 +12,19 @@ use Rattle.scad_geom.specs.Within.{IsWithin, IsEdgeWithin}
 use Rattle.scad_words.specs.declared.settings.Settings.{Settings}
 use Rattle.scad_words.specs.Settings.{AreInRange}
 use Rattle.plan_layer.specs.Clearance.{PlansKeepClear}
-use Rattle.plan_layer.specs.Moves.{all_moves}
+use Rattle.plan_layer.specs.Moves.{all_moves, move_limit}
 use Rattle.gcode_text.specs.Amount.{paths_volume, layers_volume}
 use Rattle.gcode_text.specs.Gcode.{printed_paths}
 use Rattle.gcode_text.specs.Moves.{IsShortPoint, AreShortPaths}
 use Rattle.print_laws.specs.LayerPlans.{IsPlanned}
 use Rattle.print_laws.specs.Print.{all_printed, all_paths}
 use Rattle.slice_work.specs.declared.want.Want.TheVariants.{Plan as WithPlan}
-use Rattle.slice_work.specs.Part.{Layout, printed_of}
+use Rattle.slice_work.specs.Part.{Layout, printed_of, layer_limit}
 use Rattle.slice_work.specs.Rates.{rates_of}
 use Rattle.print_laws.specs.Laws.{PlansArePrintable}
 use Rattle.print_laws.proofs.LayerNumbers.{AreFrom, from_first}
 use Rattle.print_laws.proofs.Points.{plan_within, edges_within}
-use Rattle.print_laws.proofs.Volume.{move_limit, paths_most}
+use Rattle.print_laws.proofs.Volume.{volume_limit, paths_most}
 use Rattle.print_laws.proofs.Wound.{moves_within}
 
 -- ---- points
@@ -43,7 +43,7 @@ paths_short (path ∷ paths) h = (path_short path h.0, paths_short paths h.1)
 -- ---- layers
 -- the volume of a layer is at most this
 abbrev layer_volume : ℕ
-layer_volume = 200000 * move_limit
+layer_volume = move_limit * volume_limit
 
 module _ (law : PlansKeepClear) (s : Settings) (range : AreInRange s) where
   pub ends_within : (i : ℕ) (l : Layout) → IsPlanned s i l
@@ -105,7 +105,7 @@ plans_are_printable law s layers range p =
     let travel = range.travel_feed.most in
     let hot_end = range.hot_end.most in
     let bed = range.bed.most in
-    let h = mul-le (length layers) s.layer_height 20000 1000 number range.layer_height.most in
+    let h = mul-le (length layers) s.layer_height layer_limit 1000 number range.layer_height.most in
     let v = layers_most law s range 0 layers each in
     record {
       area = omega (arith, area);

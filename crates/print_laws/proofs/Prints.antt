@@ -17,7 +17,7 @@ use Rattle.cli_text.specs.Cli.{Layer, cli as text_of_layers}
 use Rattle.cli_read.specs.Form.{AreAbove, IsShape, AreHatches}
 use Rattle.cli_read.specs.Laws.{IsReadable, WrittenTextsSayTheirLayers}
 use Rattle.slice_work.specs.declared.want.Want.TheVariants.{Plan as WithPlan}
-use Rattle.slice_work.specs.Part.{Layout}
+use Rattle.slice_work.specs.Part.{Layout, layer_limit}
 use Rattle.scad_slice.specs.Layer.{IsLayer}
 use Rattle.scad_slice.specs.Membership.{IsLayerOf, HoldTree}
 use Rattle.scad_slice.proofs.OneLayer.{layer_is_one}
@@ -74,11 +74,11 @@ module _ (s : Settings) (tree : Solid) (solids : AreSolids tree) (range : AreInR
   some_height : 1 ≤ height
   some_height = let least = range.layer_height.least in omega (arith, least)
 
-  heights_from : (i : ℕ) (ls : List Layout) → i + length ls ≤ 20000
+  heights_from : (i : ℕ) (ls : List Layout) → i + length ls ≤ layer_limit
       → AllByRecursion (λ (layer : Layer). layer.z < 2 ^ 32) (written_from height i ls)
   heights_from i [] few = tt
   heights_from i (l ∷ ls) few =
-      let most = mul-le height (i + 1) 1000 20000 range.layer_height.most (omega (arith, few)) in
+      let most = mul-le height (i + 1) 1000 layer_limit range.layer_height.most (omega (arith, few)) in
       (omega (arith, most), heights_from (i + 1) ls (omega (arith, few)))
 
   shapes_from : (i : ℕ) (ls : List Layout) → AreFrom (IsLaid s tree) i ls

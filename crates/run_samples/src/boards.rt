@@ -4,26 +4,29 @@ ghost use Rattle.layer_board.specs.Calls.{view, layers_of, workers_of, IsOf, IsF
 
 use layer_board::{Board, Claim, Outcome, Pass};
 use std::alloc::{AllocError, Global};
-use std::test::Fail;
+use std::process::Abort;
 use std::thread;
 
-fn alone(alloc: Global, count: u32) -> Result<(Board, Pass), AllocError>
-    ensures sizes { IfOk result (λ r. (layers_of r.0 ≡ count) × (workers_of r.0 ≡ 1)) }
-    ensures fresh { IfOk result (λ r. IsFresh r.0 r.1) }
+fn alone(rt: &impl Abort, alloc: Global, count: u32) -> (Board, Pass)
+    ensures layers { layers_of result.0 ≡ count }
+    ensures workers { workers_of result.0 ≡ 1 }
+    ensures fresh { IsFresh result.0 result.1 }
 {
-    let (board, mut passes) = Board::new(alloc, count, 1)?;
+    let (board, mut passes) = Board::new(alloc, count, 1).expect(rt, "memory");
     let pass = passes.pop().unwrap();
-    Ok((board, pass))
+    (board, pass)
 }
 
-fn pair(alloc: Global, count: u32) -> Result<(Board, Pass, Pass), AllocError>
-    ensures sizes { IfOk result (λ r. (layers_of r.0 ≡ count) × (workers_of r.0 ≡ 2)) }
-    ensures fresh { IfOk result (λ r. IsFresh r.0 r.1 × IsFresh r.0 r.2) }
+fn pair(rt: &impl Abort, alloc: Global, count: u32) -> (Board, Pass, Pass)
+    ensures layers { layers_of result.0 ≡ count }
+    ensures workers { workers_of result.0 ≡ 2 }
+    ensures first { IsFresh result.0 result.1 }
+    ensures second { IsFresh result.0 result.2 }
 {
-    let (board, mut passes) = Board::new(alloc, count, 2)?;
+    let (board, mut passes) = Board::new(alloc, count, 2).expect(rt, "memory");
     let first = passes.pop().unwrap();
     let second = passes.pop().unwrap();
-    Ok((board, first, second))
+    (board, first, second)
 }
 
 #[derive(Drop)]
@@ -56,18 +59,17 @@ fn draw(alloc: Global, board: &Board, pass: Pass, failing: u32) -> Result<Drawn,
 }
 
 #[test]
-fn a_board_without_layers_ends_at_once(rt: HostRuntime) -> Result<(), Fail> {
-    let (board, mut pass) = alone(rt.alloc(), 0)?;
+fn a_board_without_layers_ends_at_once(rt: HostRuntime) {
+    let (board, mut pass) = alone(&rt, rt.alloc(), 0);
     let Claim::Ended = board.claim(&mut pass) else {
         panic!(rt; "a layer was drawn")
     };
     assert!(rt; board.close(pass) == Outcome { least: 0 });
-    Ok(())
 }
 
 #[test]
-fn layers_above_a_failed_one_are_skipped(rt: HostRuntime) -> Result<(), Fail> {
-    let (board, mut pass) = alone(rt.alloc(), 3)?;
+fn layers_above_a_failed_one_are_skipped(rt: HostRuntime) {
+    let (board, mut pass) = alone(&rt, rt.alloc(), 3);
     let Claim::Layer(0) = board.claim(&mut pass) else {
         panic!(rt; "layer 0 wasn't drawn")
     };
@@ -87,12 +89,11 @@ fn layers_above_a_failed_one_are_skipped(rt: HostRuntime) -> Result<(), Fail> {
     let again = board.claim(&mut pass);
     assert!(rt; again == Claim::Ended);
     assert!(rt; board.close(pass) == Outcome { least: 0 });
-    Ok(())
 }
 
 #[test]
-fn joined_passes_are_one(rt: HostRuntime) -> Result<(), Fail> {
-    let (board, mut first, mut second) = pair(rt.alloc(), 2)?;
+fn joined_passes_are_one(rt: HostRuntime) {
+    let (board, mut first, mut second) = pair(&rt, rt.alloc(), 2);
     let Claim::Layer(0) = board.claim(&mut first) else {
         panic!(rt; "layer 0 wasn't drawn")
     };
@@ -110,13 +111,12 @@ fn joined_passes_are_one(rt: HostRuntime) -> Result<(), Fail> {
         panic!(rt; "a third layer was drawn")
     };
     assert!(rt; board.close(first) == Outcome { least: 1 });
-    Ok(())
 }
 
 #[test]
-fn two_threads_draw_a_board_to_its_end(rt: HostRuntime) -> Result<(), Fail> {
+fn two_threads_draw_a_board_to_its_end(rt: HostRuntime) {
     let alloc = rt.alloc();
-    let (board, first, second) = pair(alloc, 300)?;
+    let (board, first, second) = pair(&rt, alloc, 300);
     let shared = &board;
     let (one, other) = thread::join(
         &rt,
@@ -126,36 +126,35 @@ fn two_threads_draw_a_board_to_its_end(rt: HostRuntime) -> Result<(), Fail> {
     let Drawn {
         mut pass,
         mut finished,
-    } = one?;
+    } = one.expect(&rt, "memory");
     let Drawn {
         pass: also,
         finished: more,
-    } = other?;
+    } = other.expect(&rt, "memory");
     board.join(&mut pass, also);
     assert!(rt; board.close(pass) == Outcome { least: 200 });
-    finished.extend_from_slice(&more)?;
-    finished.sort()?;
+    finished.extend_from_slice(&more).expect(&rt, "memory");
+    finished.sort().expect(&rt, "memory");
     // Layers above 200 may be finished by a thread that hadn't met the failed one.
     for (n, layer) in finished.iter().take(200).enumerate() {
         assert!(rt; *layer as usize == n);
     }
-    Ok(())
 }
 
 #[test]
-fn four_threads_draw_each_layer_once(rt: HostRuntime) -> Result<(), Fail> {
+fn four_threads_draw_each_layer_once(rt: HostRuntime) {
     let alloc = rt.alloc();
-    let (board, passes) = Board::new(alloc, 500, 4)?;
+    let (board, passes) = Board::new(alloc, 500, 4).expect(&rt, "memory");
     let shared = &board;
-    let results = thread::map_vec(&rt, passes, &|pass| draw(alloc, shared, pass, 500))?;
+    let results = thread::map_vec(&rt, passes, &|pass| draw(alloc, shared, pass, 500));
     let mut all = Vec::new(alloc);
-    for result in results {
-        all.extend_from_slice(&result?.finished)?;
+    for result in results.expect(&rt, "memory") {
+        let drawn = result.expect(&rt, "memory");
+        all.extend_from_slice(&drawn.finished).expect(&rt, "memory");
     }
-    all.sort()?;
+    all.sort().expect(&rt, "memory");
     assert!(rt; all.len() == 500);
     for (n, layer) in all.iter().enumerate() {
         assert!(rt; *layer as usize == n);
     }
-    Ok(())
 }

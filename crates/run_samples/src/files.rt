@@ -1,5 +1,6 @@
 //! Files of small trees, byte for byte.
 ghost use Rattle.std.specs.Prelude.{◌≡◌, ◌≤◌, Some, [], true, IfOk};
+ghost use Rattle.layer_board.specs.Limits.{worker_limit};
 ghost use Rattle.scad_io.specs.Desk.{unused};
 ghost use Rattle.scad_script.specs.Run.{Sound};
 
@@ -115,7 +116,7 @@ pub(crate) fn sliced<R: Threads + Sync + Abort>(
     fails: &[u64],
 ) -> Answer
     requires some { 1 ≤ workers }
-    requires most { workers ≤ 64 }
+    requires most { workers ≤ worker_limit }
 {
     let mut desk = desk(alloc, fails).expect(rt, "a desk");
     let piece = Workpiece {
@@ -136,7 +137,7 @@ pub(crate) fn planned<R: Threads + Sync + Abort>(
     fails: &[u64],
 ) -> Answer
     requires some { 1 ≤ workers }
-    requires most { workers ≤ 64 }
+    requires most { workers ≤ worker_limit }
 {
     let mut desk = desk(alloc, fails).expect(rt, "a desk");
     let piece = Workpiece {
@@ -189,7 +190,7 @@ fn expect_sample<R: Threads + Sync + Abort>(
     sample: &Sample,
 )
     requires some { 1 ≤ workers }
-    requires most { workers ≤ 64 }
+    requires most { workers ≤ worker_limit }
 {
     let answer = sliced(rt, alloc, tree, workers, &[]);
     assert!(rt; is_done(&answer, sample.sliced, sample.outlines, ""));
@@ -198,17 +199,13 @@ fn expect_sample<R: Threads + Sync + Abort>(
 }
 
 #[test]
-fn a_plate_is_sliced_and_planned(rt: HostRuntime) {
-    let tree = plate(rt.alloc()).expect(&rt, "a tree");
-    expect_sample(&rt, rt.alloc(), 1, &tree, &PLATE);
-    expect_sample(&rt, rt.alloc(), 3, &tree, &PLATE);
-}
-
-#[test]
-fn a_frame_is_sliced_and_planned(rt: HostRuntime) {
-    let tree = frame(rt.alloc()).expect(&rt, "a tree");
-    expect_sample(&rt, rt.alloc(), 1, &tree, &FRAME);
-    expect_sample(&rt, rt.alloc(), 3, &tree, &FRAME);
+fn a_plate_and_a_frame_are_sliced_and_planned(rt: HostRuntime) {
+    for &workers in &[1, 3] {
+        let tree = plate(rt.alloc()).expect(&rt, "a tree");
+        expect_sample(&rt, rt.alloc(), workers, &tree, &PLATE);
+        let tree = frame(rt.alloc()).expect(&rt, "a tree");
+        expect_sample(&rt, rt.alloc(), workers, &tree, &FRAME);
+    }
 }
 
 /// A desk on which both outputs are created.

@@ -215,14 +215,10 @@ fn is_written(alloc: Global, cli: &Cli) -> bool {
 }
 
 #[test]
-fn hatches_are_joined(rt: HostRuntime) {
+fn hatches_are_joined_and_written_in_one_line(rt: HostRuntime) {
     let text = whole(rt.alloc()).expect(&rt, "memory for a text");
-    let cli = read(rt.alloc(), &text).expect(&rt, "a text of the form");
-    assert!(rt; are_joined(&cli) && is_written(rt.alloc(), &cli));
-}
-
-#[test]
-fn written_hatches_are_read(rt: HostRuntime) {
-    let cli = read(rt.alloc(), WRITTEN.as_bytes()).expect(&rt, "the text was written so");
-    assert!(rt; is_written(rt.alloc(), &cli));
+    for &text in &[text.as_slice(), WRITTEN.as_bytes()] {
+        let cli = read(rt.alloc(), text).expect(&rt, "a text of the form");
+        assert!(rt; are_joined(&cli) && is_written(rt.alloc(), &cli));
+    }
 }

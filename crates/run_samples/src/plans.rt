@@ -1,5 +1,6 @@
 //! What `plan` and `sample` write and report. The texts come from an independent program.
 ghost use Rattle.std.specs.Prelude.{◌≤◌};
+ghost use Rattle.layer_board.specs.Limits.{worker_limit};
 
 use crate::file_texts::{PLATE_HATCHED, PLATE_PROGRAM};
 use crate::runs::{Answer, ROOM, answer_of, desk_with};
@@ -125,7 +126,7 @@ pub fn sample_of_plate<R: Threads + Sync + Abort>(
     workers: u32,
 ) -> Result<Text, Stop>
     requires some { 1 ≤ workers }
-    requires most { workers ≤ 64 }
+    requires most { workers ≤ worker_limit }
 {
     let mut desk = desk_with(alloc, b"", &[], ROOM).expect(rt, "memory");
     let tree = evaluate(alloc, PLATE.as_bytes(), &mut desk).expect(rt, "a tree");

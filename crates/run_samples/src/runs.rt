@@ -9,18 +9,22 @@ use std::alloc::{AllocError, Global};
 use std::process::Abort;
 use std::thread::Threads;
 
+/// The room of a desk on which nothing is cut short.
 pub const ROOM: usize = 1 << 20;
 
 /// What a run answered and left.
 #[derive(Drop)]
 pub struct Answer {
+    /// The number of its status.
     pub code: u8,
     pub report: Vec<u8>,
     pub cli: Vec<u8>,
     pub gcode: Vec<u8>,
+    /// How many calls of the desk failed.
     pub faults: u64,
 }
 
+/// The words of a command line.
 pub fn texts_of(alloc: Global, words: &[&str]) -> Result<Vec<String>, AllocError> {
     let mut texts = Vec::new(alloc);
     for word in words {
@@ -43,6 +47,7 @@ pub fn desk_with(
     MemoryDesk::new(alloc, files, fails.to_vec(alloc)?, room)
 }
 
+/// Adds a file of this name with this content.
 pub fn push_file(
     alloc: Global,
     files: &mut Vec<(Text, Text)>,
@@ -54,6 +59,7 @@ pub fn push_file(
     Ok(())
 }
 
+/// The status of a run, and what it left on its desk.
 pub fn answer_on(alloc: Global, status: Status, desk: &MemoryDesk) -> Result<Answer, AllocError> {
     Ok(Answer {
         code: status.code(),
@@ -91,10 +97,12 @@ pub fn answer_of<R: Threads + Sync + Abort>(
     run_on(rt, alloc, &words, &mut desk)
 }
 
+/// Slices the source by one worker.
 fn sliced<R: Threads + Sync + Abort>(rt: &R, alloc: Global, source: &[u8]) -> Answer {
     answer_of(rt, alloc, &["slice", "m.scad", "o.cli"], source, &[], ROOM)
 }
 
+/// The run ended with this status and this report, and wrote no printing program.
 pub fn expect(rt: &impl Abort, answer: &Answer, code: u8, report: &str, case: &str) {
     let same = answer.report.as_slice() == report.as_bytes();
     assert!(rt;
@@ -137,21 +145,26 @@ fn unknown_model(rt: HostRuntime) {
     assert!(rt; answer.cli.is_empty() && answer.faults == 1);
 }
 
-/// One byte more than a source may have.
-#[test]
-fn a_source_that_is_too_long(rt: HostRuntime) {
-    let alloc = rt.alloc();
-    let source = vec![in alloc; b'\n'; 4_194_305].expect(&rt, "memory");
-    let long = sliced(&rt, alloc, &source);
-    expect(&rt, &long, 6, "budget 1 SourceLong\n", "long");
-    assert!(rt; long.cli.is_empty());
-}
+/// How a source begins, how many bytes it has, the status of `slice`, its report, and whether nothing is written: it may be
+/// as long as the first one.
+const LENGTHS: [(&[u8], usize, u8, &str, bool); 2] = [
+    (
+        b"cube(1);",
+        4_194_304,
+        0,
+        "done: 5 layers, 5 loops\n",
+        false,
+    ),
+    (b"", 4_194_305, 6, "budget 1 SourceLong\n", true),
+];
 
 #[test]
 fn longest_source(rt: HostRuntime) {
-    let alloc = rt.alloc();
-    let mut source = b"cube(1);".to_vec(alloc).expect(&rt, "memory");
-    source.resize(4_194_304, b'\n').expect(&rt, "memory");
-    let within = sliced(&rt, alloc, &source);
-    expect(&rt, &within, 0, "done: 5 layers, 5 loops\n", "within");
+    for &(front, len, code, report, is_bare) in &LENGTHS {
+        let mut source = front.to_vec(rt.alloc()).expect(&rt, "memory");
+        source.resize(len, b'\n').expect(&rt, "memory");
+        let answer = sliced(&rt, rt.alloc(), &source);
+        expect(&rt, &answer, code, report, report);
+        assert!(rt; answer.cli.is_empty() == is_bare, "{len} bytes");
+    }
 }

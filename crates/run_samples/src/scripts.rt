@@ -148,16 +148,13 @@ fn ends_with(rt: &impl Abort, alloc: Global, refusal: Refusal, code: u8, line: &
 }
 
 #[test]
-fn a_move_outside_is_reported(rt: HostRuntime) {
+fn refusals_have_their_status_and_line(rt: HostRuntime) {
+    assert!(rt; matches!(Refusal::Usage.into_status(), Status::Usage));
     let outside = Refusal::Outside {
         number: 3,
         line: 17,
     };
     assert!(rt; ends_with(&rt, rt.alloc(), outside, 8, "outside: move 3 line 17\n"));
-}
-
-#[test]
-fn a_bad_file_is_reported(rt: HostRuntime) {
     let bad = Refusal::BadFile {
         kind: BadKind::CliCount,
         first: 2,
@@ -180,9 +177,4 @@ fn a_file_is_read_whole_or_is_long(rt: HostRuntime) {
     assert!(rt; matches!(&long, Ok(Input::Long)));
     let missing = loaded(&rt, rt.alloc(), "n", None);
     assert!(rt; matches!(&missing, Err(Stop::Read)));
-}
-
-#[test]
-fn refusals_have_their_status(rt: HostRuntime) {
-    assert!(rt; matches!(Refusal::Usage.into_status(), Status::Usage));
 }

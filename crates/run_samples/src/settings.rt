@@ -21,53 +21,86 @@ pub fn settled<R: Threads + Sync + Abort>(
     run_on(rt, alloc, &words, &mut desk)
 }
 
-/// Settings, the status of `check` and its report.
-const JUDGED: [(&str, u8, &str); 6] = [
-    ("", 0, "ok: 1 leaves, 12 triangles, 5 layers\n"),
+const APART: &[&str] = &["check", "m.scad", "--settings", "s.toml"];
+
+/// The words, the settings `s.toml`, the source `m.scad`, the status of `check` and its report.
+const JUDGED: [(&[&str], &str, &str, u8, &str); 10] = [
     (
+        APART,
+        "",
+        "cube(1);",
+        0,
+        "ok: 1 leaves, 12 triangles, 5 layers\n",
+    ),
+    (
+        APART,
         "layer_height = 1000",
+        "cube(1);",
         0,
         "ok: 1 leaves, 12 triangles, 1 layers\n",
     ),
     (
+        APART,
         "layer_height = 5",
+        "cube(1);",
         3,
         "settings 4 OutOfRange layer_height 5\n",
     ),
-    ("speed = 1", 3, "settings 2 UnknownKey speed\n"),
-    ("walls = \"2\"", 3, "settings 3 NotWhole walls\n"),
-    ("walls = ", 3, "settings 1 NotToml\n"),
-];
-
-#[test]
-fn settings_are_judged(rt: HostRuntime) {
-    let alloc = rt.alloc();
-    for &(settings, code, report) in &JUDGED {
-        let words = ["check", "m.scad", "--settings", "s.toml"];
-        let answer = settled(&rt, alloc, &words, settings.as_bytes(), b"cube(1);");
-        expect(&rt, &answer, code, report, settings);
-    }
-}
-
-/// A model and where its settings are, the status of `check` and its report.
-const BEFORE: [(&str, &str, u8, &str); 4] = [
-    ("m.scad", "--settings=s.toml", 3, "settings 1 NotToml\n"),
-    ("n.scad", "--settings=s.toml", 3, "settings 1 NotToml\n"),
-    ("m.scad", "--settings=t.toml", 4, "read fault\n"),
     (
-        "m.scad",
-        "--settings=m.scad",
+        APART,
+        "speed = 1",
+        "cube(1);",
+        3,
+        "settings 2 UnknownKey speed\n",
+    ),
+    (
+        APART,
+        "walls = \"2\"",
+        "cube(1);",
+        3,
+        "settings 3 NotWhole walls\n",
+    ),
+    (APART, "walls = ", "cube(1);", 3, "settings 1 NotToml\n"),
+    (
+        &["check", "m.scad", "--settings=s.toml"],
+        "walls",
+        "cube(",
+        3,
+        "settings 1 NotToml\n",
+    ),
+    (
+        &["check", "n.scad", "--settings=s.toml"],
+        "walls",
+        "cube(",
+        3,
+        "settings 1 NotToml\n",
+    ),
+    (
+        &["check", "m.scad", "--settings=t.toml"],
+        "walls",
+        "cube(",
+        4,
+        "read fault\n",
+    ),
+    (
+        &["check", "m.scad", "--settings=m.scad"],
+        "walls",
+        "cube(",
         2,
         "usage: scadslice COMMAND\n",
     ),
 ];
 
 #[test]
-fn settings_go_before_the_source(rt: HostRuntime) {
-    let alloc = rt.alloc();
-    for &(model, settings, code, report) in &BEFORE {
-        let words = ["check", model, settings];
-        let answer = settled(&rt, alloc, &words, b"walls", b"cube(");
+fn settings_are_judged_before_the_source(rt: HostRuntime) {
+    for &(words, settings, source, code, report) in &JUDGED {
+        let answer = settled(
+            &rt,
+            rt.alloc(),
+            words,
+            settings.as_bytes(),
+            source.as_bytes(),
+        );
         expect(&rt, &answer, code, report, settings);
     }
 }

@@ -1,8 +1,7 @@
 //! What `check` and `tree` tell of sources. The answers come from an independent program.
 use crate::runs::{Answer, ROOM, answer_of, expect};
-use std::alloc::{AllocError, Global};
+use std::alloc::Global;
 use std::process::Abort;
-use std::test::Fail;
 use std::thread::Threads;
 
 /// A source, the status of `check`, and its report.
@@ -131,30 +130,24 @@ fn told<R: Threads + Sync + Abort>(
     answer_of(rt, alloc, &words, source.as_bytes(), fails, room)
 }
 
+/// The command tells so of each source of these rows.
 fn expect_told<R: Threads + Sync + Abort>(
     rt: &R,
     alloc: Global,
     command: &str,
-    row: (&str, u8, &str),
+    rows: &[(&str, u8, &str)],
 ) {
-    let (source, code, report) = row;
-    let answer = told(rt, alloc, command, source, &[], ROOM);
-    expect(rt, &answer, code, report, source);
-    assert!(rt; answer.cli.is_empty() && answer.faults == 0, "{source}");
-}
-
-#[test]
-fn sources_checked(rt: HostRuntime) {
-    for &row in &CHECKED {
-        expect_told(&rt, rt.alloc(), "check", row);
+    for &(source, code, report) in rows {
+        let answer = told(rt, alloc, command, source, &[], ROOM);
+        expect(rt, &answer, code, report, source);
+        assert!(rt; answer.cli.is_empty() && answer.faults == 0, "{source}");
     }
 }
 
 #[test]
-fn trees_shown(rt: HostRuntime) {
-    for &row in &SHOWN {
-        expect_told(&rt, rt.alloc(), "tree", row);
-    }
+fn sources_are_checked_and_their_trees_shown(rt: HostRuntime) {
+    expect_told(&rt, rt.alloc(), "check", &CHECKED);
+    expect_told(&rt, rt.alloc(), "tree", &SHOWN);
 }
 
 const ECHOES: &str = "ECHO: \"a\"\nECHO: 2\n";
@@ -211,13 +204,4 @@ fn room_for_a_part_of_the_report(rt: HostRuntime) {
     }
     let answer = told(&rt, alloc, "check", SOURCE, &[], WHOLE.len());
     expect(&rt, &answer, 0, WHOLE, "room for all");
-}
-
-#[test]
-fn longest_source_checked(rt: HostRuntime) {
-    let alloc = rt.alloc();
-    let long = vec![in alloc; b'\n'; 4_194_305].expect(&rt, "memory");
-    let words = ["check", "m.scad"];
-    let answer = answer_of(&rt, alloc, &words, &long, &[], ROOM);
-    expect(&rt, &answer, 6, "budget 1 SourceLong\n", "long");
 }

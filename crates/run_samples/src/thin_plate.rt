@@ -2,8 +2,8 @@
 use crate::file_texts::{PLATE_HATCHED, PLATE_PROGRAM};
 use crate::judging::judged;
 use plan_verify::{Verdict, VerifyFault};
-use std::alloc::{AllocError, Global};
-use std::test::Fail;
+use std::alloc::Global;
+use std::process::Abort;
 
 /// Outlines of no layers.
 const NOTHING: &str = "\
@@ -19,61 +19,71 @@ $$GEOMETRYEND\n";
 /// The program's fifteenth line, the first that extrudes.
 const FIFTEENTH: &str = "G1 X2.775 Y0.225 E0.09541 F1800";
 
-/// Outlines, what stands in place of the fifteenth line, and what is said for lines of 450 micrometres.
-const ROWS: [(&str, &str, Result<Verdict, VerifyFault>); 4] = [
-    (PLATE_HATCHED, FIFTEENTH, Ok(Verdict::Inside { moves: 9 })),
+/// Outlines, what stands in place of the fifteenth line, the width of a line, and what is said; of an empty text, which is
+/// none of outlines, nothing is. The clearance is half a width, rounded down.
+const ROWS: [(&str, &str, u32, Option<Result<Verdict, VerifyFault>>); 7] = [
+    (
+        PLATE_HATCHED,
+        FIFTEENTH,
+        450,
+        Some(Ok(Verdict::Inside { moves: 9 })),
+    ),
     (
         NOTHING,
         FIFTEENTH,
-        Ok(Verdict::Outside {
+        450,
+        Some(Ok(Verdict::Outside {
             number: 1,
             line: 15,
-        }),
+        })),
     ),
-    (PLATE_HATCHED, "G2 X1 Y1", Err(VerifyFault::UnknownWord(15))),
+    (
+        PLATE_HATCHED,
+        "G2 X1 Y1",
+        450,
+        Some(Err(VerifyFault::UnknownWord(15))),
+    ),
     (
         PLATE_HATCHED,
         "G1 X2.7755 Y0.225 E0.09541 F1800",
-        Err(VerifyFault::BadNumber(15)),
+        450,
+        Some(Err(VerifyFault::BadNumber(15))),
     ),
+    (
+        PLATE_HATCHED,
+        FIFTEENTH,
+        451,
+        Some(Ok(Verdict::Inside { moves: 9 })),
+    ),
+    (
+        PLATE_HATCHED,
+        FIFTEENTH,
+        452,
+        Some(Ok(Verdict::Outside {
+            number: 1,
+            line: 15,
+        })),
+    ),
+    ("", FIFTEENTH, 450, None),
 ];
 
 /// The program with this line for its fifteenth.
-fn program_with(alloc: Global, fifteenth: &str) -> Result<String, AllocError> {
-    PLATE_PROGRAM.replace(alloc, FIFTEENTH, fifteenth)
+fn program_with(rt: &impl Abort, alloc: Global, fifteenth: &str) -> String {
+    PLATE_PROGRAM
+        .replace(alloc, FIFTEENTH, fifteenth)
+        .expect(rt, "memory")
 }
 
 #[test]
-fn programs_of_a_thin_plate(rt: HostRuntime) -> Result<(), Fail> {
-    let alloc = rt.alloc();
-    for &(outlines, fifteenth, wanted) in &ROWS {
-        let program = program_with(alloc, fifteenth)?;
-        assert!(rt; judged(alloc, outlines.as_bytes(), program.as_str(), 450) == Some(wanted));
+fn programs_of_a_thin_plate(rt: HostRuntime) {
+    for &(outlines, fifteenth, line_width, wanted) in &ROWS {
+        let program = program_with(&rt, rt.alloc(), fifteenth);
+        let found = judged(
+            rt.alloc(),
+            outlines.as_bytes(),
+            program.as_str(),
+            line_width,
+        );
+        assert!(rt; found == wanted, "{fifteenth} by {line_width}");
     }
-    Ok(())
-}
-
-/// The clearance is that of half a width, rounded down.
-#[test]
-fn wider_lines(rt: HostRuntime) -> Result<(), Fail> {
-    let alloc = rt.alloc();
-    let program = program_with(alloc, FIFTEENTH)?;
-    let inside = Verdict::Inside { moves: 9 };
-    assert!(rt; judged(alloc, PLATE_HATCHED.as_bytes(), program.as_str(), 451) == Some(Ok(inside)));
-    let outside = Verdict::Outside {
-        number: 1,
-        line: 15,
-    };
-    assert!(rt;
-        judged(alloc, PLATE_HATCHED.as_bytes(), program.as_str(), 452) == Some(Ok(outside))
-    );
-    Ok(())
-}
-
-/// An empty text is none of outlines.
-#[test]
-fn no_outlines(rt: HostRuntime) -> Result<(), Fail> {
-    let alloc = rt.alloc();
-    assert!(rt; judged(alloc, b"", PLATE_PROGRAM, 450) == None);
-    Ok(())
 }

@@ -1,5 +1,6 @@
 //! Parts of squares, some of whose layers pass a budget.
 ghost use Rattle.std.specs.Prelude.{◌≡◌, ◌≤◌, ◌<◌, true, Some, [], IfOk, OnOk, All};
+ghost use Rattle.layer_board.specs.Limits.{worker_limit};
 ghost use Rattle.scad_geom.specs.Limits.{coordinate_limit};
 ghost use Rattle.scad_geom.specs.Within.{IsWithin};
 ghost use Rattle.scad_io.specs.Desk.{unused};
@@ -70,7 +71,7 @@ impl LayerWork for Squares {
 /// A print by the default settings.
 fn print(want: Want, workers: u32) -> Print
     requires some { 1 ≤ workers }
-    requires most { workers ≤ 64 }
+    requires most { workers ≤ worker_limit }
 {
     Print {
         settings: Settings::defaults(),

@@ -37,7 +37,7 @@ use Rattle.scad_run.proofs.Silent.{slice_is_silent}
 use Rattle.scad_run.specs.Words.{given_by}
 use Rattle.scad_run.specs.Answer.{Parts, Findings, follows, job_script, script_of, ArePartsOfTree, AreDrawn, AreFoundBy, AreFound}
 use Rattle.scad_run.specs.Inputs.{Inputs, source_in}
-use Rattle.scad_run.specs.Promises.{IsReported, IsRefused, IsProgramFront, IsOfLayers, IsCutShort, Refuses, Leaves, LeavesOutputs}
+use Rattle.scad_run.specs.Promises.{IsReported, IsRefused, IsProgramFront, IsOfLayers, IsCutShort, Refuses, LeavesBoth, LeavesOutputs}
 use Rattle.scad_run.specs.Cut.{EndsAt}
 use Rattle.scad_run.specs.Causes.{HasManyLayers}
 use Rattle.scad_run.proofs.Working.{parts_meant}
@@ -80,7 +80,7 @@ sample_quiet n settings parts tree = ends_quiet_if (nat_lt layer_limit (layer_co
 
 command_leaves : (job : Job) (command : Command) (found : Findings) (inputs : Inputs) (status : Status) (old new : View)
     → job.command ≡ command
-    → RunsTo (job_script (Some job) found inputs) status old new → Leaves command old new
+    → RunsTo (job_script (Some job) found inputs) status old new → LeavesBoth command old new
 command_leaves job (Check model) found inputs status old new is runs =
     files_stand _ status old new (job_quiet job found inputs _ (subst IsQuiet (sym is) (λ settings ps tree. tt))
     (reached job inputs found)) runs

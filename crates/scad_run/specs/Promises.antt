@@ -112,14 +112,14 @@ Refuses whole (BadFile kind first second) old new = IsRefused whole (BadFile kin
 Refuses whole status old new = Unit {0}
 
 -- `check`, `tree`, `sample` and `verify` leave the outputs but the report as they were, at every status
-abbrev pub Leaves : Command → View → View → Type 0
-Leaves (Slice model cli) old new = Unit {0}
-Leaves (Plan model cli gcode) old new = Unit {0}
-Leaves command old new = (new.cli ≡ old.cli) × (new.gcode ≡ old.gcode)
+abbrev pub LeavesBoth : Command → View → View → Type 0
+LeavesBoth (Slice model cli) old new = Unit {0}
+LeavesBoth (Plan model cli gcode) old new = Unit {0}
+LeavesBoth command old new = (new.cli ≡ old.cli) × (new.gcode ≡ old.gcode)
 
 abbrev pub LeavesOutputs : Option Job → View → View → Type 0
 LeavesOutputs None old new = Unit {0}
-LeavesOutputs (Some job) old new = Leaves job.command old new
+LeavesOutputs (Some job) old new = LeavesBoth job.command old new
 
 -- but for Write and Memory: the words are of no form where the usage is answered, and of the form else
 abbrev pub JudgesJob : Option Job → Status → Type 0

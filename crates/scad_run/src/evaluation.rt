@@ -1,18 +1,19 @@
 //! Evaluation of a source, with its echo lines.
-ghost use Rattle.std.specs.Prelude.{◌≡◌, ◌-◌, ◌^◌, ◌<◌, ◌≤◌, ◌++◌, ◌∷◌, [], length, codes, flat_map, OnOk, IfOk};
+ghost use Rattle.std.specs.Prelude.{◌≡◌, ◌-◌, ◌^◌, ◌<◌, ◌++◌, ◌∷◌, [], length, codes, flat_map, IfOk};
 ghost use Rattle.scad_io.specs.Desk.{View};
 ghost use Rattle.scad_io.specs.declared.desk.Out.TheVariants.{Report};
 ghost use Rattle.scad_script.specs.Steps.{Sends};
 ghost use Rattle.scad_script.specs.Script.{Script, first};
-ghost use Rattle.scad_script.specs.Play.{Left, Carries, HasRisen};
-ghost use Rattle.scad_script.specs.Run.{Sound, CreatesNone};
+ghost use Rattle.scad_script.specs.Play.{Left, Carries};
+ghost use Rattle.scad_script.specs.Run.{Sound};
+ghost use Rattle.scad_script.specs.Departure.{Keeps};
 ghost use Rattle.scad_tree.specs.Solid.{Solid};
 ghost use Rattle.scad_tree.specs.View.{solid_of};
 ghost use Rattle.scad_run.specs.Meaning.{source_means, MeansTree};
 ghost use Rattle.scad_run.specs.SourceReport.{echo_text, refusal_of, told};
 ghost use Rattle.scad_run.specs.Playing.{Tells};
 
-use crate::meaning::made;
+use crate::meaning::model_of_source;
 use scad_expr::EvalFault;
 use scad_fault::Text;
 use scad_inst::{Model, ModelEnd};
@@ -28,13 +29,9 @@ pub fn evaluate<D: Desk>(alloc: Global, source: &[u8], desk: &mut D) -> Result<T
 
     ensures tells { Tells (source_means source.now) result (D.view desk.old) (D.view desk.new) }
     ensures means { IfOk result (λ tree. MeansTree (solid_of tree) source.now) }
-    ensures sound { OnOk result (Sound (D.view desk.new)) }
-    ensures creates { OnOk result (CreatesNone (D.view desk.old) (D.view desk.new)) }
-    ensures files { D.files desk.new ≡ D.files desk.old }
-    ensures later { D.faults desk.old ≤ D.faults desk.new }
-    ensures cause { HasRisen result (D.faults desk.old) (D.faults desk.new) }
+    ensures kept { Keeps D.files D.view D.faults desk.old desk.new result }
 {
-    match made(alloc, source) {
+    match model_of_source(alloc, source) {
         Ok(Model { tree, echoes }) => {
             echo(alloc, &echoes, desk)?;
             Ok(tree)
@@ -65,11 +62,7 @@ fn echo<D: Desk>(alloc: Global, lines: &[Text], desk: &mut D) -> Result<(), Stop
     requires sound { Sound (D.view desk.old) }
 
     ensures carries { Carries (first (Sends Report (echo_text lines.now) ∷ [])) result (D.view desk.old) (D.view desk.new) }
-    ensures sound { OnOk result (Sound (D.view desk.new)) }
-    ensures creates { OnOk result (CreatesNone (D.view desk.old) (D.view desk.new)) }
-    ensures files { D.files desk.new ≡ D.files desk.old }
-    ensures later { D.faults desk.old ≤ D.faults desk.new }
-    ensures cause { HasRisen result (D.faults desk.old) (D.faults desk.new) }
+    ensures kept { Keeps D.files D.view D.faults desk.old desk.new result }
 {
     let text = echo_text(alloc, lines)?;
     send(desk, Out::Report, &text)

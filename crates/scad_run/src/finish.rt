@@ -1,7 +1,8 @@
 //! What a command does with a source's tree.
 ghost use Rattle.std.specs.Prelude.{◌≡◌, ◌<◌, ◌≤◌, false, None};
-ghost use Rattle.scad_script.specs.Play.{Completes, HasRisen};
+ghost use Rattle.scad_script.specs.Play.{Completes};
 ghost use Rattle.scad_script.specs.Run.{Sound};
+ghost use Rattle.scad_script.specs.Departure.{Leaves};
 ghost use Rattle.scad_tree.specs.View.{solid_of};
 ghost use Rattle.scad_tree.specs.Solids.{AreSolids};
 ghost use Rattle.scad_run.specs.Words.{case_of};
@@ -37,9 +38,7 @@ pub fn finish<R: Threads + Sync, D: Desk, G: Gate>(
     ensures completes { (parts : _) → ArePartsOfTree (solid_of tree.now) parts
         → Completes (follows order.now.command.now order.now.settings parts (solid_of tree.now)) result
         (D.view desk.old) (D.view desk.new) }
-    ensures files { D.files desk.new ≡ D.files desk.old }
-    ensures later { D.faults desk.old ≤ D.faults desk.new }
-    ensures cause { HasRisen result (D.faults desk.old) (D.faults desk.new) }
+    ensures leaves { Leaves D.files D.faults desk.old desk.new result }
 {
     let workpiece = Workpiece {
         tree,

@@ -1,8 +1,8 @@
 //! The work of `verify`: outlines and a printing program are read, and the program is judged by the outlines.
-ghost use Rattle.std.specs.Prelude.{◌≡◌, ◌≤◌, Ok, IfOk, OnOk};
+ghost use Rattle.std.specs.Prelude.{◌≡◌, ◌≤◌, Ok, IfOk};
 ghost use Rattle.scad_script.specs.Script.{ends};
-ghost use Rattle.scad_script.specs.Play.{HasRisen};
 ghost use Rattle.scad_script.specs.Run.{Sound};
+ghost use Rattle.scad_script.specs.Departure.{Keeps, Leaves};
 ghost use Rattle.cli_read.specs.View.{layers_of};
 ghost use Rattle.plan_verify.specs.Stays.{AreWithin};
 ghost use Rattle.verdict_laws.specs.Opinion.{Opinion, Opinions, AreRight, IsWidth, Answers};
@@ -34,9 +34,7 @@ pub fn judge<D: Desk>(
 
     ensures judges { Judges (record { outlines = outlines.now; program = program.now }) line_width (D.files desk.old)
         result (D.view desk.old) (D.view desk.new) }
-    ensures files { D.files desk.new ≡ D.files desk.old }
-    ensures later { D.faults desk.old ≤ D.faults desk.new }
-    ensures cause { HasRisen result (D.faults desk.old) (D.faults desk.new) }
+    ensures leaves { Leaves D.files D.faults desk.old desk.new result }
 {
     let outlines = load_whole(alloc, outlines, desk)?;
     let program = load_whole(alloc, program, desk)?;
@@ -48,10 +46,7 @@ fn load_whole<D: Desk>(alloc: Global, name: &str, desk: &mut D) -> Result<Text, 
     requires sound { Sound (D.view desk.old) }
 
     ensures loads { LoadsWhole name.now (D.files desk.old) result (D.view desk.old) (D.view desk.new) }
-    ensures sound { OnOk result (Sound (D.view desk.new)) }
-    ensures files { D.files desk.new ≡ D.files desk.old }
-    ensures later { D.faults desk.old ≤ D.faults desk.new }
-    ensures cause { HasRisen result (D.faults desk.old) (D.faults desk.new) }
+    ensures kept { Keeps D.files D.view D.faults desk.old desk.new result }
 {
     match load(alloc, name, Some(FILE_LIMIT), desk)? {
         Input::Whole(text) => Ok(text),

@@ -13,18 +13,18 @@ use std::alloc::Global;
 
 /// What the source makes, or its first fault or budget; with the lines of `echo`.
 #[tactic(auto, unfolding(crate::specs::Meaning::source_means))]
-pub fn made(alloc: Global, source: &[u8]) -> Result<Model, ModelEnd>
+pub fn model_of_source(alloc: Global, source: &[u8]) -> Result<Model, ModelEnd>
     requires { length source.now < 2 ^ 32 - 1 }
     ensures { Makes (source_means source.now) result }
 {
     match lex(alloc, source) {
-        Ok(tokens) => made_of(alloc, &tokens),
+        Ok(tokens) => model_of_tokens(alloc, &tokens),
         Err(fault) => Err(nothing_made(alloc, text_fault(alloc, fault))),
     }
 }
 
 /// What tokens make.
-fn made_of(alloc: Global, tokens: &Tokens) -> Result<Model, ModelEnd>
+fn model_of_tokens(alloc: Global, tokens: &Tokens) -> Result<Model, ModelEnd>
     ensures { Makes (tokens_mean (Ok (tokens.now.list.items, tokens.now.end))) result }
 {
     match parse(alloc, tokens) {

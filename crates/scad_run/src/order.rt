@@ -1,5 +1,6 @@
 //! A command that is carried out.
 ghost use Rattle.std.specs.Prelude.{◌≤◌};
+ghost use Rattle.scad_words.specs.Numbers.{worker_limit};
 ghost use Rattle.scad_words.specs.Settings.{AreInRange};
 
 use scad_words::{Command, Settings};
@@ -12,5 +13,5 @@ pub struct Order<'a> {
     pub workers: u32,
     ghost in_range: { AreInRange settings },
     ghost some: { 1 ≤ workers },
-    ghost most: { workers ≤ 64 },
+    ghost most: { workers ≤ worker_limit },
 }

@@ -7,11 +7,10 @@ ghost use Rattle.scad_run.specs.SourceReport.{counts_text, sizes_text, sample_li
 ghost use Rattle.scad_run.specs.Playing.{IsEnd};
 
 use gcode_text::push_hundred_thousandths;
-use itoa::Buffer;
 use scad_fault::Text;
 use scad_io::{Gate, NullDesk, Out};
 use scad_script::{Stop, make};
-use scad_slice::{Summary, Want, Workpiece, Written, count_layers, draw};
+use scad_slice::{Summary, Want, Workpiece, Written, count_layers, draw, push_number};
 use std::alloc::{AllocError, Global};
 use std::thread::Threads;
 
@@ -72,11 +71,4 @@ fn push_sizes(line: &mut Vec<u8>, cli: u64, gcode: u64) -> Result<(), AllocError
     line.extend_from_slice(b" cli bytes, ")?;
     push_number(line, gcode)?;
     line.extend_from_slice(b" gcode bytes\n")
-}
-
-fn push_number(line: &mut Vec<u8>, number: u64) -> Result<(), AllocError>
-    ensures { OnOk result (line.new.items ≡ line.old.items ++ decimal number) }
-{
-    let mut buffer = Buffer::new();
-    line.extend_from_slice(buffer.format(number).as_bytes())
 }

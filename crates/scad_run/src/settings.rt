@@ -1,8 +1,8 @@
 //! The settings of a run.
-ghost use Rattle.std.specs.Prelude.{◌≡◌, ◌≤◌, ◌<◌, option_map, IfOk, OnOk};
+ghost use Rattle.std.specs.Prelude.{◌≡◌, ◌<◌, option_map, IfOk};
 ghost use Rattle.scad_words.specs.Settings.{settings_of, AreInRange};
-ghost use Rattle.scad_script.specs.Play.{HasRisen};
 ghost use Rattle.scad_script.specs.Run.{Sound, CreatesNone};
+ghost use Rattle.scad_script.specs.Departure.{Keeps};
 ghost use Rattle.scad_run.specs.Playing.{Settles, IsJudged};
 
 use scad_fault::FileName;
@@ -21,11 +21,8 @@ pub fn settle<D: Desk>(
 
     ensures settles { Settles name.now (D.files desk.old) result (D.view desk.old) (D.view desk.new) }
     ensures in_range { IfOk result AreInRange }
-    ensures sound { OnOk result (Sound (D.view desk.new)) }
+    ensures kept { Keeps D.files D.view D.faults desk.old desk.new result }
     ensures creates { CreatesNone (D.view desk.old) (D.view desk.new) }
-    ensures files { D.files desk.new ≡ D.files desk.old }
-    ensures later { D.faults desk.old ≤ D.faults desk.new }
-    ensures cause { HasRisen result (D.faults desk.old) (D.faults desk.new) }
 {
     let Some(name) = name else {
         return Ok(Settings::defaults());

@@ -1,9 +1,11 @@
 //! The work of a command, up to the report's last line.
-ghost use Rattle.std.specs.Prelude.{◌≡◌, ◌<◌, ◌≤◌, ◌-◌, ◌^◌, false, Some, None, option_map, length, map, string_bytes, IfOk, IfErr, OnOk};
+ghost use Rattle.std.specs.Prelude.{◌≡◌, ◌<◌, ◌≤◌, ◌-◌, ◌^◌, false, Some, None, option_map, length, map, string_bytes, IfOk, IfErr};
 ghost use Rattle.scad_script.specs.Script.{IsWithin};
-ghost use Rattle.scad_script.specs.Play.{Carries, Completes, HasRisen};
+ghost use Rattle.scad_script.specs.Play.{Carries, Completes};
 ghost use Rattle.scad_script.specs.Run.{Sound, CreatesNone};
+ghost use Rattle.scad_script.specs.Departure.{Keeps, Leaves};
 ghost use Rattle.scad_words.specs.Job.{job_of};
+ghost use Rattle.scad_words.specs.Numbers.{worker_limit};
 ghost use Rattle.scad_run.specs.Words.{model_of, case_of};
 ghost use Rattle.scad_run.specs.Answer.{model_read_first, input_script, AreDrawn};
 ghost use Rattle.scad_run.specs.Inputs.{source_limit};
@@ -38,9 +40,7 @@ pub fn work<R: Threads + Sync, D: Desk, G: Gate>(
     requires no_gcode { (D.view desk.old).gcode.created ≡ false }
 
     ensures works { Works (map string_bytes words.now) (D.files desk.old) result (D.view desk.old) (D.view desk.new) }
-    ensures files { D.files desk.new ≡ D.files desk.old }
-    ensures later { D.faults desk.old ≤ D.faults desk.new }
-    ensures cause { HasRisen result (D.faults desk.old) (D.faults desk.new) }
+    ensures leaves { Leaves D.files D.faults desk.old desk.new result }
 {
     let job = asked(alloc, words)?;
     let settings = settle(alloc, &job.settings, desk)?;
@@ -85,9 +85,7 @@ fn draw<R: Threads + Sync, D: Desk, G: Gate>(
     requires no_gcode { (D.view desk.old).gcode.created ≡ false }
 
     ensures draws { Draws order.now.command.now order.now.settings (D.files desk.old) result (D.view desk.old) (D.view desk.new) }
-    ensures files { D.files desk.new ≡ D.files desk.old }
-    ensures later { D.faults desk.old ≤ D.faults desk.new }
-    ensures cause { HasRisen result (D.faults desk.old) (D.faults desk.new) }
+    ensures leaves { Leaves D.files D.faults desk.old desk.new result }
 {
     let input = source(alloc, order.command, desk)?;
     follow(rt, alloc, order, input, desk, gate)
@@ -96,7 +94,7 @@ fn draw<R: Threads + Sync, D: Desk, G: Gate>(
 /// The job that the words ask for.
 fn asked(alloc: Global, words: &[String]) -> Result<Job, Stop>
     ensures job { IfOk result (λ job. job_of (map string_bytes words.now) ≡ Some job) }
-    ensures workers { IfOk result (λ job. (1 ≤ job.workers) × (job.workers ≤ 64)) }
+    ensures workers { IfOk result (λ job. (1 ≤ job.workers) × (job.workers ≤ worker_limit)) }
     ensures usage { IfErr result (AsksNothing (job_of (map string_bytes words.now))) }
 {
     match read_words(alloc, words) {
@@ -114,11 +112,8 @@ fn source<D: Desk>(alloc: Global, command: &Command, desk: &mut D) -> Result<Inp
     ensures carries { Carries (model_read_first (model_of command.now)) result (D.view desk.old) (D.view desk.new) }
     ensures gets { IfOk result (Gets command.now (D.files desk.old)) }
     ensures within { IfOk result (IsWithin (Some source_limit)) }
-    ensures sound { OnOk result (Sound (D.view desk.new)) }
+    ensures kept { Keeps D.files D.view D.faults desk.old desk.new result }
     ensures creates { CreatesNone (D.view desk.old) (D.view desk.new) }
-    ensures files { D.files desk.new ≡ D.files desk.old }
-    ensures later { D.faults desk.old ≤ D.faults desk.new }
-    ensures cause { HasRisen result (D.faults desk.old) (D.faults desk.new) }
 {
     match command {
         Command::Check(model) => load(alloc, model.as_str(), Some(SOURCE_LIMIT), desk),
@@ -148,9 +143,7 @@ fn follow<R: Threads + Sync, D: Desk, G: Gate>(
     ensures completes { (parts : _) → AreDrawn (Some input) parts
         → Completes (input_script order.now.command.now order.now.settings parts (Some input)) result
         (D.view desk.old) (D.view desk.new) }
-    ensures files { D.files desk.new ≡ D.files desk.old }
-    ensures later { D.faults desk.old ≤ D.faults desk.new }
-    ensures cause { HasRisen result (D.faults desk.old) (D.faults desk.new) }
+    ensures leaves { Leaves D.files D.faults desk.old desk.new result }
 {
     let source = match input {
         Input::Whole(source) => source,

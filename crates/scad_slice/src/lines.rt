@@ -37,7 +37,8 @@ pub fn plan_line(alloc: Global, told: &Summary) -> Result<Vec<u8>, AllocError>
     Ok(line)
 }
 
-fn push_number(line: &mut Vec<u8>, number: u64) -> Result<(), AllocError>
+/// Writes a number in decimal.
+pub fn push_number(line: &mut Vec<u8>, number: u64) -> Result<(), AllocError>
     ensures { OnOk result (line.new.items ≡ line.old.items ++ decimal number) }
 {
     let mut buffer = Buffer::new();

@@ -1,7 +1,8 @@
 //! What follows the tree of a source that is sliced.
 ghost use Rattle.std.specs.Prelude.{◌≡◌, ◌≤◌, false};
-ghost use Rattle.scad_script.specs.Play.{Completes, HasRisen};
+ghost use Rattle.scad_script.specs.Play.{Completes};
 ghost use Rattle.scad_script.specs.Run.{Sound};
+ghost use Rattle.scad_script.specs.Departure.{Leaves};
 ghost use Rattle.scad_tree.specs.View.{solid_of};
 ghost use Rattle.slice_work.specs.declared.want.Want.TheVariants.{Outlines};
 ghost use Rattle.scad_slice.specs.Parts.{IsPart};
@@ -35,9 +36,7 @@ pub fn slice<R: Threads + Sync, D: Desk, G: Gate>(
     ensures completes { (part : _) → IsPart Outlines workpiece.now.settings (solid_of workpiece.now.tree.now) part
         → Completes (slice_script workpiece.now.settings cli.now part (solid_of workpiece.now.tree.now))
         result (D.view desk.old) (D.view desk.new) }
-    ensures files { D.files desk.new ≡ D.files desk.old }
-    ensures later { D.faults desk.old ≤ D.faults desk.new }
-    ensures cause { HasRisen result (D.faults desk.old) (D.faults desk.new) }
+    ensures leaves { Leaves D.files D.faults desk.old desk.new result }
 {
     count_layers(workpiece.tree, workpiece.settings.layer_height)?;
     make(desk, Out::Cli, cli)?;

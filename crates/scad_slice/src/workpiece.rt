@@ -1,5 +1,6 @@
 //! A tree that is to be printed.
 ghost use Rattle.std.specs.Prelude.{◌≤◌};
+ghost use Rattle.scad_words.specs.Numbers.{worker_limit};
 ghost use Rattle.scad_words.specs.Settings.{AreInRange};
 
 use scad_tree::Tree;
@@ -15,5 +16,5 @@ pub struct Workpiece<'a, G> {
     pub gate: &'a G,
     ghost in_range: { AreInRange settings },
     ghost some: { 1 ≤ workers },
-    ghost most: { workers ≤ 64 },
+    ghost most: { workers ≤ worker_limit },
 }

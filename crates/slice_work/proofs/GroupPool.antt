@@ -5,16 +5,17 @@ use Rattle.std.proofs.lemmas.List.{length-append}
 use Rattle.std.proofs.lemmas.List.Elements.{All-append}
 use Rattle.layer_board.specs.declared.view.View.{View}
 use Rattle.layer_board.specs.declared.board.Board.{Board}
+use Rattle.layer_board.specs.declared.share.Share.{Share}
 use Rattle.layer_board.specs.Pass.{joins}
-use Rattle.layer_board.specs.Calls.{view}
+use Rattle.layer_board.specs.Calls.{view, IsThrough}
 use Rattle.slice_work.specs.declared.layer.Drawn.{Drawn}
-use Rattle.slice_work.specs.declared.workers.Share.{Share}
 use Rattle.slice_work.specs.Part.{Part, Ends, EndsWithin}
-use Rattle.slice_work.specs.Shares.{if_made, if_over, made_numbers, over_numbers, IsNoted, IsThrough, AreDrawnOf, AreWithin}
+use Rattle.slice_work.specs.Shares.{if_made, if_over, made_numbers, over_numbers, IsNoted, AreDrawnOf, AreWithin}
 use Rattle.slice_work.specs.Pools.{IsPool}
 
-module _ (board : Board) (first m n : ℕ) (a b : Share) (p : IsPool board first m a) (q : IsPool board first n b) where
-  noted_both : (s : Share) → view s.pass ≡ joins (view a.pass) (view b.pass)
+module _ (board : Board) (first m n : ℕ) (a b : Share Drawn)
+    (p : IsPool board first m a) (q : IsPool board first n b) where
+  noted_both : (s : Share Drawn) → view s.pass ≡ joins (view a.pass) (view b.pass)
       → s.done.items ≡ a.done.items ++ b.done.items → IsNoted first (view s.pass) s.done.items
   noted_both s joined done = record {
     finished = ap (λ (v : View). v.finished) joined
@@ -29,7 +30,7 @@ module _ (board : Board) (first m n : ℕ) (a b : Share) (p : IsPool board first
         (All-append (λ d. first ≤ d.layer) a.done.items b.done.items p.share.noted.from q.share.noted.from);
   }
 
-  pool_of : (s : Share) → IsThrough board s.pass → view s.pass ≡ joins (view a.pass) (view b.pass)
+  pool_of : (s : Share Drawn) → IsThrough board s.pass → view s.pass ≡ joins (view a.pass) (view b.pass)
       → s.done.items ≡ a.done.items ++ b.done.items → IsPool board first (m + n) s
   pool_of s through joined done = record {
     share = record {
@@ -43,7 +44,7 @@ module _ (board : Board) (first m n : ℕ) (a b : Share) (p : IsPool board first
         ∙ ap₂ (λ (j k : ℕ). j + k) p.members q.members;
   }
 
-  pub pooled : {E : Type 0} (r : Result Share E) (total : ℕ) → total ≡ m + n
+  pub pooled : {E : Type 0} (r : Result (Share Drawn) E) (total : ℕ) → total ≡ m + n
       → IfOk r (λ s. IsThrough board s.pass) → IfOk r (λ s. view s.pass ≡ joins (view a.pass) (view b.pass))
       → IfOk r (λ s. s.done.items ≡ a.done.items ++ b.done.items) → IfOk r (IsPool board first total)
   pooled (Ok s) total all through joined done =
@@ -51,11 +52,11 @@ module _ (board : Board) (first m n : ℕ) (a b : Share) (p : IsPool board first
   pooled (Err e) total all through joined done = tt
 
 -- what workers have done of a round, where the part is drawn so
-abbrev pub Worked : Board → ℕ → (Part → Type 0) → ℕ → Share → Type 0
+abbrev pub Worked : Board → ℕ → (Part → Type 0) → ℕ → Share Drawn → Type 0
 Worked board first Draws workers s =
     IsPool board first workers s × ((part : Part) → Draws part → AreDrawnOf part s.done.items)
 
-pub both_drawn : {E : Type 0} (Draws : Part → Type 0) (a b : Share) (r : Result Share E)
+pub both_drawn : {E : Type 0} (Draws : Part → Type 0) (a b : Share Drawn) (r : Result (Share Drawn) E)
     → ((part : Part) → Draws part → AreDrawnOf part a.done.items)
     → ((part : Part) → Draws part → AreDrawnOf part b.done.items)
     → IfOk r (λ s. s.done.items ≡ a.done.items ++ b.done.items)

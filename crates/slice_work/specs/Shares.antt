@@ -1,14 +1,13 @@
 -- What one worker has done of a round, or several have together.
-use Rattle.std.specs.Prelude.{◌≡◌, ℕ, ◌-◌, ◌≤◌, true, None, List, [], ◌∷◌, ◌++◌, flat_map, All}
+use Rattle.std.specs.Prelude.{◌≡◌, ℕ, ◌-◌, ◌≤◌, List, [], ◌∷◌, ◌++◌, flat_map, All}
 use Rattle.layer_board.specs.declared.view.View.{View}
 use Rattle.layer_board.specs.declared.board.Board.{Board}
-use Rattle.layer_board.specs.declared.board.Pass.{Pass}
+use Rattle.layer_board.specs.declared.share.Share.{Share}
 use Rattle.layer_board.specs.Pass.{fails, finishes}
-use Rattle.layer_board.specs.Calls.{view, IsOf}
+use Rattle.layer_board.specs.Calls.{view, IsThrough}
 use Rattle.slice_work.specs.declared.layer.LayerEnd.{LayerEnd}
 use Rattle.slice_work.specs.declared.layer.LayerEnd.TheVariants.{Made, Over}
 use Rattle.slice_work.specs.declared.layer.Drawn.{Drawn}
-use Rattle.slice_work.specs.declared.workers.Share.{Share}
 use Rattle.slice_work.specs.Part.{Part, Ends, EndsWithin}
 
 -- the number, where the layer was made
@@ -35,18 +34,12 @@ pub record IsNoted (first : ℕ) (v : View) (done : List Drawn) : Type 0 where
   pub failed : v.failed ≡ over_numbers first done
   pub from : All (λ d. first ≤ d.layer) done
 
--- a pass that is done with its layers: it was told the end, and nothing is pending in it
-pub record IsThrough (board : Board) (pass : Pass) : Type 0 where
-  pub «of» : IsOf board pass
-  pub free : (view pass).pending ≡ None
-  pub ended : (view pass).ended ≡ true
-
 -- the outlines of all layers of the list lie within the limit of coordinates
 abbrev pub AreWithin : List Drawn → Type 0
 AreWithin done = All (λ d. EndsWithin d.end) done
 
 -- what was done of a round whose layers start at `first`
-pub record IsShare (board : Board) (first : ℕ) (s : Share) : Type 0 where
+pub record IsShare (board : Board) (first : ℕ) (s : Share Drawn) : Type 0 where
   pub through : IsThrough board s.pass
   pub noted : IsNoted first (view s.pass) s.done.items
   pub within : AreWithin s.done.items

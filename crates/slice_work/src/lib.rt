@@ -24,6 +24,7 @@ mod workers;
 
 pub use fault::WorkFault;
 pub use layer::{Drawn, LayerEnd};
+pub use layer_board::Share;
 pub use layer_work::LayerWork;
 pub use part::work;
 pub use part_rows::survey;
@@ -33,4 +34,3 @@ pub use summary::Summary;
 pub use survey_fault::SurveyFault;
 pub use want::Want;
 pub use worker::share;
-pub use workers::Share;

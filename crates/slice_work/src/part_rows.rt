@@ -1,5 +1,6 @@
 //! The rows of support lines of all layers of a part.
 ghost use Rattle.std.specs.Prelude.{◌≡◌, ◌+◌, ◌≤◌, Err, IfOk, OnOk, All};
+ghost use Rattle.layer_board.specs.Limits.{worker_limit};
 ghost use Rattle.scad_fault.specs.declared.budget.Budget.{Budget};
 ghost use Rattle.scad_geom.specs.Limits.{coordinate_limit};
 ghost use Rattle.scad_geom.specs.Within.{IsWithin};
@@ -32,7 +33,7 @@ pub fn survey<R: Threads + Sync, W: LayerWork>(
 ) -> Result<Vec<Rows>, SurveyFault>
     requires few { count ≤ layer_limit }
     requires some { 1 ≤ workers }
-    requires most { workers ≤ 64 }
+    requires most { workers ≤ worker_limit }
     requires spaced { 500 ≤ spacing }
 
     ensures rows { IfOk result (λ all. (part : Part) → W.draws work.now part

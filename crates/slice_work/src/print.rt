@@ -1,5 +1,6 @@
 //! How a part is printed.
 ghost use Rattle.std.specs.Prelude.{◌≤◌};
+ghost use Rattle.layer_board.specs.Limits.{worker_limit};
 ghost use Rattle.scad_words.specs.Settings.{AreInRange};
 
 use crate::want::Want;
@@ -13,5 +14,5 @@ pub struct Print {
     pub workers: u32,
     ghost in_range: { AreInRange settings },
     ghost some: { 1 ≤ workers },
-    ghost most: { workers ≤ 64 },
+    ghost most: { workers ≤ worker_limit },
 }

@@ -1,13 +1,14 @@
 //! A round of layers.
 ghost use Rattle.std.specs.Prelude.{◌≡◌, ◌+◌, ◌<◌, ◌≤◌, IfOk};
+ghost use Rattle.layer_board.specs.Limits.{worker_limit};
 ghost use Rattle.slice_work.specs.Part.{Part, layer_limit};
 ghost use Rattle.slice_work.specs.Shares.{AreDrawnOf, AreWithin};
 ghost use Rattle.slice_work.specs.Rounds.{IsRound, round_limit};
 
 use crate::layer::Drawn;
 use crate::layer_work::LayerWork;
-use crate::workers::{Share, pool};
-use layer_board::Board;
+use crate::workers::pool;
+use layer_board::{Board, Share};
 use std::alloc::{AllocError, Global};
 use std::thread::Threads;
 
@@ -34,7 +35,7 @@ pub fn work_round<R: Threads + Sync, W: LayerWork>(
     work: &W,
 ) -> Result<Round, AllocError>
     requires some { 1 ≤ workers }
-    requires few { workers ≤ 64 }
+    requires few { workers ≤ worker_limit }
     requires size { count ≤ round_limit }
     requires within { first + count ≤ layer_limit }
 

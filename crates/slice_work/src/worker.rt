@@ -8,8 +8,7 @@ ghost use Rattle.slice_work.specs.Shares.{IsShare, AreDrawnOf, SkipsAbove, settl
 
 use crate::layer::{Drawn, LayerEnd};
 use crate::layer_work::LayerWork;
-use crate::workers::Share;
-use layer_board::{Board, Claim, Pass};
+use layer_board::{Board, Claim, Pass, Share};
 use std::alloc::{AllocError, Global};
 
 /// One worker's part of a round whose layers start at `first`: draws layers from the board until the end is told,
@@ -20,7 +19,7 @@ pub fn share<W: LayerWork>(
     pass: Pass,
     first: u32,
     work: &W,
-) -> Result<Share, AllocError>
+) -> Result<Share<Drawn>, AllocError>
     requires of { IsOf board.now pass }
     requires empty { IsEmpty (view pass) }
     requires ended { (view pass).ended ≡ false }

@@ -1,25 +1,17 @@
 //! What several workers do of a round, as one.
-ghost use Rattle.std.specs.Prelude.{◌≡◌, ◌+◌, ◌++◌, ◌<◌, ◌≤◌, IfOk, All, vec_len};
+ghost use Rattle.std.specs.Prelude.{◌+◌, ◌<◌, ◌≤◌, IfOk, All, vec_len};
 ghost use Rattle.std.specs.Thread.{IsSync};
-ghost use Rattle.layer_board.specs.Calls.{view, layers_of, IsFresh};
+ghost use Rattle.layer_board.specs.Calls.{layers_of, IsFresh};
 ghost use Rattle.slice_work.specs.Part.{Part, layer_limit};
-ghost use Rattle.layer_board.specs.Pass.{joins};
-ghost use Rattle.slice_work.specs.Shares.{IsThrough, AreDrawnOf};
+ghost use Rattle.slice_work.specs.Shares.{AreDrawnOf};
 ghost use Rattle.slice_work.specs.Pools.{IsPool};
 
 use crate::layer::Drawn;
 use crate::layer_work::LayerWork;
 use crate::worker::share;
-use layer_board::{Board, Pass};
+use layer_board::{Board, Pass, Share, together};
 use std::alloc::{AllocError, Global};
 use std::thread::{Threads, join};
-
-/// What was done of a round: the pass that drew the layers, and what those that weren't skipped ended with.
-#[derive(Drop)]
-pub struct Share {
-    pub pass: Pass,
-    pub done: Vec<Drawn>,
-}
 
 /// What the workers of these passes do of a round, in threads where the runtime gives them.
 pub fn pool<R: Threads + Sync, W: LayerWork>(
@@ -29,7 +21,7 @@ pub fn pool<R: Threads + Sync, W: LayerWork>(
     passes: Vec<Pass>,
     first: u32,
     work: &W,
-) -> Result<Share, AllocError>
+) -> Result<Share<Drawn>, AllocError>
     requires some { 0 < vec_len passes }
     requires fresh { All (IsFresh board.now) passes.items }
     requires within { first + layers_of board.now ≤ layer_limit }
@@ -47,13 +39,13 @@ pub fn pool<R: Threads + Sync, W: LayerWork>(
     let high = low.split_off(low.len() / 2)?;
     let (a, b) = join(
         rt,
-        move || -> Result<Share, AllocError>
+        move || -> Result<Share<Drawn>, AllocError>
             requires { IsSync R.row × IsSync W.row × (0 < vec_len low)
                 × All (IsFresh board.now) low.items × (first + layers_of board.now ≤ layer_limit) }
             ensures { IfOk result (λ s. IsPool board.entry.now first (vec_len low) s
                 × ((part : Part) → W.draws work.entry.now part → AreDrawnOf part s.done.items)) }
         { pool(rt, alloc, board, low, first, work) },
-        move || -> Result<Share, AllocError>
+        move || -> Result<Share<Drawn>, AllocError>
             requires { IsSync R.row × IsSync W.row × (0 < vec_len high)
                 × All (IsFresh board.now) high.items × (first + layers_of board.now ≤ layer_limit) }
             ensures { IfOk result (λ s. IsPool board.entry.now first (vec_len high) s
@@ -61,22 +53,4 @@ pub fn pool<R: Threads + Sync, W: LayerWork>(
         { pool(rt, alloc, board, high, first, work) },
     );
     together(board, a?, b?)
-}
-
-// Two shares as one: the passes are joined, and so are the lists.
-fn together(board: &Board, a: Share, b: Share) -> Result<Share, AllocError>
-    requires a { IsThrough board.now a.pass }
-    requires b { IsThrough board.now b.pass }
-
-    ensures through { IfOk result (λ s. IsThrough board.now s.pass) }
-    ensures joined { IfOk result (λ s. view s.pass ≡ joins (view a.pass) (view b.pass)) }
-    ensures done { IfOk result (λ s. s.done.items ≡ a.done.items ++ b.done.items) }
-{
-    let Share { pass, done } = a;
-    let mut pass = pass;
-    let mut done = done;
-    let mut more = b.done;
-    board.join(&mut pass, b.pass);
-    done.append(&mut more)?;
-    Ok(Share { pass, done })
 }

@@ -53,10 +53,7 @@ fn counted<R: Threads + Sync + Abort>(rt: &R, alloc: Global, is_over: bool) -> u
 
 #[test]
 fn one_stretch_too_many_is_counted(rt: HostRuntime) {
-    assert_eq!(rt; counted(&rt, rt.alloc(), true), 10_000_001);
-}
-
-#[test]
-fn as_many_stretches_as_may_be_are_given(rt: HostRuntime) {
-    assert_eq!(rt; counted(&rt, rt.alloc(), false), 0);
+    for &(is_over, count) in &[(true, 10_000_001), (false, 0)] {
+        assert_eq!(rt; counted(&rt, rt.alloc(), is_over), count);
+    }
 }

@@ -385,20 +385,18 @@ fn changed(alloc: Global, old: &str, new: &str) -> Option<Vec<u8>> {
     Some(out)
 }
 
-#[test]
-fn a_text_with_a_layer_less(rt: HostRuntime) {
-    let text = changed(rt.alloc(), "$$LAYERS/50", "$$LAYERS/51").expect(&rt, "a text");
-    assert!(rt; is_told(rt.alloc(), &text, "CountDiffers 51 50"));
-}
+/// Bytes of the frame's text, others in their place, and what is read.
+const CHANGES: [(&str, &str, &str); 2] = [
+    ("$$LAYERS/50", "$$LAYERS/51", "CountDiffers 51 50"),
+    (",0,10000,0,0\n", ",0,10000,0,1\n", "OpenLoop 9"),
+];
 
 #[test]
-fn a_text_with_an_open_outline(rt: HostRuntime) {
-    let text = changed(rt.alloc(), ",0,10000,0,0\n", ",0,10000,0,1\n").expect(&rt, "a text");
-    assert!(rt; is_told(rt.alloc(), &text, "OpenLoop 9"));
-}
-
-#[test]
-fn a_text_that_is_not_ascii(rt: HostRuntime) {
+fn texts_with_other_bytes(rt: HostRuntime) {
+    for &(old, new, wanted) in &CHANGES {
+        let text = changed(rt.alloc(), old, new).expect(&rt, "a text");
+        assert!(rt; is_told(rt.alloc(), &text, wanted), "{wanted}");
+    }
     assert!(rt; is_told(rt.alloc(), b"$$HEADERSTART\n$$ASCII\xff\n", "BadLine 2"));
 }
 

@@ -3,6 +3,7 @@ ghost use Rattle.std.specs.Prelude.{◌≡◌, ◌≤◌, IfOk, length, All, vec
 ghost use Rattle.scad_geom.specs.Limits.{coordinate_limit};
 ghost use Rattle.scad_geom.specs.Within.{IsWithin};
 ghost use Rattle.plan_support.specs.Rows.{AreRows};
+ghost use Rattle.scad_words.specs.Numbers.{worker_limit};
 
 use crate::rectangles::{outlines, push_layers};
 use plan_support::{Covers, Rows, covers, supports};
@@ -10,6 +11,9 @@ use scad_geom::{Loop, Path, Pt};
 use std::alloc::{AllocError, Global};
 use std::process::Abort;
 use std::thread::Threads;
+
+// How many workers there may be.
+const WORKER_LIMIT: u32 = 64;
 
 const ORIGIN: Pt = Pt { x: 0, y: 0 };
 
@@ -134,7 +138,7 @@ fn are_so(alloc: Global, foot: &[Loop], covers: &Covers) -> bool
 
 fn is_bracket_supported<R: Threads + Sync + Abort>(rt: &R, alloc: Global, workers: u32) -> bool
     requires some { 1 ≤ workers }
-    requires few { workers ≤ 64 }
+    requires few { workers ≤ worker_limit }
 {
     let foot = outlines(alloc, ORIGIN, FOOT).expect(rt, "memory");
     let rows = bracket(alloc).expect(rt, "memory");
@@ -142,12 +146,13 @@ fn is_bracket_supported<R: Threads + Sync + Abort>(rt: &R, alloc: Global, worker
     are_so(alloc, &foot, &covers)
 }
 
+// By one worker, and by as many as there may be.
 #[test]
 fn a_plate_is_supported_beside_its_foot(rt: HostRuntime) {
-    assert!(rt; is_bracket_supported(&rt, rt.alloc(), 1));
-}
-
-#[test]
-fn as_many_workers_as_may_be_support_it_too(rt: HostRuntime) {
-    assert!(rt; is_bracket_supported(&rt, rt.alloc(), 64));
+    for &workers in &[1, WORKER_LIMIT] {
+        assert!(rt;
+            is_bracket_supported(&rt, rt.alloc(), workers),
+            "{workers} workers"
+        );
+    }
 }

@@ -113,18 +113,16 @@ fn planned_cube(alloc: Global, layer: u32) -> Result<LayerPlan, PlanFault> {
     plan(alloc, &outlines, layer, &USUAL, Vec::new(alloc))
 }
 
-#[test]
-fn even_layers_have_rows(rt: HostRuntime) {
-    let made = planned_cube(rt.alloc(), 0).expect(&rt, "a plan");
-    let row: &[(i32, i32)] = &[(900, 2000), (2100, 2000)];
-    assert!(rt; is_planned(&made, 1, &[FIRST_WALL, SECOND_WALL, row]));
-}
+const ROW: &[(i32, i32)] = &[(900, 2000), (2100, 2000)];
+
+const COLUMN: &[(i32, i32)] = &[(2000, 900), (2000, 2100)];
 
 #[test]
-fn odd_layers_have_columns(rt: HostRuntime) {
-    let made = planned_cube(rt.alloc(), 1).expect(&rt, "a plan");
-    let column: &[(i32, i32)] = &[(2000, 900), (2000, 2100)];
-    assert!(rt; is_planned(&made, 1, &[FIRST_WALL, SECOND_WALL, column]));
+fn even_layers_have_rows_and_odd_ones_columns(rt: HostRuntime) {
+    for &(layer, run) in &[(0, ROW), (1, COLUMN)] {
+        let made = planned_cube(rt.alloc(), layer).expect(&rt, "a plan");
+        assert!(rt; is_planned(&made, 1, &[FIRST_WALL, SECOND_WALL, run]));
+    }
 }
 
 /// The paths of the frame: round the square, round the hole, and rows by turns from the left and from the right.
@@ -193,9 +191,8 @@ fn supported_cube(alloc: Global, runs: &[&[(i32, i32)]]) -> Result<LayerPlan, Pl
 fn supports_are_given_back(rt: HostRuntime) {
     let runs: [&[(i32, i32)]; 2] = [&[(3301, 0), (5999, 0)], &[(5999, 1000), (3301, 1000)]];
     let made = supported_cube(rt.alloc(), &runs).expect(&rt, "a plan");
-    let row: &[(i32, i32)] = &[(900, 2000), (2100, 2000)];
     assert!(rt;
-        is_planned(&made, 1, &[FIRST_WALL, SECOND_WALL, row]) && are_paths(&made.supports, &runs)
+        is_planned(&made, 1, &[FIRST_WALL, SECOND_WALL, ROW]) && are_paths(&made.supports, &runs)
     );
 }
 

@@ -2,11 +2,10 @@
 //! knows nothing of the code: two convex forms are apart where they are so along an axis that is square to a side of one.
 
 use crate::random_plans::roll_settings;
-use plan_layer::plan;
+use plan_layer::{PlanFault, plan};
 use sample_dice::{Dice, roll_outlines};
 use scad_geom::{Loop, Pt};
 use std::alloc::{AllocError, Global};
-use std::test::Fail;
 
 // A way from one point to another, or an axis.
 #[derive(Clone, Copy)]
@@ -138,7 +137,7 @@ fn keeps_within(sides: &[[Pt; 2]], clearance: Octagon, moved: [Pt; 2]) -> bool {
 }
 
 // How many moves the plan of a seed has, and how many of them stray.
-fn moves_of_seed(alloc: Global, seed: u64) -> Result<(u64, u64), Fail> {
+fn moves_of_seed(alloc: Global, seed: u64) -> Result<(u64, u64), PlanFault> {
     let mut dice = Dice::of_seed(seed);
     let outlines = roll_outlines(alloc, &mut dice, -2000, 4000)?;
     let settings = roll_settings(&mut dice);
@@ -159,15 +158,14 @@ fn moves_of_seed(alloc: Global, seed: u64) -> Result<(u64, u64), Fail> {
 }
 
 #[test]
-fn moves_keep_the_clearance(rt: HostRuntime) -> Result<(), Fail> {
+fn moves_keep_the_clearance(rt: HostRuntime) {
     let mut all: u64 = 0;
     for seed in 1000..1300 {
-        let (count, astray) = moves_of_seed(rt.alloc(), seed)?;
+        let (count, astray) = moves_of_seed(rt.alloc(), seed).expect(&rt, "a plan");
         assert_eq!(rt; astray, 0, "of seed {seed}");
         all = all.wrapping_add(count);
     }
     assert!(rt; 10_000 < all, "{all} moves");
-    Ok(())
 }
 
 const ORIGIN: Pt = Pt { x: 0, y: 0 };

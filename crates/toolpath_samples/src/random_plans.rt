@@ -2,12 +2,11 @@
 ghost use Rattle.scad_words.specs.Settings.{AreInRange};
 
 use crate::plans::USUAL;
-use plan_layer::plan;
+use plan_layer::{PlanFault, plan};
 use sample_dice::{Dice, roll_outlines};
 use scad_geom::Path;
 use scad_words::Settings;
 use std::alloc::{AllocError, Global};
-use std::test::Fail;
 
 // One to three walls of thin lines, with infill.
 pub(crate) fn roll_settings(dice: &mut Dice) -> Settings
@@ -40,7 +39,7 @@ fn check_number(before: i64, paths: &[Path]) -> i64 {
 }
 
 // The number of all plans of outlines from each of some seeds.
-fn number_of_seeds(alloc: Global, seeds: u64) -> Result<i64, Fail> {
+fn number_of_seeds(alloc: Global, seeds: u64) -> Result<i64, PlanFault> {
     let mut number = 0;
     'seeds: for seed in 0..seeds {
         let mut dice = Dice::of_seed(seed);
@@ -57,7 +56,7 @@ fn number_of_seeds(alloc: Global, seeds: u64) -> Result<i64, Fail> {
 }
 
 #[test]
-fn random_outlines_have_these_plans(rt: HostRuntime) -> Result<(), Fail> {
-    assert_eq!(rt; number_of_seeds(rt.alloc(), 100)?, 746_238_029);
-    Ok(())
+fn random_outlines_have_these_plans(rt: HostRuntime) {
+    let number = number_of_seeds(rt.alloc(), 100).expect(&rt, "memory");
+    assert_eq!(rt; number, 746_238_029);
 }

@@ -3,7 +3,6 @@
 use plan_infill::{Line, Run, runs};
 use sample_dice::{Dice, roll_outlines};
 use std::alloc::{AllocError, Global};
-use std::test::Fail;
 
 // A number by all runs in their order.
 fn check_number(before: i64, runs: &[Run]) -> i64 {
@@ -35,7 +34,7 @@ fn number_of_seeds(alloc: Global, seeds: u64) -> Result<i64, AllocError> {
 }
 
 #[test]
-fn random_outlines_have_these_runs(rt: HostRuntime) -> Result<(), Fail> {
-    assert_eq!(rt; number_of_seeds(rt.alloc(), 100)?, 985_221_228);
-    Ok(())
+fn random_outlines_have_these_runs(rt: HostRuntime) {
+    let number = number_of_seeds(rt.alloc(), 100).expect(&rt, "memory");
+    assert_eq!(rt; number, 985_221_228);
 }

@@ -3,6 +3,7 @@ ghost use Rattle.std.specs.Prelude.{◌≡◌, ◌≤◌, IfOk, length, All, vec
 ghost use Rattle.scad_geom.specs.Limits.{coordinate_limit};
 ghost use Rattle.scad_geom.specs.Within.{IsWithin};
 ghost use Rattle.plan_support.specs.Rows.{AreRows};
+ghost use Rattle.scad_words.specs.Numbers.{worker_limit};
 
 use crate::row_numbers::{with_paths, with_rows};
 use plan_support::{Covers, Rows, covers, spans, supports};
@@ -110,7 +111,7 @@ fn with_stack<R: Threads + Sync + Abort>(
     workers: u32,
 ) -> Numbers
     requires some { 1 ≤ workers }
-    requires few { workers ≤ 64 }
+    requires few { workers ≤ worker_limit }
 {
     let mut dice = Dice::of_seed(seed);
     let layers = roll_layers(alloc, &mut dice).expect(rt, "memory");
@@ -129,7 +130,7 @@ fn with_stack<R: Threads + Sync + Abort>(
 
 fn stacks<R: Threads + Sync + Abort>(rt: &R, alloc: Global, workers: u32) -> Numbers
     requires some { 1 ≤ workers }
-    requires few { workers ≤ 64 }
+    requires few { workers ≤ worker_limit }
 {
     let mut numbers = Numbers {
         rows: 0,
@@ -150,15 +151,11 @@ const EXPECTED: Numbers = Numbers {
 
 #[test]
 fn random_stacks_have_these_supports(rt: HostRuntime) {
-    assert_eq!(rt; stacks(&rt, rt.alloc(), 1), EXPECTED);
-}
-
-#[test]
-fn two_workers_find_the_same(rt: HostRuntime) {
-    assert_eq!(rt; stacks(&rt, rt.alloc(), 2), EXPECTED);
-}
-
-#[test]
-fn three_workers_find_the_same(rt: HostRuntime) {
-    assert_eq!(rt; stacks(&rt, rt.alloc(), 3), EXPECTED);
+    for &workers in &[1, 2, 3] {
+        assert_eq!(rt;
+            stacks(&rt, rt.alloc(), workers),
+            EXPECTED,
+            "{workers} workers"
+        );
+    }
 }

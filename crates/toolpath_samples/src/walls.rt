@@ -76,14 +76,6 @@ const FIRST_WALL: &[(i32, i32)] = &[(225, 225), (2775, 225), (2775, 2775), (225,
 
 const SECOND_WALL: &[(i32, i32)] = &[(675, 675), (2325, 675), (2325, 2325), (675, 2325)];
 
-#[test]
-fn walls_of_a_square_are_squares(rt: HostRuntime) {
-    let alloc = rt.alloc();
-    assert!(rt; have_walls(alloc, &SQUARE, 225, &[FIRST_WALL]));
-    assert!(rt; have_walls(alloc, &SQUARE, 675, &[SECOND_WALL]));
-    assert!(rt; have_walls(alloc, &SQUARE, 1500, &[]));
-}
-
 /// The corners of a square and of a hole in it.
 const FRAME: [[[u16; 2]; 4]; 2] = [
     [[0, 0], [10000, 0], [10000, 10000], [0, 10000]],
@@ -105,6 +97,10 @@ const FRAME_WALLS: [&[(i32, i32)]; 2] = [
 ];
 
 #[test]
-fn holes_have_walls(rt: HostRuntime) {
-    assert!(rt; have_walls(rt.alloc(), &FRAME, 225, &FRAME_WALLS));
+fn walls_go_along_squares_and_round_holes(rt: HostRuntime) {
+    let alloc = rt.alloc();
+    assert!(rt; have_walls(alloc, &SQUARE, 225, &[FIRST_WALL]));
+    assert!(rt; have_walls(alloc, &SQUARE, 675, &[SECOND_WALL]));
+    assert!(rt; have_walls(alloc, &SQUARE, 1500, &[]));
+    assert!(rt; have_walls(alloc, &FRAME, 225, &FRAME_WALLS));
 }

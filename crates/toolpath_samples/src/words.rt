@@ -209,51 +209,47 @@ fn other_words_are_a_usage_fault(rt: HostRuntime) {
     }
 }
 
-fn gives(alloc: Global, text: &str, walls: u32, layer_height: u32) -> bool {
+/// How many walls, how high a layer, how far support lines are apart, and how far from the part.
+fn given(alloc: Global, text: &str) -> Option<[u32; 5]> {
     match read_settings(alloc, text.as_bytes()) {
-        Ok(settings) => {
-            settings.walls == walls
-                && settings.layer_height == layer_height
-                && settings.filament_area == 2_405_282
-        }
-        Err(_) => false,
+        Ok(settings) => Some([
+            settings.walls,
+            settings.layer_height,
+            settings.support_spacing,
+            settings.support_gap,
+            settings.filament_area,
+        ]),
+        Err(_) => None,
     }
 }
 
 #[test]
 fn a_text_gives_the_keys_that_it_has(rt: HostRuntime) {
-    for &(text, walls, layer_height) in &[
-        ("", 2, 200),
-        ("\u{feff}# none\r\n", 2, 200),
-        ("walls = 1", 1, 200),
-        ("walls = 10\nlayer_height = 20", 10, 20),
-        ("layer_height = 1_000 # most\nwalls = 0x3\n", 3, 1000),
-        ("\"walls\" = +4", 4, 200),
-    ] {
-        assert!(rt; gives(rt.alloc(), text, walls, layer_height), "{text}");
-    }
-}
-
-fn gives_supports(alloc: Global, text: &str, spacing: u32, gap: u32) -> bool {
-    match read_settings(alloc, text.as_bytes()) {
-        Ok(settings) => settings.support_spacing == spacing && settings.support_gap == gap,
-        Err(_) => false,
-    }
-}
-
-#[test]
-fn a_text_gives_the_supports(rt: HostRuntime) {
-    for &(text, spacing, gap) in &[
-        ("", 0, 300),
-        ("support_spacing = 0\nsupport_gap = 0", 0, 0),
-        ("support_spacing = 500", 500, 300),
+    for &(text, walls, layer_height, spacing, gap) in &[
+        ("", 2, 200, 0, 300),
+        ("\u{feff}# none\r\n", 2, 200, 0, 300),
+        ("walls = 1", 1, 200, 0, 300),
+        ("walls = 10\nlayer_height = 20", 10, 20, 0, 300),
+        (
+            "layer_height = 1_000 # most\nwalls = 0x3\n",
+            3,
+            1000,
+            0,
+            300,
+        ),
+        ("\"walls\" = +4", 4, 200, 0, 300),
+        ("support_spacing = 0\nsupport_gap = 0", 2, 200, 0, 0),
+        ("support_spacing = 500", 2, 200, 500, 300),
         (
             "support_gap = 10_000\nsupport_spacing = 100_000",
+            2,
+            200,
             100_000,
             10_000,
         ),
     ] {
-        assert!(rt; gives_supports(rt.alloc(), text, spacing, gap), "{text}");
+        let wanted = [walls, layer_height, spacing, gap, 2_405_282];
+        assert!(rt; given(rt.alloc(), text) == Some(wanted), "{text}");
     }
 }
 

@@ -8,7 +8,6 @@ use scad_io::{Desk, MemoryDesk, NullDesk, Out, ReadEnd, RealDesk, read_all, writ
 use std::alloc::{AllocError, Global};
 use std::process::Abort;
 use std::rt::Files;
-use std::test::Fail;
 use std::{env, fs, process};
 
 // More than two pieces of a read.
@@ -156,10 +155,13 @@ fn read_whole(
     (text, desk.faults())
 }
 
-fn is_text(read: &Result<Text, ReadEnd>, wanted: &[u8]) -> bool {
+// The text that was read, or how the read ended.
+fn told(read: &Result<Text, ReadEnd>) -> &[u8] {
     match read {
-        Ok(text) => text.as_slice() == wanted,
-        Err(_) => false,
+        Ok(text) => text.as_slice(),
+        Err(ReadEnd::Long) => b"long",
+        Err(ReadEnd::Fault) => b"fault",
+        Err(ReadEnd::Memory) => b"memory",
     }
 }
 
@@ -170,76 +172,59 @@ fn is_created(rt: &impl Abort, alloc: Global, name_len: usize) -> bool {
 }
 
 #[test]
-fn a_name_past_its_room_fails_at_create(rt: HostRuntime) {
+fn a_name_past_its_room_opens_and_is_not_created(rt: HostRuntime) {
     assert!(rt; is_created(&rt, rt.alloc(), 4_096));
     assert!(rt; !is_created(&rt, rt.alloc(), 4_097));
-}
-
-#[test]
-fn a_name_past_its_room_opens(rt: HostRuntime) {
     let name = long_name(rt.alloc(), 5_000).expect(&rt, "a name");
     let (read, _) = read_whole(&rt, rt.alloc(), &[], name.as_str(), None);
-    assert!(rt; is_text(&read, b"cube(3);"));
+    assert!(rt; told(&read) == b"cube(3);".as_slice());
 }
 
+/// A file, the calls that fail, the limit, what is told of the read, and how many calls failed.
+const READS: [(&str, &[u64], Option<usize>, &[u8], u64); 6] = [
+    ("a.scad", &[], None, b"cube(1);", 0),
+    ("a.scad", &[], Some(8), b"cube(1);", 0),
+    ("a.scad", &[], Some(7), b"long", 0),
+    ("a.scad", &[], Some(0), b"long", 0),
+    ("long.scad", &[], None, &[b'\n'; LONG], 0),
+    ("long.scad", &[2], None, b"fault", 1),
+];
+
 #[test]
-fn an_input_is_read_to_its_end_or_past_a_limit(rt: HostRuntime) {
-    for &(limit, fits) in &[
-        (None, true),
-        (Some(8), true),
-        (Some(7), false),
-        (Some(0), false),
-    ] {
-        let (read, faults) = read_whole(&rt, rt.alloc(), &[], "a.scad", limit);
-        let is_long = matches!(&read, Err(ReadEnd::Long));
-        assert!(rt; is_text(&read, b"cube(1);") == fits && is_long != fits);
-        assert!(rt; faults == 0);
+fn an_input_is_read_to_its_end_its_limit_or_a_fault(rt: HostRuntime) {
+    for &(name, fails, limit, wanted, faults) in &READS {
+        let (read, failed) = read_whole(&rt, rt.alloc(), fails, name, limit);
+        assert!(rt; told(&read) == wanted && failed == faults, "{name}");
+    }
+}
+
+/// The calls that fail, a piece that is written, one that fails, and what is there then. For an empty piece no call is made.
+const PIECES: [(&[u64], &[u8], &[u8], &[u8]); 2] = [
+    (&[0], b"", b"a", b""),
+    (&[], b"abc", b"def", b"abcde"),
+];
+
+#[test]
+fn a_piece_is_written_whole_or_in_part(rt: HostRuntime) {
+    for &(fails, whole, cut, written) in &PIECES {
+        let mut desk = desk(&rt, rt.alloc(), fails, 5);
+        assert!(rt; write_all(&mut desk, Out::Report, whole).is_ok());
+        assert!(rt; write_all(&mut desk, Out::Report, cut).is_err());
+        assert!(rt; desk.written(Out::Report) == written && desk.faults() == 1);
     }
 }
 
 #[test]
-fn a_long_input_is_read_to_its_end_or_to_a_fault(rt: HostRuntime) {
-    let (read, _) = read_whole(&rt, rt.alloc(), &[], "long.scad", None);
-    assert!(rt; is_text(&read, &[b'\n'; LONG]));
-    let (read, faults) = read_whole(&rt, rt.alloc(), &[2], "long.scad", None);
-    assert!(rt; matches!(&read, Err(ReadEnd::Fault)) && faults == 1);
-}
-
-#[test]
-fn a_piece_whose_write_is_listed_fails(rt: HostRuntime) {
-    let mut desk = desk(&rt, rt.alloc(), &[0], 5);
-    assert!(rt;
-        write_all(&mut desk, Out::Report, b"").is_ok(),
-        "no call is made"
-    );
-    assert!(rt; write_all(&mut desk, Out::Report, b"a").is_err());
-}
-
-#[test]
-fn a_piece_is_written_whole_or_in_part(rt: HostRuntime) {
-    let mut desk = desk(&rt, rt.alloc(), &[], 5);
-    assert!(rt; write_all(&mut desk, Out::Report, b"abc").is_ok());
-    assert!(rt; write_all(&mut desk, Out::Report, b"def").is_err());
-    assert!(rt; desk.written(Out::Report) == b"abcde".as_slice());
-    assert!(rt; desk.faults() == 1);
-}
-
-#[test]
-fn a_desk_that_keeps_nothing_reads_nothing(rt: HostRuntime) {
-    let mut desk = NullDesk::new();
-    assert!(rt; desk.open("a.scad").is_ok());
-    let read = read_all(rt.alloc(), &mut desk, None);
-    assert!(rt; is_text(&read, b""));
-}
-
-#[test]
-fn a_desk_that_keeps_nothing_takes_all(rt: HostRuntime) {
+fn a_desk_that_keeps_nothing_reads_nothing_and_takes_all(rt: HostRuntime) {
     let mut desk = NullDesk::new();
     assert!(rt; desk.create(Out::Gcode, "o.gcode").is_ok());
     assert!(rt; desk.create(Out::Cli, "o.cli").is_ok());
     assert!(rt; matches!(desk.write(Out::Report, &[b'x'; LONG]), Ok(LONG)));
     assert!(rt; matches!(desk.write(Out::Gcode, &[b'x'; LONG]), Ok(LONG)));
     assert!(rt; write_all(&mut desk, Out::Cli, b"$$HEADERSTART\n").is_ok());
+    assert!(rt; desk.open("a.scad").is_ok());
+    let read = read_all(rt.alloc(), &mut desk, None);
+    assert!(rt; told(&read).is_empty());
 }
 
 fn write_file<R: Files + Print + Abort>(rt: &R, name: &str) {
@@ -257,14 +242,14 @@ fn read_file<R: Files + Print + Abort>(rt: &R, alloc: Global, name: &str) -> Opt
 }
 
 #[test]
-fn a_real_file_is_written_and_read_again(rt: HostRuntime) -> Result<(), Fail> {
+fn a_real_file_is_written_and_read_again(rt: HostRuntime) {
     let alloc = rt.alloc();
-    let folder = env::temp_dir(&rt)?.into_string();
-    let name = format!(in alloc; "{folder}/scad_io_{}", process::id(rt.process()))?;
+    let folder = env::temp_dir(&rt).expect(&rt, "a folder").into_string();
+    let name = format!(in alloc; "{folder}/scad_io_{}", process::id(rt.process()));
+    let name = name.expect(&rt, "memory");
     write_file(&rt, name.as_str());
     let text = read_file(&rt, alloc, name.as_str()).expect(&rt, "the file");
-    fs::remove_file(&rt, name.as_str())?;
+    fs::remove_file(&rt, name.as_str()).expect(&rt, "no file");
     assert_eq!(rt; text.as_slice(), b"$$HEADERSTART\n".as_slice());
     assert!(rt; read_file(&rt, alloc, name.as_str()).is_none());
-    Ok(())
 }

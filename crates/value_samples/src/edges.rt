@@ -47,24 +47,33 @@ fn an_edge_reaches_the_heights_of_its_ends(rt: HostRuntime) {
 }
 
 #[test]
-fn heights_compare_over_any_divisors(rt: HostRuntime) {
+fn heights_and_edges_compare(rt: HostRuntime) {
     let half = Level { n: 2001, d: 2 };
     let same = Level {
         n: 4_002_000_000_000,
         d: 4_000_000_000,
     };
-    assert!(rt; cmp_level(&half, &same) == Ordering::Equal);
-    assert!(rt; cmp_level(&half, &Level { n: 10_006, d: 10 }) == Ordering::Less);
-    assert!(rt; cmp_level(&half, &Level { n: 3001, d: 3 }) == Ordering::Greater);
-}
-
-#[test]
-fn edges_lie_left_right_and_on(rt: HostRuntime) {
-    assert!(rt; cmp_x_at(&E, &F, &ONE) == Ordering::Less);
-    assert!(rt; cmp_x_at(&F, &E, &ONE) == Ordering::Greater);
-    assert!(rt; cmp_x_at(&F, &G, &ONE) == Ordering::Equal);
-    assert!(rt; cmp_slope(&F, &G) == Ordering::Less);
-    assert!(rt; cmp_slope(&E, &E) == Ordering::Equal);
+    let found = [
+        cmp_level(&half, &same),
+        cmp_level(&half, &Level { n: 10_006, d: 10 }),
+        cmp_level(&half, &Level { n: 3001, d: 3 }),
+        cmp_x_at(&F, &G, &ONE),
+        cmp_x_at(&E, &F, &ONE),
+        cmp_x_at(&F, &E, &ONE),
+        cmp_slope(&E, &E),
+        cmp_slope(&F, &G),
+    ];
+    let wanted = [
+        Ordering::Equal,
+        Ordering::Less,
+        Ordering::Greater,
+        Ordering::Equal,
+        Ordering::Less,
+        Ordering::Greater,
+        Ordering::Equal,
+        Ordering::Less,
+    ];
+    assert!(rt; found == wanted);
     let sides = [
         side(&E, Pt { x: 0, y: 1 }),
         side(&E, Pt { x: 1, y: 0 }),

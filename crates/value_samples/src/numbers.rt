@@ -23,12 +23,14 @@ fn applied(operator: char, a: i64, b: i64) -> Result<Num, NumFault> {
         '-' => a.sub(b),
         '*' => a.mul(b),
         '/' => a.div(b),
-        _ => a.rem(b),
+        '%' => a.rem(b),
+        '√' if a.millionths() >= 0 => Ok(a.sqrt()),
+        _ => Ok(a),
     }
 }
 
-/// The operator, the operands, and what they give.
-const RESULTS: [(char, i64, i64, i64); 43] = [
+/// The operator, the operands, and what they give. A root has one operand, and so has `=`, which gives it back.
+const RESULTS: [(char, i64, i64, i64); 56] = [
     ('+', 1_000_000_000_000_000, 1, RANGE),
     ('+', 1_000_000_000_000_000, -1_000_000_000_000_000, 0),
     ('+', -1_000_000_000_000_000, -1, RANGE),
@@ -72,10 +74,24 @@ const RESULTS: [(char, i64, i64, i64); 43] = [
     ('%', -5, 1_000_000_000_000_000, -5),
     ('%', -1_000_000_000_000_000, -1, 0),
     ('%', 1, 0, ZERO_DIVISOR),
+    ('√', 0, 0, 0),
+    ('√', 1, 0, 1_000),
+    ('√', 2, 0, 1_414),
+    ('√', 999_999, 0, 999_999),
+    ('√', 1_000_000, 0, 1_000_000),
+    ('√', 2_000_000, 0, 1_414_213),
+    ('√', 4_000_000, 0, 2_000_000),
+    ('√', 152_399_025_000_000, 0, 12_345_000_000),
+    ('√', 1_000_000_000_000_000, 0, 31_622_776_601),
+    ('√', 999_999_999_999_999, 0, 31_622_776_601),
+    ('=', 1_000_000_000_000_001, 0, RANGE),
+    ('=', -1_000_000_000_000_001, 0, RANGE),
+    ('=', -1_000_000_000_000_000, 0, -1_000_000_000_000_000),
 ];
 
 #[test]
 fn results_are_rounded_once(rt: HostRuntime) {
+    assert!(rt; Num::within(-1) < Num::within(0));
     for &(operator, a, b, wanted) in &RESULTS {
         assert!(rt;
             millionths(applied(operator, a, b)) == wanted,
@@ -146,41 +162,4 @@ fn whole_numbers_are_nearest(rt: HostRuntime) {
     for row in NEAREST {
         assert!(rt; nearest(row[0]) == row, "at {}", row[0]);
     }
-}
-
-fn root(square: i64) -> i64 {
-    match Num::of(square) {
-        Ok(x) if x.millionths() >= 0 => x.sqrt().millionths(),
-        _ => RANGE,
-    }
-}
-
-#[test]
-fn roots_are_cut(rt: HostRuntime) {
-    for &(square, wanted) in &[
-        (0, 0),
-        (1, 1_000),
-        (2, 1_414),
-        (999_999, 999_999),
-        (1_000_000, 1_000_000),
-        (2_000_000, 1_414_213),
-        (4_000_000, 2_000_000),
-        (152_399_025_000_000, 12_345_000_000),
-        (1_000_000_000_000_000, 31_622_776_601),
-        (999_999_999_999_999, 31_622_776_601),
-    ] {
-        assert!(rt; root(square) == wanted, "at {square}");
-    }
-}
-
-#[test]
-fn numbers_end_at_a_thousand_million(rt: HostRuntime) {
-    for &(given, wanted) in &[
-        (1_000_000_000_000_001, RANGE),
-        (-1_000_000_000_000_001, RANGE),
-        (-1_000_000_000_000_000, -1_000_000_000_000_000),
-    ] {
-        assert!(rt; millionths(Num::of(given)) == wanted, "at {given}");
-    }
-    assert!(rt; Num::within(-1) < Num::within(0));
 }

@@ -34,51 +34,29 @@ fn slants_are_rounded_down(rt: HostRuntime) {
 
 // Each row stands at a border: a neighbouring point has the other answer.
 #[test]
-fn an_octagon_meets_a_diagonal_edge_that_touches_it(rt: HostRuntime) {
-    for &(x, y, half, s, u, meets) in &[
-        (-3, 8, Half::Cell, 3, 4, true),
-        (2, 12, Half::Cell, 3, 4, false),
-        (6, -4, Half::Cell, 5, 7, true),
-        (12, 5, Half::Cell, 5, 7, false),
-        (-1, 9, Half::Whole, 4, 2, true),
-        (9, -3, Half::Cell, 4, 2, false),
+fn an_octagon_meets_an_edge_that_touches_it(rt: HostRuntime) {
+    for &(edge, x, y, half, s, u, meets) in &[
+        (FALLING, -3, 8, Half::Cell, 3, 4, true),
+        (FALLING, 2, 12, Half::Cell, 3, 4, false),
+        (FALLING, 6, -4, Half::Cell, 5, 7, true),
+        (FALLING, 12, 5, Half::Cell, 5, 7, false),
+        (FALLING, -1, 9, Half::Whole, 4, 2, true),
+        (FALLING, 9, -3, Half::Cell, 4, 2, false),
+        (RISING, -3, -2, Half::Cell, 3, 4, true),
+        (RISING, 0, 3, Half::Cell, 3, 4, false),
+        (RISING, -4, 3, Half::Whole, 5, 7, true),
+        (RISING, -5, -4, Half::Cell, 5, 7, false),
+        (RISING, 9, 4, Half::Whole, 4, 2, true),
+        (RISING, -3, 0, Half::Whole, 4, 2, false),
+        (STEEP_LEFT, 1, 7, Half::Whole, 3, 4, true),
+        (STEEP_LEFT, 2, 6, Half::Whole, 3, 4, false),
+        (STEEP_LEFT, -6, 1, Half::Cell, 5, 7, true),
+        (STEEP_LEFT, 6, -2, Half::Whole, 5, 7, false),
+        (STEEP_LEFT, -5, 13, Half::Whole, 4, 2, true),
+        (STEEP_LEFT, -3, 0, Half::Cell, 4, 2, false),
     ] {
         assert!(rt;
-            octagon_meets(&FALLING, Pt { x, y }, half, s, u) == meets,
-            "at {x}, {y}, {s}, {u}"
-        );
-    }
-}
-
-#[test]
-fn an_octagon_meets_a_rising_edge_that_touches_it(rt: HostRuntime) {
-    for &(x, y, half, s, u, meets) in &[
-        (-3, -2, Half::Cell, 3, 4, true),
-        (0, 3, Half::Cell, 3, 4, false),
-        (-4, 3, Half::Whole, 5, 7, true),
-        (-5, -4, Half::Cell, 5, 7, false),
-        (9, 4, Half::Whole, 4, 2, true),
-        (-3, 0, Half::Whole, 4, 2, false),
-    ] {
-        assert!(rt;
-            octagon_meets(&RISING, Pt { x, y }, half, s, u) == meets,
-            "at {x}, {y}, {s}, {u}"
-        );
-    }
-}
-
-#[test]
-fn an_octagon_meets_a_steep_edge_that_touches_it(rt: HostRuntime) {
-    for &(x, y, half, s, u, meets) in &[
-        (1, 7, Half::Whole, 3, 4, true),
-        (2, 6, Half::Whole, 3, 4, false),
-        (-6, 1, Half::Cell, 5, 7, true),
-        (6, -2, Half::Whole, 5, 7, false),
-        (-5, 13, Half::Whole, 4, 2, true),
-        (-3, 0, Half::Cell, 4, 2, false),
-    ] {
-        assert!(rt;
-            octagon_meets(&STEEP_LEFT, Pt { x, y }, half, s, u) == meets,
+            octagon_meets(&edge, Pt { x, y }, half, s, u) == meets,
             "at {x}, {y}, {s}, {u}"
         );
     }

@@ -121,45 +121,30 @@ const ROUND_SMALL: [Pt; 6] = [
     Pt { x: -2, y: 0 },
 ];
 
-// An edge and the same one backwards have one ring.
+// Edges of sixteen directions, a point, and an edge by an octagon whose corners fall together. An edge and the same one
+// backwards have one ring.
 #[test]
-fn rings_of_sixteen_directions(rt: HostRuntime) {
-    for &(x, y, corners) in &[
-        (400, 0, EAST.as_slice()),
-        (400, 150, EAST_BY_NORTH.as_slice()),
-        (300, 300, NORTH_EAST.as_slice()),
-        (150, 400, NORTH_BY_EAST.as_slice()),
-        (0, 400, NORTH.as_slice()),
-        (-150, 400, NORTH_BY_WEST.as_slice()),
-        (-300, 300, NORTH_WEST.as_slice()),
-        (-400, 150, WEST_BY_NORTH.as_slice()),
+fn rings_go_round_edges_and_points(rt: HostRuntime) {
+    for &(x, y, width, corners) in &[
+        (400, 0, 225, EAST.as_slice()),
+        (400, 150, 225, EAST_BY_NORTH.as_slice()),
+        (300, 300, 225, NORTH_EAST.as_slice()),
+        (150, 400, 225, NORTH_BY_EAST.as_slice()),
+        (0, 400, 225, NORTH.as_slice()),
+        (-150, 400, 225, NORTH_BY_WEST.as_slice()),
+        (-300, 300, 225, NORTH_WEST.as_slice()),
+        (-400, 150, 225, WEST_BY_NORTH.as_slice()),
+        (0, 0, 225, STILL.as_slice()),
+        (40, 10, 2, ROUND_SMALL.as_slice()),
     ] {
         let end = Pt { x, y };
         assert!(rt;
-            ring(&Edge { a: ORIGIN, b: end }, 225).as_slice() == corners,
+            ring(&Edge { a: ORIGIN, b: end }, width).as_slice() == corners,
             "to {x}, {y}"
         );
         assert!(rt;
-            ring(&Edge { a: end, b: ORIGIN }, 225).as_slice() == corners,
+            ring(&Edge { a: end, b: ORIGIN }, width).as_slice() == corners,
             "from {x}, {y}"
         );
     }
-}
-
-#[test]
-fn the_ring_of_a_point_is_the_octagon(rt: HostRuntime) {
-    let point = Edge {
-        a: ORIGIN,
-        b: ORIGIN,
-    };
-    assert!(rt; ring(&point, 225).as_slice() == STILL.as_slice());
-}
-
-#[test]
-fn corners_of_a_small_octagon_fall_together(rt: HostRuntime) {
-    let rising = Edge {
-        a: ORIGIN,
-        b: Pt { x: 40, y: 10 },
-    };
-    assert!(rt; ring(&rising, 2).as_slice() == ROUND_SMALL.as_slice());
 }

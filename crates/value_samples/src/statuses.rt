@@ -77,73 +77,56 @@ fn faults_end_with_their_lines(rt: HostRuntime) {
     );
 }
 
-/// Budgets that are passed at a place.
-const PLACED: [(Limit, &str); 5] = [
-    (Limit::Steps, "budget 2 Steps at 1:27\n"),
-    (Limit::Depth, "budget 3 Depth at 1:27\n"),
-    (Limit::Leaves, "budget 4 Leaves at 1:27\n"),
-    (Limit::Triangles, "budget 5 Triangles at 1:27\n"),
-    (Limit::HullPoints, "budget 10 HullPoints at 1:27\n"),
-];
-
-/// Budgets of a layer, with its number and a count.
-const OF_LAYER: [(Limit, u32, u64, &str); 3] = [
-    (
-        Limit::LayerEdges,
-        4,
-        20010,
-        "budget 7 LayerEdges layer 4 count 20010\n",
-    ),
-    (
-        Limit::LayerCrossings,
-        0,
-        2000001,
-        "budget 8 LayerCrossings layer 0 count 2000001\n",
-    ),
-    (
-        Limit::LayerMoves,
-        4294967295,
-        18446744073709551615,
-        "budget 9 LayerMoves layer 4294967295 count 18446744073709551615\n",
-    ),
-];
-
-fn budget_ends_with(alloc: Global, budget: Budget, line: &str) -> bool {
-    ends_with(alloc, &Status::Over(budget), line)
-}
+const PLACE: Place = Place { line: 1, col: 27 };
 
 #[test]
 fn budgets_end_with_their_lines(rt: HostRuntime) {
-    let alloc = rt.alloc();
-    for &(kind, line) in &PLACED {
-        let budget = Budget::placed(kind, Place { line: 1, col: 27 });
-        assert!(rt; budget_ends_with(alloc, budget, line), "{line}");
-    }
-    for &(kind, layer, count, line) in &OF_LAYER {
-        let budget = Budget::of_layer(kind, layer, count);
-        assert!(rt; budget_ends_with(alloc, budget, line), "{line}");
-    }
-}
-
-#[test]
-fn other_budgets_end_with_their_lines(rt: HostRuntime) {
-    let alloc = rt.alloc();
-    assert!(rt; budget_ends_with(alloc, Budget::source_long(), "budget 1 SourceLong\n"));
-    assert!(rt;
-        budget_ends_with(
-            alloc,
-            Budget::layers(50000),
-            "budget 6 Layers count 50000\n"
-        )
-    );
-    assert!(rt;
-        budget_ends_with(
-            alloc,
+    for &(budget, line) in &[
+        (Budget::source_long(), "budget 1 SourceLong\n"),
+        (
+            Budget::placed(Limit::Steps, PLACE),
+            "budget 2 Steps at 1:27\n",
+        ),
+        (
+            Budget::placed(Limit::Depth, PLACE),
+            "budget 3 Depth at 1:27\n",
+        ),
+        (
+            Budget::placed(Limit::Leaves, PLACE),
+            "budget 4 Leaves at 1:27\n",
+        ),
+        (
+            Budget::placed(Limit::Triangles, PLACE),
+            "budget 5 Triangles at 1:27\n",
+        ),
+        (Budget::layers(50000), "budget 6 Layers count 50000\n"),
+        (
+            Budget::of_layer(Limit::LayerEdges, 4, 20010),
+            "budget 7 LayerEdges layer 4 count 20010\n",
+        ),
+        (
+            Budget::of_layer(Limit::LayerCrossings, 0, 2000001),
+            "budget 8 LayerCrossings layer 0 count 2000001\n",
+        ),
+        (
+            Budget::of_layer(Limit::LayerMoves, 4294967295, 18446744073709551615),
+            "budget 9 LayerMoves layer 4294967295 count 18446744073709551615\n",
+        ),
+        (
+            Budget::placed(Limit::HullPoints, PLACE),
+            "budget 10 HullPoints at 1:27\n",
+        ),
+        (
             Budget::support_runs(10_000_001),
             "budget 11 SupportRuns count 10000001\n",
-        )
-    );
-    assert!(rt; budget_ends_with(alloc, Budget::file_long(), "budget 12 FileLong\n"));
+        ),
+        (Budget::file_long(), "budget 12 FileLong\n"),
+    ] {
+        assert!(rt;
+            ends_with(rt.alloc(), &Status::Over(budget), line),
+            "{line}"
+        );
+    }
 }
 
 const BAD_FILES: [(BadKind, u64, u64, &str); 5] = [

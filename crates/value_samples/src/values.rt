@@ -15,29 +15,14 @@ fn all_hold(rt: &(impl Abort + AllocGlobal), rows: &str) {
     }
 }
 
-#[test]
-fn operators_give_what_the_reference_gives(rt: HostRuntime) {
-    all_hold(&rt, OPERATIONS);
-}
+/// Operators between and before values, parts, texts and negatives, and calls.
+const TABLES: [&str; 5] = [OPERATIONS, PREFIXED, PARTS, TEXTS, CALLS];
 
 #[test]
-fn operators_stand_before_every_kind(rt: HostRuntime) {
-    all_hold(&rt, PREFIXED);
-}
-
-#[test]
-fn values_have_parts(rt: HostRuntime) {
-    all_hold(&rt, PARTS);
-}
-
-#[test]
-fn values_have_texts_and_negatives(rt: HostRuntime) {
-    all_hold(&rt, TEXTS);
-}
-
-#[test]
-fn calls_give_what_the_table_has(rt: HostRuntime) {
-    all_hold(&rt, CALLS);
+fn rows_give_what_the_reference_gives(rt: HostRuntime) {
+    for &rows in &TABLES {
+        all_hold(&rt, rows);
+    }
 }
 
 /// Each sign between the operands gives what stands at its place.

@@ -7,6 +7,7 @@ use Rattle.std.proofs.lemmas.Bool.Decides.{nat_tests}
 use Rattle.std.proofs.lemmas.Int.{ints, clamps}
 use Rattle.std.proofs.lemmas.List.Elements.{recursion_from_All}
 use Rattle.scad_geom.specs.declared.point3.Pt3.{Pt3}
+use Rattle.scad_geom.specs.Limits.{coordinate_limit}
 use Rattle.scad_geom.specs.PointRange.{is_in_range}
 use Rattle.scad_solid.specs.declared.triangle.Triangle.{Triangle}
 use Rattle.scad_solid.specs.Height.{top_of as corner_top, highest_of, higher_of}
@@ -80,19 +81,21 @@ mutual
       (least_low rest (all_back IsSolid (surfaces s) (all_surfaces rest) h))
 
 -- the last layer has its plane below the top
-last_below : (top : Option ℤ) (h n : ℕ) → h ≤ 1000 → IsLow top → is_below top h n ≡ true → (n + 1) * h ≤ 1100000
+last_below : (top : Option ℤ) (h n : ℕ) → h ≤ 1000 → IsLow top → is_below top h n ≡ true
+    → (n + 1) * h ≤ coordinate_limit
 last_below None h n small low below = absurd (cc)
 last_below (Some z) h n small low below =
     let spread : (n + 1) * h ≡ n * h + h = grind arith in omega (arith, ints, low, below, small, spread)
 
-pub layers_in_range : (s : Solid) (h : ℕ) → AreSolids s → 0 < h → h ≤ 1000 → layers s h * h ≤ 1100000
+pub layers_in_range : (s : Solid) (h : ℕ) → AreSolids s → 0 < h → h ≤ 1000 → layers s h * h ≤ coordinate_limit
 layers_in_range s h solids some small = by_count (layers s h) (λ layer. layers_hold.below s h layer some)
   where
-    by_count : (count : ℕ) → ((layer : ℕ) → nat_lt layer count ≡ is_below (top_of s) h layer) → count * h ≤ 1100000
+    by_count : (count : ℕ) → ((layer : ℕ) → nat_lt layer count ≡ is_below (top_of s) h layer)
+        → count * h ≤ coordinate_limit
     by_count zero below = omega arith
     by_count (suc n) below =
         let one : n + 1 ≡ suc n = omega arith in
         let there : nat_lt n (suc n) ≡ true = grind (arith, nat_tests) in
-        subst (λ (k : ℕ). k * h ≤ 1100000) one
+        subst (λ (k : ℕ). k * h ≤ coordinate_limit) one
         (last_below (top_of s) h n small (tree_low s (recursion_from_All IsSolid (surfaces s) solids))
         (sym (below n) ∙ there))

@@ -67,20 +67,21 @@ is_below : (n most : ℕ) → n ≤ most → nat_le n most ≡ true
 is_below n most h = grind (arith, nat_tests)
 
 travel_in_range : (tx ty tf : List ℕ) (x y f : ℤ) → number 3 tx ≡ Some x → number 3 ty ≡ Some y
-    → number 5 tf ≡ Some f → nat_le (unsigned_abs x) 1100000 ≡ true → nat_le (unsigned_abs y) 1100000 ≡ true
+    → number 5 tf ≡ Some f → nat_le (unsigned_abs x) coordinate_limit ≡ true
+    → nat_le (unsigned_abs y) coordinate_limit ≡ true
     → AreInRange (codes "G1" ∷ (88 ∷ tx) ∷ (89 ∷ ty) ∷ (70 ∷ tf) ∷ [])
 unfolding command_of with_words with_word takes was_given with_number limited
 travel_in_range tx ty tf x y f ex ey ef lx ly s = rw (ex, ey, ef, lx, ly) refl
 
 print_in_range : (tx ty te tf : List ℕ) (x y e f : ℤ) → number 3 tx ≡ Some x → number 3 ty ≡ Some y
-    → number 5 te ≡ Some e → number 5 tf ≡ Some f → nat_le (unsigned_abs x) 1100000 ≡ true
-    → nat_le (unsigned_abs y) 1100000 ≡ true → nat_le (unsigned_abs e) 2000000000000000000 ≡ true
+    → number 5 te ≡ Some e → number 5 tf ≡ Some f → nat_le (unsigned_abs x) coordinate_limit ≡ true
+    → nat_le (unsigned_abs y) coordinate_limit ≡ true → nat_le (unsigned_abs e) 2000000000000000000 ≡ true
     → AreInRange (codes "G1" ∷ (88 ∷ tx) ∷ (89 ∷ ty) ∷ (69 ∷ te) ∷ (70 ∷ tf) ∷ [])
 unfolding command_of with_words with_word takes was_given with_number limited
 print_in_range tx ty te tf x y e f ex ey ee ef lx ly le s = rw (ex, ey, ee, ef, lx, ly, le) refl
 
 height_in_range : (tz tf : List ℕ) (z f : ℤ) → number 3 tz ≡ Some z → number 5 tf ≡ Some f
-    → nat_le (unsigned_abs z) 1100000 ≡ true → AreInRange (codes "G1" ∷ (90 ∷ tz) ∷ (70 ∷ tf) ∷ [])
+    → nat_le (unsigned_abs z) coordinate_limit ≡ true → AreInRange (codes "G1" ∷ (90 ∷ tz) ∷ (70 ∷ tf) ∷ [])
 unfolding command_of with_words with_word takes was_given with_number limited
 height_in_range tz tf z f ez ef lz s = rw (ez, ef, lz) refl
 
@@ -92,8 +93,8 @@ module _ (rates : Rates) where
       (leads_words (travel_words rates p) (travel_are_words rates p short.0 short.1 feed)
       (travel_in_range (millimetres p.x) (millimetres p.y) (decimal rates.travel_feed) p.x p.y
       (pos (rates.travel_feed * 10 ^ 5)) (millimetres_back p.x short.0) (millimetres_back p.y short.1)
-      (decimal_back rates.travel_feed feed) (is_below (unsigned_abs p.x) 1100000 within.x)
-      (is_below (unsigned_abs p.y) 1100000 within.y)))
+      (decimal_back rates.travel_feed feed) (is_below (unsigned_abs p.x) coordinate_limit within.x)
+      (is_below (unsigned_abs p.y) coordinate_limit within.y)))
 
   pub leads_print : (p : Pt) (e : ℕ) → IsShortPoint p → IsShort rates.print_feed → IsWithin coordinate_limit p
       → e ≤ 2000000000000000000 → LeadsInRange (print_line rates p e)
@@ -104,16 +105,16 @@ module _ (rates : Rates) where
       (print_in_range (millimetres p.x) (millimetres p.y) (fixed 5 e) (decimal rates.print_feed) p.x p.y (pos e)
       (pos (rates.print_feed * 10 ^ 5)) (millimetres_back p.x short.0) (millimetres_back p.y short.1)
       (amount_back e short_e) (decimal_back rates.print_feed feed)
-      (is_below (unsigned_abs p.x) 1100000 within.x) (is_below (unsigned_abs p.y) 1100000 within.y)
+      (is_below (unsigned_abs p.x) coordinate_limit within.x) (is_below (unsigned_abs p.y) coordinate_limit within.y)
       (is_below e 2000000000000000000 most)))
 
-  pub leads_height : (z : ℕ) → IsShort rates.travel_feed → z ≤ 1100000 → LeadsInRange (height_line rates z)
+  pub leads_height : (z : ℕ) → IsShort rates.travel_feed → z ≤ coordinate_limit → LeadsInRange (height_line rates z)
   leads_height z feed most =
       let short_z : z < 10 ^ 64 = omega (arith, most) in
       subst LeadsInRange (sym (height_line_is rates z))
       (leads_words (height_words rates z) (height_are_words rates z short_z feed)
       (height_in_range (fixed 3 z) (decimal rates.travel_feed) (pos z) (pos (rates.travel_feed * 10 ^ 5))
-      (thousandths_back z short_z) (decimal_back rates.travel_feed feed) (is_below z 1100000 most)))
+      (thousandths_back z short_z) (decimal_back rates.travel_feed feed) (is_below z coordinate_limit most)))
 
 -- ---- the other lines
 pub leads_number : (layer : ℕ) → IsShort layer → LeadsInRange (number_line layer)

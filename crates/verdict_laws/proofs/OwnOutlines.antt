@@ -3,6 +3,7 @@ use Rattle.std.proofs.Common.{◌≡◌, ◌⊎◌, inl, inr, ℕ, ◌*◌, ◌�
 use Rattle.std.specs.List.{AllByRecursion}
 use Rattle.std.proofs.lemmas.List.{length-map}
 use Rattle.std.proofs.lemmas.List.Elements.{All-from_recursion, All-weaker, recursion_from_All}
+use Rattle.scad_geom.specs.Limits.{coordinate_limit}
 use Rattle.plan_layer.specs.Clearance.{PlansKeepClear}
 use Rattle.scad_words.specs.declared.settings.Settings.{Settings}
 use Rattle.scad_words.specs.Settings.{AreInRange}
@@ -43,8 +44,8 @@ module _ (laws : SupportLaws) (clear : PlansKeepClear) (printable : PlansArePrin
   some : 1 ≤ s.layer_height
   some = let least = range.layer_height.least in omega (arith, least)
 
-  high : length print.layers * s.layer_height ≤ 1100000
-  high = subst (λ (n : ℕ). n * s.layer_height ≤ 1100000) (sym print.planned.number)
+  high : length print.layers * s.layer_height ≤ coordinate_limit
+  high = subst (λ (n : ℕ). n * s.layer_height ≤ coordinate_limit) (sym print.planned.number)
       (layers_in_range tree s.layer_height solids some range.layer_height.most)
 
   known : HasRange (rates_of s) s.hot_end s.bed (all_printed print.layers)

@@ -66,7 +66,7 @@ module _ (rates : Rates) (area : 1 ≤ rates.filament_area) (print : IsShort rat
 
   printed_leads : (v layer : ℕ) (printed : Printed)
       → AllByRecursion (λ path. AllByRecursion (IsWithin coordinate_limit) path) (printed_paths printed)
-      → IsShort layer → surface rates layer ≤ 1100000
+      → IsShort layer → surface rates layer ≤ coordinate_limit
       → v + paths_volume rates (printed_paths printed) ≤ most → LeadsInRange (printed_text rates v layer printed)
   printed_leads v layer printed within count high few =
       let own : List (List Pt) = printed.paths in
@@ -85,7 +85,7 @@ module _ (rates : Rates) (area : 1 ≤ rates.filament_area) (print : IsShort rat
   layers_lead : (v layer : ℕ) (layers : List Printed)
       → AllByRecursion (λ paths. AllByRecursion (λ path. AllByRecursion (IsWithin coordinate_limit) path) paths)
       (map printed_paths layers)
-      → layer + length layers < 10 ^ 64 → (layer + length layers) * rates.layer_height ≤ 1100000
+      → layer + length layers < 10 ^ 64 → (layer + length layers) * rates.layer_height ≤ coordinate_limit
       → v + layers_volume rates (map printed_paths layers) ≤ most → LeadsInRange (layers_text rates v layer layers)
   unfolding layers_text layers_volume
   layers_lead v layer [] within count high few = leads_nowhere
@@ -94,12 +94,12 @@ module _ (rates : Rates) (area : 1 ≤ rates.filament_area) (print : IsShort rat
       (omega arith) in
       let whole : layer + length (printed ∷ layers) ≡ layer + (1 + length layers) = omega arith in
       let next : layer + length (printed ∷ layers) ≡ (layer + 1) + length layers = omega arith in
-      let all = subst (λ (n : ℕ). n * rates.layer_height ≤ 1100000) whole high in
+      let all = subst (λ (n : ℕ). n * rates.layer_height ≤ coordinate_limit) whole high in
       let w : ℕ = v + paths_volume rates (printed_paths printed) in
       leads_on (printed_text rates v layer printed) (layers_text rates w (layer + 1) layers)
       (printed_leads v layer printed within.0 (omega (arith, count)) (omega (arith, below, all)) (omega (arith, few)))
       (layers_lead w (layer + 1) layers within.1 (omega (arith, count))
-      (subst (λ (n : ℕ). n * rates.layer_height ≤ 1100000) next high) (omega (arith, few)))
+      (subst (λ (n : ℕ). n * rates.layer_height ≤ coordinate_limit) next high) (omega (arith, few)))
 
 -- ---- a program
 heads_lead : (hot_end bed : ℕ) → IsShort hot_end → IsShort bed → LeadsInRange (head hot_end bed)
@@ -129,7 +129,7 @@ pub record HasRange (rates : Rates) (hot_end bed : ℕ) (layers : List Printed) 
   pub within : AllByRecursion
       (λ paths. AllByRecursion (λ path. AllByRecursion (IsWithin coordinate_limit) path) paths) (map printed_paths layers)
   pub count : length layers < 10 ^ 64
-  pub high : length layers * rates.layer_height ≤ 1100000
+  pub high : length layers * rates.layer_height ≤ coordinate_limit
   pub amount : filament rates (layers_volume rates (map printed_paths layers)) ≤ 2000000000000000000
 
 pub program_in_range : (rates : Rates) (hot_end bed : ℕ) (layers : List Printed)
@@ -143,5 +143,5 @@ program_in_range rates hot_end bed layers h =
     (leads_on (head hot_end bed) (layers_text rates 0 0 layers) (heads_lead hot_end bed h.hot h.cold)
     (layers_lead rates h.area h.print h.travel most h.amount 0 0 layers h.within
     (subst (λ (n : ℕ). n < 10 ^ 64) none h.count)
-    (subst (λ (n : ℕ). n * rates.layer_height ≤ 1100000) none h.high) total))
+    (subst (λ (n : ℕ). n * rates.layer_height ≤ coordinate_limit) none h.high) total))
     leads_end [] nothing_in_range)

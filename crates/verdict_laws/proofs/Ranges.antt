@@ -50,7 +50,7 @@ module _ (clear : PlansKeepClear) (s : Settings) (range : AreInRange s) where
   sides_near i (l ∷ ls) h = (all_ends_within clear s range i l h.0, sides_near (i + 1) ls h.1)
 
   pub has_range : (layers : List Layout) → PlansArePrintable → ArePlanned s layers
-      → length layers * s.layer_height ≤ 1100000 → length (program_of s layers) ≤ file_limit
+      → length layers * s.layer_height ≤ coordinate_limit → length (program_of s layers) ≤ file_limit
       → HasRange (rates_of s) s.hot_end s.bed (all_printed layers)
   has_range layers printable are high short =
       let writable = printable s layers range are in
@@ -65,7 +65,7 @@ module _ (clear : PlansKeepClear) (s : Settings) (range : AreInRange s) where
         cold = writable.temperatures.1;
         within = layers_near 0 layers each;
         count = subst (λ (n : ℕ). n < 10 ^ 64) paths writable.count;
-        high = subst (λ (n : ℕ). n * s.layer_height ≤ 1100000) (sym long) high;
+        high = subst (λ (n : ℕ). n * s.layer_height ≤ coordinate_limit) (sym long) high;
         amount = amount_in_range (rates_of s) range.line_width.most range.layer_height.most s.hot_end s.bed
             (all_printed layers) range.filament_area.least (sides_near 0 layers each) short;
       }

@@ -1,7 +1,7 @@
 use Rattle.std.proofs.Common.{arith}
 use Rattle.scad_geom.specs.Limits.{coordinate_limit}
 use Rattle.scad_geom.specs.Within.{IsEdgeWithin}
-use Rattle.plan_verify.specs.Trial.{IsApart, IsNear}
+use Rattle.plan_verify.specs.Trial.{IsApart, ComesNear}
 use Rattle.plan_verify.proofs.Indexes.{first_boxed, second_boxed, all_first, all_second, fewer_first, fewer_second}
 use Rattle.plan_verify.proofs.Indexes.{all_both, any_in_first, any_in_second}
 use Rattle.plan_verify.proofs.Searches.{all_apart}
@@ -55,11 +55,12 @@ returns-then-is_clear-clause-clear t c = λ e.
 pub returns-then-is_clear-clause-near : goal.returns-then-is_clear-clause-near
 returns-then-is_clear-clause-near t c = λ e.
     let m = c.in-Many in
-    any_in_second (IsNear c.args.trial.now) c.args.tree.now c.deref-then-is_clear.result.now m.field-0 m.first m.second
+    any_in_second (ComesNear c.args.trial.now) c.args.tree.now c.deref-then-is_clear.result.now m.field-0 m.first
+    m.second
     m.is c.deref-then-is_clear.ensures (c.is_clear-then-is_clear.ensures.near e)
 
 pub returns-else-is_clear-clause-near : goal.returns-else-is_clear-clause-near
 returns-else-is_clear-clause-near t c = λ _.
     let m = c.in-Many in
-    any_in_first (IsNear c.args.trial.now) c.args.tree.now c.deref-in-Many.result.now m.field-0 m.first m.second m.is
+    any_in_first (ComesNear c.args.trial.now) c.args.tree.now c.deref-in-Many.result.now m.field-0 m.first m.second m.is
     c.deref-in-Many.ensures (c.is_clear.ensures.near c.if-is_clear.false)

@@ -26,8 +26,12 @@ returns-in-Sample-clause-completes g c =
     c.args.order.now.in_range c.sampled.result (g.D.Desk.view c.args.desk.now)
     _ (search rules) c.sampled.ensures
 
-pub returns-in-Sample-clause-cause : goal.returns-in-Sample-clause-cause
-returns-in-Sample-clause-cause g c =
+pub returns-in-Sample-clause-leaves : goal.returns-in-Sample-clause-leaves
+returns-in-Sample-clause-leaves g c =
     let there = parts_are_there IsPlan c.args.order.now.settings (solid_of c.args.tree.now) c.requires.solids in
-    no_fault_rises (sample_script _ c.args.order.now.settings there.0 (solid_of c.args.tree.now)) c.sampled.result _
-    (c.sampled.ensures there.0 there.1)
+    record {
+      files = search rules;
+      later = search rules;
+      cause = no_fault_rises (sample_script _ c.args.order.now.settings there.0 (solid_of c.args.tree.now))
+          c.sampled.result _ (c.sampled.ensures there.0 there.1);
+    }

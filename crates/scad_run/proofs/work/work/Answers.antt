@@ -23,11 +23,11 @@ returns-in-Some-clause-works g c =
     works_judging (map (string_bytes {Z = Global}) c.args.words.now) (g.D.Desk.files c.args.desk.now) c.in_ok-job.job
     c.in_ok-job.ensures.job _ _ c.judge.result (g.D.Desk.files c.settle.new.desk) (g.D.Desk.view c.args.desk.now)
     (g.D.Desk.view c.settle.new.desk) (g.D.Desk.view c.judge.new.desk) c.in_ok-settings.ensures.settles
-    c.settle.ensures.files (search rules) c.judge.ensures.judges
+    c.settle.ensures.kept.files (search rules) c.judge.ensures.judges
 
 pub returns-clause-works : goal.returns-clause-works
 returns-clause-works g c =
     works_drawing (map (string_bytes {Z = Global}) c.args.words.now) (g.D.Desk.files c.args.desk.now) c.in_ok-job.job
     c.in_ok-job.ensures.job _ c.draw.result (g.D.Desk.files c.settle.new.desk) (g.D.Desk.view c.args.desk.now)
     (g.D.Desk.view c.settle.new.desk) (g.D.Desk.view c.draw.new.desk) c.in_ok-settings.ensures.settles
-    c.settle.ensures.files (search rules) c.draw.ensures.draws
+    c.settle.ensures.kept.files (search rules) c.draw.ensures.draws

@@ -3,7 +3,7 @@ use Rattle.scad_expr.specs.State.{Outcome}
 use Rattle.scad_tree.specs.Solid.{Solid}
 use Rattle.scad_inst.specs.Model.{Makes}
 use Rattle.scad_run.proofs.Telling.{program_read, made_nothing}
-use Rattle.scad_run.proofs.meaning.made_of.Goals as goal
+use Rattle.scad_run.proofs.meaning.model_of_tokens.Goals as goal
 
 pub returns-in-Ok : goal.returns-in-Ok
 returns-in-Ok c =

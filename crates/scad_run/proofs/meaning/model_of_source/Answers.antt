@@ -1,6 +1,6 @@
 use Rattle.std.proofs.Common.{◌∙◌}
 use Rattle.scad_run.proofs.Telling.{text_makes_nothing}
-use Rattle.scad_run.proofs.meaning.made.Goals as goal
+use Rattle.scad_run.proofs.meaning.model_of_source.Goals as goal
 
 pub returns-in-Err : goal.returns-in-Err
 returns-in-Err c =
