@@ -618,7 +618,7 @@ module _ (h : Height) (upper : Level) (shape : Shape) (levels later : List Level
   where
     on_front : StandOn h.edges.now shape (bundles_in h.front.now) kept.cursors
     on_front = record {
-      count = above.count ∙ on_low.count;
+      some = let count = above.count in let some = on_low.some in omega (arith, count, some);
       each = λ k d o.
           let there : k < length cursors.all.items = let count = above.count in omega (arith, o, count) in
           let moved = above.each k d d there in

@@ -39,5 +39,6 @@ mod Stretching
 mod LevelEnds
 mod Asides
 mod FlatsOn
+mod Refitting
 mod Advancing
 mod SweepEnd

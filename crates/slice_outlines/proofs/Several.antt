@@ -1,5 +1,5 @@
 -- Cursors are moved one after another.
-use Rattle.std.proofs.Common.{◌≡◌, ℕ, ◌+◌, ◌<◌, ◌≤◌, List, [], ◌∷◌, length, get_or, set, All, inl, inr, sym, subst, ◌∙◌, arith}
+use Rattle.std.proofs.Common.{◌≡◌, ℕ, zero, suc, ◌+◌, ◌<◌, ◌≤◌, List, [], ◌∷◌, length, get_or, set, take, All, inl, inr, sym, subst, ◌∙◌, arith}
 use Rattle.std.proofs.lemmas.Bool.{cases_lt}
 use Rattle.std.proofs.lemmas.List.{get_or-set_same, get_or-set_other, get_or_default}
 use Rattle.std.proofs.lemmas.List.Elements.{All-from_recursion, All-from_get_or}
@@ -50,3 +50,8 @@ one_above gs cs ds i c d l e m all k a b o = elim (cases_lt k i) [
       (subst (λ (x : Cursor). IsAbove gs x (get_or (set ds i d) i b)) (e a)
       (subst (IsAbove gs c) (sym (get_or-set_same ds i d b l)) m))
 ]
+
+pub some_taken : (n : ℕ) (cs : List Cursor) → 0 < n → 0 < length cs → 0 < length (take n cs)
+some_taken zero cs o s = absurd (omega (arith, o))
+some_taken (suc n) [] o s = absurd (omega (arith, s))
+some_taken (suc n) (c ∷ cs) o s = omega arith

@@ -11,13 +11,9 @@ use Rattle.slice_outlines.specs.declared.cursor.Cursor.{Cursor}
 use Rattle.slice_outlines.specs.declared.cursors.Cursors.{Cursors}
 use Rattle.slice_outlines.specs.Cursor.{StandsOn, IsClearAt, IsShifted, CanShift}
 
--- how many there are
-abbrev pub cursor_count : ℕ
-cursor_count = 4
-
--- cursors on these bundles
+-- some cursors on these bundles
 pub record StandOn (es : List LeafEdge) (shape : Shape) (bundles : List (List ℕ)) (cs : Cursors) : Type 0 where
-  pub count : length cs.all.items ≡ cursor_count
+  pub some : 0 < length cs.all.items
   pub each : All (StandsOn es shape bundles) cs.all.items
 
 -- they are those of some shape

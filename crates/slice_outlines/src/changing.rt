@@ -63,12 +63,12 @@ fn ask_cursor(height: &Height<'_>, kept: &mut Open, run: &Run)
     ensures given { kept.new.given ≡ kept.old.given }
 {
     'strands: for i in run.above..run.above_to {
-        ask_at(height, kept, i);
+        ask_at(height, kept, run.above, i);
     }
 }
 
-// Finds the value to the left of the strand at a place.
-fn ask_at(height: &Height<'_>, kept: &mut Open, i: usize)
+// Finds the value to the left of the strand at a place of those from another one on.
+fn ask_at(height: &Height<'_>, kept: &mut Open, from: usize, i: usize)
     requires members { AreMembers height.now.edges.now (bundles_in height.now.front.now) }
     requires stands { StandForSome height.now.edges.now (bundles_in height.now.front.now) kept.old.cursors }
     requires size { length kept.old.marks.items ≡ length (bundles_in height.now.front.now) }
@@ -80,6 +80,6 @@ fn ask_at(height: &Height<'_>, kept: &mut Open, i: usize)
     ensures stands { StayOn height.now.edges.now (bundles_in height.now.front.now) kept.old.cursors kept.new.cursors }
     ensures given { kept.new.given ≡ kept.old.given }
 {
-    let left = kept.cursors.value_at(height.edges, height.front, i);
+    let left = kept.cursors.value_at(height.edges, height.front, from, i);
     set_value(&mut kept.marks, i, left);
 }

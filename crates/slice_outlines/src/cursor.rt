@@ -1,5 +1,5 @@
 //! The shape's value between strands.
-ghost use Rattle.std.specs.Prelude.{◌≡◌, ◌<◌, ◌≤◌, ◌+◌, ◌-◌, ◌^◌, [], List, None, length, drop, true, IfOk, IfSome, All};
+ghost use Rattle.std.specs.Prelude.{◌≡◌, ◌<◌, ◌≤◌, ◌+◌, ◌-◌, ◌^◌, [], ℕ, List, None, length, drop, true, IfOk, IfSome, All};
 ghost use Rattle.std.specs.List.{AllZip};
 ghost use Rattle.scad_geom.specs.declared.shape.Shape.{Shape};
 ghost use Rattle.scad_geom.specs.Limits.{coordinate_limit};
@@ -33,16 +33,18 @@ pub(crate) struct Cursor {
 }
 
 impl Cursor {
-    /// On a front without strands.
+    /// At the right end of a front of so many strands.
     pub(crate) fn new(
         alloc: Global,
         edges: &[LeafEdge],
         shape: &Shape,
+        strands: usize,
     ) -> Result<Cursor, AllocError>
-        ensures { IfOk result (StandsOn edges.now shape.now []) }
+        ensures { IfOk result (λ c. (bundles : List (List ℕ)) → length bundles ≡ strands
+            → StandsOn edges.now shape.now bundles c) }
     {
         let tally = no_turns(alloc, edges, shape)?;
-        Ok(Cursor { tally, at: 0 })
+        Ok(Cursor { tally, at: strands })
     }
 
     /// The value to the left of the strand at a place, to which it goes.

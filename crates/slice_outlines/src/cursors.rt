@@ -1,5 +1,5 @@
 //! Cursors, each with a stretch of the front of its own, so that none walks far.
-ghost use Rattle.std.specs.Prelude.{◌≡◌, ◌<◌, ◌≤◌, ◌^◌, [], List, length, drop, IfOk, All};
+ghost use Rattle.std.specs.Prelude.{◌≡◌, ◌<◌, ◌≤◌, ◌^◌, [], List, length, drop, IfOk, OnOk, All};
 ghost use Rattle.std.specs.List.{AllZip};
 ghost use Rattle.scad_geom.specs.declared.shape.Shape.{Shape};
 ghost use Rattle.scad_geom.specs.Limits.{coordinate_limit};
@@ -11,7 +11,7 @@ ghost use Rattle.slice_bool.specs.Beside.{AreMembers, left_value};
 ghost use Rattle.slice_outlines.specs.Marks.{IsNamed};
 ghost use Rattle.slice_outlines.specs.Stops.{AllPass};
 ghost use Rattle.slice_outlines.specs.Cursor.{Fit};
-ghost use Rattle.slice_outlines.specs.Cursors.{cursor_count, StandOn, StandForSome, StayOn, AreClearAt, CanBeShifted, AreAbove};
+ghost use Rattle.slice_outlines.specs.Cursors.{StandOn, StandForSome, StayOn, AreClearAt, CanBeShifted, AreAbove};
 
 use crate::cursor::Cursor;
 use crate::flat::Flat;
@@ -20,8 +20,16 @@ use scad_geom::{LeafEdge, Level, Shape};
 use slice_sweep::{Change, Front};
 use std::alloc::{AllocError, Global};
 
-/// How many there are.
-const COUNT: usize = 4;
+/// How many there are on a narrow front, and how many more at most on a wide one.
+const LEAST: usize = 4;
+
+const MORE: usize = 60;
+
+/// A wide front has one more for each so many strands at least, and for each so many at most. Between the two they stay,
+/// since a new one costs as much as there are leaves.
+const WIDE: usize = 64;
+
+const NARROW: usize = 32;
 
 /// Cursors on one front.
 #[derive(Drop)]
@@ -39,15 +47,42 @@ impl Cursors {
         ensures { IfOk result (StandOn edges.now shape.now []) }
     {
         let mut all = Vec::new(alloc);
-        'cursors: while all.len() < COUNT {
-            let cursor = Cursor::new(alloc, edges, shape)?;
+        'cursors: while all.len() < LEAST {
+            let cursor = Cursor::new(alloc, edges, shape, 0)?;
             all.push(cursor)?;
         }
         Ok(Cursors { all })
     }
 
-    /// The value to the left of the strand at a place, to which the cursor of that stretch goes.
-    pub(crate) fn value_at(&mut self, edges: &[LeafEdge], front: &Front, place: usize) -> bool
+    /// One more where the front is too wide for them, and fewer where it's too narrow.
+    pub(crate) fn fit(
+        &mut self,
+        alloc: Global,
+        edges: &[LeafEdge],
+        shape: &Shape,
+        front: &Front,
+    ) -> Result<(), AllocError>
+        ensures { OnOk result (StandOn edges.now shape.now (bundles_in front.now) self.old
+            → StandOn edges.now shape.now (bundles_in front.now) self.new) }
+    {
+        let strands = front.count();
+        if self.all.len() < count_for(strands, WIDE) {
+            let cursor = Cursor::new(alloc, edges, shape, strands)?;
+            self.all.push(cursor)?;
+            return Ok(());
+        }
+        self.all.truncate(count_for(strands, NARROW));
+        Ok(())
+    }
+
+    /// The value to the left of the strand at a place, to which the cursor goes in whose stretch a run of places begins.
+    pub(crate) fn value_at(
+        &mut self,
+        edges: &[LeafEdge],
+        front: &Front,
+        from: usize,
+        place: usize,
+    ) -> bool
         requires few { length edges.now < 2 ^ 32 }
         requires members { AreMembers edges.now (bundles_in front.now) }
         requires stands { StandForSome edges.now (bundles_in front.now) self.old }
@@ -56,7 +91,7 @@ impl Cursors {
             → result ≡ left_value edges.now shape (drop place (bundles_in front.now)) }
         ensures stands { StayOn edges.now (bundles_in front.now) self.old self.new }
     {
-        let i = cursor_of(place, front.count());
+        let i = cursor_of(from, front.count(), self.all.len());
         self.all[i].value_at(edges, front, place)
     }
 
@@ -109,10 +144,19 @@ impl Cursors {
     }
 }
 
-// The number of the cursor whose stretch a place of a front lies in.
-fn cursor_of(place: usize, strands: usize) -> usize
-    requires { place ≤ strands }
-    ensures { result < cursor_count }
+// How many stand on a front of so many strands, of which so many fall to each.
+fn count_for(strands: usize, each: usize) -> usize
+    requires { 0 < each }
+    ensures { 0 < result }
 {
-    place / (strands / COUNT + 1)
+    LEAST + (strands / each).min(MORE)
+}
+
+// The number of the cursor whose stretch a place of a front lies in.
+fn cursor_of(place: usize, strands: usize, cursors: usize) -> usize
+    requires { 0 < cursors }
+    ensures { result < cursors }
+{
+    let each = (strands / cursors).max(1);
+    (place / each).min(cursors - 1)
 }

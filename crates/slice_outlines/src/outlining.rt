@@ -94,6 +94,7 @@ fn merged_edges(
     }
     let mut sweep = Sweep::new(alloc, edges, shape)?;
     'levels: for i in 1..levels.len() {
+        sweep.fit_cursors(edges, shape)?;
         sweep.advance(edges, &levels[i - 1], &levels[i])?;
     }
     sweep.end(edges, &levels[levels.len() - 1])

@@ -65,6 +65,19 @@ impl Sweep {
         })
     }
 
+    /// As many cursors as the front is wide enough for, one more or less at a time.
+    pub(crate) fn fit_cursors(
+        &mut self,
+        edges: &[LeafEdge],
+        shape: &Shape,
+    ) -> Result<(), AllocError>
+        ensures { OnOk result ((levels left : List Level)
+            → HasSwept edges.now shape.now levels left self.old
+            → HasSwept edges.now shape.now levels left self.new) }
+    {
+        self.kept.cursors.fit(self.alloc, edges, shape, &self.front)
+    }
+
     /// Lifts it over a level to the next.
     pub(crate) fn advance(
         &mut self,

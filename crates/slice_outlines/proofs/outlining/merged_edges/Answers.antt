@@ -1,5 +1,5 @@
 -- The sweep is lifted from level to level, and ends with the last.
-use Rattle.std.proofs.Common.{◌+◌, length, drop}
+use Rattle.std.proofs.Common.{◌+◌, ◌-◌, length, drop}
 use Rattle.slice_outlines.proofs.LevelSteps.{some_by, no_levels, at_two, at_last, neighbours, climbed}
 use Rattle.slice_outlines.proofs.outlining.merged_edges.Goals as goal
 
@@ -13,8 +13,8 @@ levels-init c = c.in_ok-sweep.ensures c.args.levels.now c.requires.levels
 
 pub advance-requires-clause-neighbours : goal.advance-requires-clause-neighbours
 advance-requires-clause-neighbours c =
-    neighbours c.args.edges.now c.args.shape.now c.args.levels.now c.requires.levels c.levels.i c.levels.sweep
-    c.levels.auto.i c.levels-test.true
+    neighbours c.args.edges.now c.args.shape.now c.args.levels.now c.requires.levels c.levels.i
+    c.fit_cursors.new.self c.levels.auto.i c.levels-test.true
 
 pub advance-requires-clause-swept : goal.advance-requires-clause-swept
 advance-requires-clause-swept c =
@@ -24,22 +24,24 @@ advance-requires-clause-swept c =
       levels = ls;
       later = drop (c.levels.i + 1) ls;
       are_levels = c.requires.levels;
-      swept = at_two c.args.edges.now c.args.shape.now ls c.requires.levels c.levels.i c.levels.sweep c.levels.auto.i
-          c.levels-test.true c.levels.invariant;
+      swept = at_two c.args.edges.now c.args.shape.now ls c.requires.levels c.levels.i c.fit_cursors.new.self
+          c.levels.auto.i c.levels-test.true
+          (c.in_ok-fit_cursors.ensures ls (drop (c.levels.i - 1) ls) c.levels.invariant);
     }
 
 pub levels-preserved : goal.levels-preserved
 levels-preserved c =
     let ls = c.args.levels.now in
-    climbed c.args.edges.now c.args.shape.now ls c.requires.levels c.levels.i c.levels.sweep c.levels.auto.i
+    climbed c.args.edges.now c.args.shape.now ls c.requires.levels c.levels.i c.fit_cursors.new.self c.levels.auto.i
     c.advance.new.self c.levels-test.true
     (c.in_ok-advance.ensures (record {
       shape = c.args.shape.now;
       levels = ls;
       later = drop (c.levels.i + 1) ls;
       are_levels = c.requires.levels;
-      swept = at_two c.args.edges.now c.args.shape.now ls c.requires.levels c.levels.i c.levels.sweep c.levels.auto.i
-          c.levels-test.true c.levels.invariant;
+      swept = at_two c.args.edges.now c.args.shape.now ls c.requires.levels c.levels.i c.fit_cursors.new.self
+          c.levels.auto.i c.levels-test.true
+          (c.in_ok-fit_cursors.ensures ls (drop (c.levels.i - 1) ls) c.levels.invariant);
     }))
 
 pub end-requires-clause-swept : goal.end-requires-clause-swept

@@ -43,7 +43,7 @@ cursors-preserved c =
 
 pub returns : goal.returns
 returns c = λ shape s. record {
-  count = c.cursors.invariant.count ∙ s.count;
+  some = omega (arith, c.cursors.invariant.count, s.some);
   each = all_done (StandsOn c.args.edges.now shape []) c.cursors.i c.cursors.self.all.items
       (omega (arith, c.cursors-test.false, c.len-i-end.ensures, c.cursors.invariant.count))
       (c.cursors.invariant.done shape s);

@@ -37,7 +37,7 @@ cursors-preserved c =
       stands = λ shape s.
           let on = c.cursors.invariant.stands shape s in
           record {
-            count = size ∙ on.count;
+            some = omega (arith, size, on.some);
             each = All-set (StandsOn es shape bs) all i c.leave.new.self (c.leave.ensures.stands shape
                 (subst (StandsOn es shape bs) (sym c.index_mut.ensures.value) (on.each i c.index_mut.result.now l)))
                 on.each;

@@ -13,10 +13,10 @@ returns-clause-stands c = λ shape s.
     let bs : List (List ℕ) = bundles_in c.args.front.now in
     let all : List Cursor = c.args.self.now.all.items in
     let i : ℕ = c.cursor_of-i.result in
-    let count = s.count in
-    let l : i < length all = omega (arith, c.cursor_of-i.ensures, count) in
+    let size = length-set all i c.value_at.new.self in
+    let l : i < length all = omega (arith, c.cursor_of-i.ensures, c.len.ensures) in
     record {
-      count = length-set all i c.value_at.new.self ∙ count;
+      some = omega (arith, size, s.some);
       each = All-set (StandsOn es shape bs) all i c.value_at.new.self (c.value_at.ensures.stands shape
           (subst (StandsOn es shape bs) (sym c.index_mut.ensures.value) (s.each i c.index_mut.result.now l))) s.each;
     }
