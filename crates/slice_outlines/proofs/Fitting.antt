@@ -1,5 +1,5 @@
 -- A place between strands that don't meet at a height is between two groups of it.
-use Rattle.std.proofs.Common.{◌≡◌, ℕ, zero, suc, ◌+◌, ◌-◌, ◌<◌, ◌≤◌, List, [], ◌∷◌, ◌++◌, length, drop, refl, sym, ap, ◌∙◌, subst, inl, inr, arith}
+use Rattle.std.proofs.Common.{◌≡◌, ℕ, zero, suc, ◌+◌, ◌-◌, ◌<◌, ◌≤◌, List, [], ◌∷◌, ◌++◌, length, drop, get_or, refl, sym, ap, ◌∙◌, subst, inl, inr, arith}
 use Rattle.std.specs.List.{AllByRecursion}
 use Rattle.std.proofs.lemmas.Bool.{cases_lt}
 use Rattle.std.proofs.lemmas.List.{get_or-drop, length-append, length-drop}
@@ -31,6 +31,14 @@ named_size (m ∷ ms) (b ∷ bs) z = ap suc (named_size ms bs z.1)
 named_head : (es : List LeafEdge) (k : ℕ) (b : List ℕ) → IsNamed k b → head es b ≡ edge_at es k
 named_head es k [] h = absurd h
 named_head es k (j ∷ js) h = ap (λ (i : ℕ). edge_at es i) (sym h)
+
+-- the first edge of a bundle is the one that its mark names
+pub head_at : (es : List LeafEdge) (ms : List Mark) (bs : List (List ℕ)) (i : ℕ) → AreNamed ms bs → i < length ms
+    → head es (get_or bs i []) ≡ edge_at es (mark_at ms i).name
+head_at es [] bs i z o = absurd (omega (arith, o))
+head_at es (m ∷ ms) [] i z o = absurd z
+head_at es (m ∷ ms) (b ∷ bs) zero z o = named_head es m.name b z.0
+head_at es (m ∷ ms) (b ∷ bs) (suc i) z o = head_at es ms bs i z.1 (omega (arith, o))
 
 bundle_at : (P : List ℕ → Type 0) (ms : List Mark) (bs cs : List (List ℕ)) (i : ℕ) → AreNamed ms (bs ++ cs)
     → AllByRecursion P bs → i < length bs → (b : List ℕ) × IsNamed (mark_at ms i).name b × P b

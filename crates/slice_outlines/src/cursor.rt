@@ -1,14 +1,16 @@
 //! The shape's value between strands.
 ghost use Rattle.std.specs.Prelude.{◌≡◌, ◌<◌, ◌≤◌, ◌+◌, ◌-◌, ◌^◌, [], ℕ, List, None, length, drop, true, IfOk, IfSome, All};
 ghost use Rattle.std.specs.List.{AllZip};
+ghost use Rattle.scad_geom.specs.declared.level.LeafEdge.{LeafEdge};
 ghost use Rattle.scad_geom.specs.declared.shape.Shape.{Shape};
 ghost use Rattle.scad_geom.specs.Limits.{coordinate_limit};
 ghost use Rattle.scad_geom.specs.Within.{IsEdgeWithin};
 ghost use Rattle.scad_geom.specs.Level.{IsLevelWithin};
 ghost use Rattle.slice_slab.specs.Bundles.{edge_at};
-ghost use Rattle.slice_sweep.specs.Front.{bundles_in};
+ghost use Rattle.slice_sweep.specs.Front.{bundles_in, IsReadyFor};
 ghost use Rattle.slice_sweep.specs.Changes.{Group, Tell};
 ghost use Rattle.slice_bool.specs.Beside.{AreMembers, left_value};
+ghost use Rattle.slice_outlines.specs.declared.mark.Mark.{Mark};
 ghost use Rattle.slice_outlines.specs.Flats.{LiesAside};
 ghost use Rattle.slice_outlines.specs.Marks.{mark_at, spot_at, AreThere, IsNamed};
 ghost use Rattle.slice_outlines.specs.Stops.{AllPass};
@@ -130,12 +132,13 @@ impl Cursor {
         requires few { length edges.now < 2 ^ 32 }
         requires members { AreMembers edges.now (bundles_in front.now) }
         requires stands { Stands edges.now (bundles_in front.now) self.old }
+        requires ready { IsReadyFor edges.now at.now front.now }
         requires named { AllZip (λ m b. IsNamed m.name b) marks.now (bundles_in front.now) }
         requires pass { AllPass edges.now at.now marks.now }
         ensures stands { StaysOn edges.now (bundles_in front.now) self.old self.new }
         ensures clear { IsClearAt edges.now at.now marks.now flats.now self.new.at }
     {
-        'strands: while let Some(next) = way_out(edges, marks, at, flats, self.at) {
+        'strands: while let Some(next) = way_out(edges, front, marks, at, flats, self.at) {
             self.go_right(edges, front, next);
         }
     }
@@ -156,6 +159,7 @@ impl Cursor {
 // lie aside of the next one.
 fn way_out(
     edges: &[LeafEdge],
+    front: &Front,
     marks: &[Mark],
     at: &Level,
     flats: &[Flat],
@@ -163,6 +167,8 @@ fn way_out(
 ) -> Option<usize>
     requires within { All (λ e. IsEdgeWithin coordinate_limit e.edge) edges.now }
     requires at { IsLevelWithin coordinate_limit at.now }
+    requires ready { IsReadyFor edges.now at.now front.now }
+    requires named { AllZip (λ m b. IsNamed m.name b) marks.now (bundles_in front.now) }
     requires there { AreThere edges.now marks.now }
     requires pass { AllPass edges.now at.now marks.now }
     ensures clear { result ≡ None → IsClearAt edges.now at.now marks.now flats.now place }
@@ -171,7 +177,7 @@ fn way_out(
     if place >= marks.len() {
         return None;
     }
-    if !is_apart(edges, marks, at, place) {
+    if !is_apart(edges, front, marks, at, place) {
         return Some(place + 1);
     }
     way_over(edges, marks, at, flats, place)
@@ -225,14 +231,29 @@ fn first_behind(edges: &[LeafEdge], marks: &[Mark], at: &Level, s: &Stop, place:
     from
 }
 
-fn is_apart(edges: &[LeafEdge], marks: &[Mark], at: &Level, place: usize) -> bool
+fn is_apart(edges: &[LeafEdge], front: &Front, marks: &[Mark], at: &Level, place: usize) -> bool
     requires within { All (λ e. IsEdgeWithin coordinate_limit e.edge) edges.now }
     requires at { IsLevelWithin coordinate_limit at.now }
+    requires ready { IsReadyFor edges.now at.now front.now }
+    requires named { AllZip (λ m b. IsNamed m.name b) marks.now (bundles_in front.now) }
     requires there { AreThere edges.now marks.now }
     requires place { place < length marks.now }
     ensures { result ≡ true → IsApartAt edges.now at.now marks.now place }
 {
-    place == 0 || !are_together(edges, &marks[place - 1], &marks[place], at)
+    place == 0
+        || is_known_apart(front, at, place)
+        || !are_together(edges, &marks[place - 1], &marks[place], at)
+}
+
+// Whether the first one's key tells that the strands on both sides of a place don't meet at a height: mostly it does.
+fn is_known_apart(front: &Front, at: &Level, place: usize) -> bool
+    requires at { IsLevelWithin coordinate_limit at.now }
+    requires some { 0 < place }
+    requires there { place < length (bundles_in front.now) }
+    ensures { result ≡ true → (edges : List LeafEdge) (marks : List Mark) → IsReadyFor edges at.now front.now
+        → AllZip (λ m b. IsNamed m.name b) marks (bundles_in front.now) → IsApartAt edges at.now marks place }
+{
+    front.is_known_left(place - 1, at)
 }
 
 // The strands of the last change to the left of a place below the height.

@@ -5,7 +5,7 @@ ghost use Rattle.scad_geom.specs.declared.shape.Shape.{Shape};
 ghost use Rattle.scad_geom.specs.Limits.{coordinate_limit};
 ghost use Rattle.scad_geom.specs.Within.{IsEdgeWithin};
 ghost use Rattle.scad_geom.specs.Level.{IsLevelWithin};
-ghost use Rattle.slice_sweep.specs.Front.{bundles_in};
+ghost use Rattle.slice_sweep.specs.Front.{bundles_in, IsReadyFor};
 ghost use Rattle.slice_sweep.specs.Changes.{Group, Tell};
 ghost use Rattle.slice_bool.specs.Beside.{AreMembers, left_value};
 ghost use Rattle.slice_outlines.specs.Marks.{IsNamed};
@@ -122,6 +122,7 @@ impl Cursors {
         requires few { length edges.now < 2 ^ 32 }
         requires members { AreMembers edges.now (bundles_in front.now) }
         requires stands { StandForSome edges.now (bundles_in front.now) self.old }
+        requires ready { IsReadyFor edges.now at.now front.now }
         requires named { AllZip (λ m b. IsNamed m.name b) marks.now (bundles_in front.now) }
         requires pass { AllPass edges.now at.now marks.now }
         ensures stands { StayOn edges.now (bundles_in front.now) self.old self.new }

@@ -9,7 +9,7 @@ ghost use Rattle.scad_geom.specs.Level.{IsLevelWithin};
 ghost use Rattle.scad_geom.specs.Leaves.{AreLeavesBalanced};
 ghost use Rattle.scad_geom.specs.Heights.{AreNeighbours};
 ghost use Rattle.slice_events.specs.Levels.{AreLevels};
-ghost use Rattle.slice_sweep.specs.Front.{bundles_in};
+ghost use Rattle.slice_sweep.specs.Front.{bundles_in, IsReadyFor};
 ghost use Rattle.slice_bool.specs.Beside.{AreMembers};
 ghost use Rattle.sweep_laws.specs.Sweeps.{AreMergedEdges};
 ghost use Rattle.slice_outlines.specs.Sweep.{HasSwept, CanClimb, CanEnd};
@@ -120,6 +120,7 @@ impl Sweep {
         requires at { IsLevelWithin coordinate_limit at.now }
         requires members { AreMembers edges.now (bundles_in self.old.front) }
         requires stands { StandForSome edges.now (bundles_in self.old.front) self.old.kept.cursors }
+        requires ready { IsReadyFor edges.now at.now self.old.front }
         requires named { AllZip (λ m b. IsNamed m.name b) self.old.kept.marks.items (bundles_in self.old.front) }
         requires pass { AllPass edges.now at.now self.old.kept.marks.items }
         requires from { self.old.passed ≤ flat_to }

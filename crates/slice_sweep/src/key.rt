@@ -1,5 +1,5 @@
 //! Wake-up keys: whole parts of a micrometre, rounded down.
-ghost use Rattle.std.specs.Prelude.{◌≡◌, ◌⊎◌, ◌≤◌, ◌^◌, ℤ, pos, ◌+ℤ◌, ◌*ℤ◌, ◌<ℤ◌, ◌≤ℤ◌, unsigned_abs};
+ghost use Rattle.std.specs.Prelude.{◌≡◌, ◌⊎◌, ◌≤◌, ◌^◌, true, ℤ, pos, ◌+ℤ◌, ◌*ℤ◌, ◌<ℤ◌, ◌≤ℤ◌, unsigned_abs};
 ghost use Rattle.scad_geom.specs.Limits.{coordinate_limit};
 ghost use Rattle.scad_geom.specs.Within.{IsEdgeWithin};
 ghost use Rattle.scad_geom.specs.Level.{IsLevelWithin};
@@ -19,6 +19,14 @@ pub(crate) fn key_of(at: &Level) -> i128
     ensures { (wake : ℤ) → result <ℤ wake → IsBelowKey at.now wake }
 {
     floor(times::<64, 20>(at.n, 1_048_576), at.d)
+}
+
+/// Whether a height lies below a key.
+pub(crate) fn is_below(at: &Level, key: i64) -> bool
+    requires { IsLevelWithin coordinate_limit at.now }
+    ensures { result ≡ true → IsBelowKey at.now key }
+{
+    times::<64, 20>(at.n, 1_048_576) < times::<63, 44>(key as i128, at.d)
 }
 
 /// A key that isn't above a whole height.

@@ -4,6 +4,7 @@
 //! edges at once.
 #![tactic(auto, using(scad_geom::proofs::Casts::casts))]
 
+mod apart;
 mod asleep;
 mod change;
 mod coinciding;

@@ -27,6 +27,11 @@ clear_cursors-requires-clause-members c =
     let w = c.requires.swept in
     swept_members c.args.edges.now w.shape w.levels c.args.at.now _ c.args.self.now w.swept
 
+pub clear_cursors-requires-clause-ready : goal.clear_cursors-requires-clause-ready
+clear_cursors-requires-clause-ready c =
+    let w = c.requires.swept in
+    w.swept.ready.0
+
 pub clear_cursors-requires-clause-named : goal.clear_cursors-requires-clause-named
 clear_cursors-requires-clause-named c =
     let w = c.requires.swept in
