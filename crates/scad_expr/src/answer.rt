@@ -25,7 +25,8 @@ use scad_fault::Place;
 use scad_machine::{EvalFault, Machine};
 use scad_value::{Value, truth};
 
-/// A frame goes on with a value.
+/// A frame goes on with a value. It stands in the loop of turns, so that no value is moved between the two.
+#[inline(always)]
 #[tactic(auto, using(crate::proofs::StackTurns::nodes), unfolding(crate::specs::Stack::onto, crate::specs::Stack::goes_on, crate::specs::Pieces::range_end, crate::specs::Pieces::stepped_end, crate::specs::Pieces::step_and_end, crate::specs::Pieces::index_of))]
 pub(crate) fn given<'p>(
     frame: Frame<'p>,

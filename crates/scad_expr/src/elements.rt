@@ -152,8 +152,8 @@ fn either_node<'p>(
     )
 }
 
-/// An expression behind a step.
-#[tactic(auto, using(crate::proofs::StackTurns::nodes))]
+/// An expression behind a step. The frame is on the stack before the step may fail, so nothing has to let it go then.
+#[tactic(auto, using(crate::proofs::StackTurns::nodes), unfolding(crate::specs::Stack::goes_on))]
 fn later<'p>(
     at: Place,
     frame: Frame<'p>,
@@ -167,8 +167,9 @@ fn later<'p>(
         result stack.new m.new }
     ensures less { Below_by 2 result stack.old m.old stack.new m.new }
 {
+    stack.push(frame)?;
     m.step(at)?;
-    stack.wait(frame, e, depth)
+    Ok(Focus::Part(e, depth))
 }
 
 /// `each element`

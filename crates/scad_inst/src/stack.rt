@@ -1,5 +1,7 @@
 //! The stack of what waits.
 
+ghost use Rattle.std.specs.Prelude.{◌≡◌, ◌++◌, ◌∷◌, [], OnOk};
+
 use crate::operation::Operation;
 use crate::work::Frame;
 use scad_fault::Place;
@@ -13,6 +15,15 @@ pub(crate) struct Stack<'p> {
     pub(crate) alloc: Global,
     frames: Vec<Frame<'p>>,
     made: Vec<Tree>,
+}
+
+/// A value behind others. Where there is no memory it is let go by one call, since its type is a parameter.
+fn append<T: Drop>(all: &mut Vec<T>, value: T) -> Result<(), AllocError>
+    ensures { OnOk result (all.new.items ≡ all.old.items ++ value ∷ []) }
+{
+    all.reserve(1)?;
+    all.push_reserved(value);
+    Ok(())
 }
 
 impl<'p> Stack<'p> {
@@ -40,8 +51,7 @@ impl<'p> Stack<'p> {
         ensures rest { OnOk result (rest self.new ≡ onto frame.entry (rest self.old)) }
         ensures made { made_in self.new ≡ made_in self.old }
     {
-        self.frames.push(frame)?;
-        Ok(())
+        append(&mut self.frames, frame)
     }
 
     /// The frame on the top, where there is one.
