@@ -50,11 +50,19 @@ impl Grid {
     }
 }
 
-fn roll_edges(alloc: Global, dice: &mut Dice) -> Result<Vec<LeafEdge>, AllocError>
+// So many edges, or up to so many more.
+fn roll_edges(
+    alloc: Global,
+    dice: &mut Dice,
+    least: u32,
+    more: u32,
+) -> Result<Vec<LeafEdge>, AllocError>
+    requires some { 0 < more }
+    requires few { least + more ≤ 1000 }
     ensures { IfOk result (λ v. All (λ e. IsEdgeWithin coordinate_limit e.edge) v.items) }
 {
     let mut edges = Vec::new(alloc);
-    let count = 2 + dice.roll(14);
+    let count = least + dice.roll(more);
     let grid = Grid::roll(dice);
     'edges: for _i in 0..count {
         let a = grid.roll_point(dice);
@@ -115,10 +123,13 @@ fn are_like_slabs(alloc: Global, edges: &[LeafEdge], levels: &[Level]) -> Result
 }
 
 // Whether those of the random edges of a seed are.
-fn is_seed_like_slabs(alloc: Global, seed: u64) -> Option<bool> {
+fn is_seed_like_slabs(alloc: Global, seed: u64, least: u32, more: u32) -> Option<bool>
+    requires some { 0 < more }
+    requires few { least + more ≤ 1000 }
+{
     let mut dice = Dice::of_seed(seed);
-    let edges = roll_edges(alloc, &mut dice).ok()?;
-    if edges.len() >= 100 {
+    let edges = roll_edges(alloc, &mut dice, least, more).ok()?;
+    if edges.len() >= 1000 {
         return None;
     }
     let heights = levels(alloc, &edges).ok()?;
@@ -129,7 +140,14 @@ fn is_seed_like_slabs(alloc: Global, seed: u64) -> Option<bool> {
 fn bundles_are_those_made_from_all_edges(rt: HostRuntime) {
     for seed in 1..1501u64 {
         assert!(rt;
-            is_seed_like_slabs(rt.alloc(), seed) == Some(true),
+            is_seed_like_slabs(rt.alloc(), seed, 2, 14) == Some(true),
+            "seed {seed}"
+        );
+    }
+    // fronts of up to 178, 178, 200 and 194 bundles
+    for &seed in &[1506, 1514, 1530, 1538] {
+        assert!(rt;
+            is_seed_like_slabs(rt.alloc(), seed, 400, 100) == Some(true),
             "seed {seed}"
         );
     }

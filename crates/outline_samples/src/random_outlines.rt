@@ -9,7 +9,8 @@ ghost use Rattle.scad_tree.specs.Sections.{leaf_edge};
 use plan_sides::sides;
 use sample_dice::Dice;
 use scad_geom::{Edge, LeafEdge, Loop, Pt, Shape};
-use std::alloc::{AllocError, Global};
+use std::alloc::{AllocError, AllocGlobal, Global};
+use std::process::Abort;
 use std::slice::from_ref;
 
 // More edges than any of the lists has.
@@ -150,13 +151,16 @@ fn push_outline(
     }
 }
 
-fn roll_edges(alloc: Global, dice: &mut Dice) -> Result<Vec<LeafEdge>, AllocError>
+// The sides of up to so many outlines, some of them twice.
+fn roll_edges(alloc: Global, dice: &mut Dice, most: u32) -> Result<Vec<LeafEdge>, AllocError>
+    requires some { 0 < most }
+    requires few { most ≤ 1000 }
     ensures within { IfOk result (λ v. All (λ e. IsEdgeWithin coordinate_limit e.edge) v.items) }
     ensures balanced { IfOk result (λ v. AreLeavesBalanced v.items) }
 {
     let mut edges = Vec::new(alloc);
     let grid = Grid::roll(dice);
-    let count = 1 + dice.roll(8);
+    let count = 1 + dice.roll(most);
     'outlines: for _i in 0..count {
         push_outline(alloc, &mut edges, dice, &grid)?;
     }
@@ -230,19 +234,31 @@ fn are_outlines_same(alloc: Global, edges: &[LeafEdge], shape: &Shape) -> bool
     are_same(&kept, &made)
 }
 
-fn compare(alloc: Global, seed: u64) -> Result<bool, AllocError> {
+fn compare(alloc: Global, seed: u64, most: u32) -> Result<bool, AllocError>
+    requires some { 0 < most }
+    requires few { most ≤ 1000 }
+{
     let mut dice = Dice::of_seed(seed);
-    let edges = roll_edges(alloc, &mut dice)?;
+    let edges = roll_edges(alloc, &mut dice, most)?;
     let shape = roll_shape(alloc, &mut dice)?;
     Ok(are_outlines_same(alloc, &edges, &shape))
 }
 
-#[test]
-fn outlines_are_those_from_all_pieces(rt: HostRuntime) {
-    for seed in 1..3001u64 {
+fn compare_all(rt: &(impl Abort + AllocGlobal), from: u64, to: u64, most: u32)
+    requires some { 0 < most }
+    requires few { most ≤ 1000 }
+{
+    for seed in from..to {
         assert!(rt;
-            compare(rt.alloc(), seed).expect(&rt, "memory"),
+            compare(rt.alloc(), seed, most).expect(rt, "memory"),
             "seed {seed}"
         );
     }
+}
+
+#[test]
+fn outlines_are_those_from_all_pieces(rt: HostRuntime) {
+    compare_all(&rt, 1, 3001, 8);
+    // longer lists have wider fronts, with more cursors
+    compare_all(&rt, 3001, 3021, 60);
 }

@@ -67,28 +67,41 @@ fn points_of_outlines_and_paths_come_back(rt: HostRuntime) {
     assert!(rt; path_comes_back(rt.alloc(), &POINTS));
 }
 
-// How often the star, the widest edge and no edge wind round points.
+/// Points, and how often the star winds round them.
+const TURNS: [(i32, i32, Half, i64); 9] = [
+    (0, 0, Half::Whole, 2),
+    (0, 0, Half::Cell, 2),
+    (0, 9, Half::Whole, 1),
+    (0, 9, Half::Cell, 0),
+    (-6, -8, Half::Whole, 0),
+    (-6, -8, Half::Cell, 1),
+    (2, 3, Half::Whole, 1),
+    (2, 3, Half::Cell, 0),
+    (9, 3, Half::Whole, 0),
+];
+
 #[test]
 fn a_star_winds_twice_round_its_middle(rt: HostRuntime) {
-    for &(edges, x, y, half, turns) in &[
-        (STAR.as_slice(), 0, 0, Half::Whole, 2),
-        (STAR.as_slice(), 0, 0, Half::Cell, 2),
-        (STAR.as_slice(), 0, 9, Half::Whole, 1),
-        (STAR.as_slice(), 0, 9, Half::Cell, 0),
-        (STAR.as_slice(), -6, -8, Half::Whole, 0),
-        (STAR.as_slice(), -6, -8, Half::Cell, 1),
-        (STAR.as_slice(), 2, 3, Half::Whole, 1),
-        (STAR.as_slice(), 2, 3, Half::Cell, 0),
-        (STAR.as_slice(), 9, 3, Half::Whole, 0),
-        (&[], 0, 0, Half::Cell, 0),
-        (DIAGONAL.as_slice(), FAR - 1, FAR - 1, Half::Whole, 0),
-        (DIAGONAL.as_slice(), FAR - 2, FAR - 1, Half::Cell, 1),
-        (DIAGONAL.as_slice(), FAR - 1, FAR - 1, Half::Cell, 0),
-        (DIAGONAL.as_slice(), -FAR, -FAR, Half::Whole, 0),
-        (DIAGONAL.as_slice(), -FAR, 1 - FAR, Half::Whole, 1),
-        (DIAGONAL.as_slice(), -FAR, FAR, Half::Whole, 0),
+    for &(x, y, half, turns) in &TURNS {
+        assert!(rt; winding(&STAR, Pt { x, y }, half) == turns, "at {x}, {y}");
+    }
+    assert!(rt; winding(&[], Pt { x: 0, y: 0 }, Half::Cell) == 0);
+}
+
+#[test]
+fn widest_edges_are_counted_exactly(rt: HostRuntime) {
+    for &(x, y, half, turns) in &[
+        (FAR - 1, FAR - 1, Half::Whole, 0),
+        (FAR - 2, FAR - 1, Half::Cell, 1),
+        (FAR - 1, FAR - 1, Half::Cell, 0),
+        (-FAR, -FAR, Half::Whole, 0),
+        (-FAR, 1 - FAR, Half::Whole, 1),
+        (-FAR, FAR, Half::Whole, 0),
     ] {
-        assert!(rt; winding(edges, Pt { x, y }, half) == turns, "at {x}, {y}");
+        assert!(rt;
+            winding(&DIAGONAL, Pt { x, y }, half) == turns,
+            "at {x}, {y}"
+        );
     }
 }
 
