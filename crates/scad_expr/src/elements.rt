@@ -52,6 +52,7 @@ pub(crate) fn more_elements<'p>(
 }
 
 /// An element that begins, with so many levels of depth left.
+#[inline(always)]
 #[tactic(auto, using(crate::proofs::StackTurns::element_depths), unfolding(scad_machine::specs::State::over))]
 pub(crate) fn element<'p>(
     e: &'p Elem,

@@ -23,6 +23,7 @@ use scad_machine::{EvalFault, Machine};
 use scad_value::Value;
 
 /// An expression that begins, with so many levels of depth left.
+#[inline(always)]
 #[tactic(auto, using(crate::proofs::StackTurns::depths), unfolding(crate::specs::Meaning::value_layer, scad_machine::specs::State::over))]
 pub(crate) fn part<'p>(
     e: &'p Expr,
@@ -42,6 +43,7 @@ pub(crate) fn part<'p>(
 }
 
 /// One arm for each kind of expression.
+#[inline(always)]
 #[tactic(auto, using(crate::proofs::Views::views, crate::proofs::StackTurns::nodes), unfolding(crate::specs::Meaning::node, crate::specs::Pieces::range_end, crate::specs::Pieces::stepped_end, crate::specs::Pieces::step_and_end, crate::specs::Pieces::side, crate::specs::Stack::onto, crate::specs::Stack::goes_on))]
 fn node<'p>(
     e: &'p Expr,

@@ -26,6 +26,7 @@ pub(crate) enum Next<'p> {
 }
 
 /// One turn.
+#[inline(always)]
 #[tactic(auto, unfolding(crate::specs::Stack::goes_on))]
 fn turn<'p>(
     focus: Focus<'p>,

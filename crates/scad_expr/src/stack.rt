@@ -19,6 +19,7 @@ pub(crate) struct Stack<'p> {
 }
 
 /// A value behind others. Where there is no memory it is let go by one call, since its type is a parameter.
+#[inline(always)]
 fn append<T: Drop>(all: &mut Vec<T>, value: T) -> Result<(), AllocError>
     ensures { OnOk result (all.new.items ≡ all.old.items ++ value ∷ []) }
 {
@@ -56,6 +57,7 @@ impl<'p> Stack<'p> {
     }
 
     /// A frame waits.
+    #[inline(always)]
     #[tactic(auto, using(crate::proofs::StackTurns::stacks), unfolding(crate::specs::Stack::rest, crate::specs::Stack::height, crate::specs::Stack::made_in))]
     pub(crate) fn push(&mut self, frame: Frame<'p>) -> Result<(), AllocError>
         ensures rest { OnOk result (rest self.new ≡ onto frame.entry (rest self.old)) }
@@ -66,6 +68,7 @@ impl<'p> Stack<'p> {
     }
 
     /// The frame on the top goes on.
+    #[inline(always)]
     #[tactic(auto, using(crate::proofs::StackTurns::stacks), unfolding(crate::specs::Stack::rest, crate::specs::Stack::height, crate::specs::Stack::made_in))]
     pub(crate) fn pop(&mut self) -> Option<Frame<'p>>
         ensures rest { MatchOption result (rest self.old ≡ ended) (λ f. rest self.old ≡ onto f (rest self.new)) }
@@ -76,6 +79,7 @@ impl<'p> Stack<'p> {
     }
 
     /// An expression begins, and a frame waits for its value.
+    #[inline(always)]
     #[tactic(auto, unfolding(crate::specs::Stack::goes_on))]
     pub(crate) fn wait(
         &mut self,

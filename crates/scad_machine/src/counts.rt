@@ -15,6 +15,7 @@ use std::alloc::Global;
 
 impl<'p> Machine<'p> {
     /// Takes so many steps.
+    #[inline(always)]
     #[tactic(auto, unfolding(crate::specs::Machine::state_of, crate::specs::Machine::held, crate::specs::State::take, crate::specs::State::over))]
     pub fn take(&mut self, count: u64, at: Place) -> Result<(), EvalFault>
         ensures does { Does nothing (take count at (state_of self.old)) result (state_of self.new) }
@@ -29,6 +30,7 @@ impl<'p> Machine<'p> {
     }
 
     /// Takes the step of a node that begins.
+    #[inline(always)]
     #[tactic(auto, unfolding(crate::specs::State::step))]
     pub fn step(&mut self, at: Place) -> Result<(), EvalFault>
         ensures does { Does nothing (step at (state_of self.old)) result (state_of self.new) }
@@ -39,6 +41,7 @@ impl<'p> Machine<'p> {
     }
 
     /// Judges a value that was made, and takes its steps.
+    #[inline(always)]
     #[tactic(auto, unfolding(crate::specs::State::make, crate::specs::State::over, crate::specs::State::take, crate::specs::Machine::state_of))]
     pub fn make(&mut self, at: Place, value: Value) -> Result<Value, EvalFault>
         ensures does { Does datum_of (make at (datum_of value) (state_of self.old)) result (state_of self.new) }

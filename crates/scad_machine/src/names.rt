@@ -26,6 +26,7 @@ pub(crate) fn is_dollar(name: &[u8]) -> bool
 }
 
 /// A copy of what was found, or `undef`.
+#[inline(always)]
 fn copied(alloc: Global, found: Option<&Value>) -> Result<Value, EvalFault>
     ensures { (s : State) → Does datum_of (gives (or_undef (option_map (λ v. datum_of v.now) found.entry)) s) result s }
 {
@@ -50,6 +51,7 @@ pub fn are_named(args: &[Arg]) -> bool
 
 impl<'p> Machine<'p> {
     /// The value of a variable, where it has one.
+    #[inline(always)]
     #[tactic(auto, unfolding(crate::specs::Variables::variable, crate::specs::Machine::env_in, crate::specs::Machine::along_in, crate::specs::Machine::held))]
     pub fn seek(&self, name: &[u8]) -> Option<&Value>
         ensures { or_undef (option_map (λ v. datum_of v.now) result)
@@ -64,6 +66,7 @@ impl<'p> Machine<'p> {
     }
 
     /// A copy of the value of a variable.
+    #[inline(always)]
     pub fn variable(&self, alloc: Global, name: &[u8]) -> Result<Value, EvalFault>
         ensures { (s : State) → Does datum_of (gives
             (variable name.now (env_in (held self.now)) (along_in (held self.now))) s) result s }

@@ -8,6 +8,7 @@ use crate::value::Value;
 use std::alloc::{AllocError, Global};
 
 /// The same value again. Strings and vectors are shared, so it takes the same time for each value, and no memory.
+#[inline(always)]
 pub fn copy(_alloc: Global, a: &Value) -> Result<Value, AllocError>
     ensures same { IfOk result (λ v. datum_of v ≡ datum_of a.now) }
     ensures memory { IfErr result (λ _. IsTrue (is_list (datum_of a.now))) }

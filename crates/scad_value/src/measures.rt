@@ -22,6 +22,7 @@ pub fn truth(a: &Value) -> bool
 }
 
 /// How many elements and characters there are in the value, at every depth, or 2^64 - 1 where there are more.
+#[inline(always)]
 #[cycle(made)]
 #[tactic(auto, using(crate::proofs::Rows::at_vector))]
 pub fn made(a: &Value) -> u64
@@ -47,6 +48,7 @@ fn made_all(all: &[Value]) -> u64
 }
 
 /// How many brackets stand round the value's innermost element, or 2^32 - 1 where there are more.
+#[inline(always)]
 #[cycle(nesting)]
 #[tactic(auto, using(crate::proofs::Rows::at_vector))]
 pub fn nesting(a: &Value) -> u32

@@ -65,7 +65,7 @@ impl Sweep {
         })
     }
 
-    /// As many cursors as the front is wide enough for, one more or less at a time.
+    /// As many cursors as the front is wide enough for: one more at a time, or fewer by as many as are too many.
     pub(crate) fn fit_cursors(
         &mut self,
         edges: &[LeafEdge],

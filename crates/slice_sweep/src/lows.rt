@@ -40,7 +40,7 @@ pub(crate) fn forget_from(lows: &mut Vec<i64>, from: usize)
     lows.truncate(from / BLOCK);
 }
 
-/// Of the blocks of strands that change before a place and behind another nothing is known any more. Where as many come
+/// Of the blocks of strands that change between one place and another nothing is known any more. Where as many come
 /// as go these are few.
 pub(crate) fn forget(lows: &mut Vec<i64>, from: usize, to: usize, end: usize)
     ensures { (old new : List Strand) → AreLow lows.old.items old → KeysStay (from - 1) (length new) old new
