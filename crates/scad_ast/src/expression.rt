@@ -12,10 +12,17 @@ pub type Elems = Vec<Elem>;
 
 /// An expression. Its place is that of its operator, its `?`, its `[` or its `.`, else of its first token.
 #[cycle(expression)]
-#[derive(Drop)]
 pub struct Expr {
     pub at: Place,
     pub node: Node,
+}
+
+// Let go by one call wherever it is owned; what is derived is done in place there.
+impl Drop for Expr {
+    #[cycle(drops)]
+    fn drop(self) {
+        let Expr { at: _, node: _node } = self;
+    }
 }
 
 /// What an expression is (OpenSCAD manual, expressions).
@@ -44,10 +51,20 @@ pub enum Node {
 
 /// An argument, with its name where one is written.
 #[cycle(expression)]
-#[derive(Drop)]
 pub struct Arg {
     pub name: Option<Text>,
     pub value: Expr,
+}
+
+// Let go by one call wherever it is owned; what is derived is done in place there.
+impl Drop for Arg {
+    #[cycle(drops)]
+    fn drop(self) {
+        let Arg {
+            name: _name,
+            value: _value,
+        } = self;
+    }
 }
 
 /// An element of a vector. The place of a list comprehension is that of its keyword.

@@ -169,6 +169,6 @@ fn over<'p>(
     ensures less { Below_by 4 result stack.old m.old stack.new m.new }
 {
     let mut turning = turning;
-    turning.left = course_of(stack.alloc(), v)?;
+    turning.left = course_of(stack.alloc(), &v)?;
     turn(turning, stack, m)
 }

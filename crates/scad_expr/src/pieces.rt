@@ -25,12 +25,12 @@ fn add_ones(out: &mut Vec<Part>, all: Vec<Value>) -> Result<(), AllocError>
 
 /// What `each` puts in place of a value, behind other parts.
 #[tactic(auto, using(crate::proofs::Parts::pushed))]
-fn add_each(alloc: Global, out: &mut Vec<Part>, value: Value) -> Result<(), AllocError>
-    ensures { OnOk result (parts_in out.new ≡ parts_in out.old ++ items (datum_of value)) }
+fn add_each(alloc: Global, out: &mut Vec<Part>, value: &Value) -> Result<(), AllocError>
+    ensures { OnOk result (parts_in out.new ≡ parts_in out.old ++ items (datum_of value.now)) }
 {
     match value {
         Value::Range(start, step, end) => {
-            out.push(Part::Run(start, step, end))?;
+            out.push(Part::Run(*start, *step, *end))?;
             Ok(())
         }
         value => {
@@ -46,7 +46,7 @@ fn add_part(alloc: Global, out: &mut Vec<Part>, part: Part) -> Result<(), AllocE
     ensures { OnOk result (parts_in out.new ≡ parts_in out.old ++ flat_map items (part_data part)) }
 {
     match part {
-        Part::One(value) => add_each(alloc, out, value),
+        Part::One(value) => add_each(alloc, out, &value),
         Part::Run(start, step, end) => {
             out.push(Part::Run(start, step, end))?;
             Ok(())

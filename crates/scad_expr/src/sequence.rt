@@ -90,28 +90,28 @@ fn add_values(alloc: Global, out: &mut Vec<Value>, all: &[Value]) -> Result<(), 
 
 /// What `for` and `each` run over, behind other values.
 #[tactic(auto, using(crate::proofs::RunsLeft::kinds), unfolding(crate::specs::Runs::items))]
-fn add(alloc: Global, out: &mut Vec<Value>, value: Value) -> Result<(), AllocError>
-    ensures { OnOk result (data_in out.new ≡ data_in out.old ++ items (datum_of value)) }
+fn add(alloc: Global, out: &mut Vec<Value>, value: &Value) -> Result<(), AllocError>
+    ensures { OnOk result (data_in out.new ≡ data_in out.old ++ items (datum_of value.now)) }
 {
     match value {
         Value::Undef => Ok(()),
         Value::Str(chars) => add_characters(alloc, out, chars.as_slice()),
         Value::List(all) => add_values(alloc, out, all.as_slice()),
-        Value::Range(start, step, end) => add_numbers(out, start, step, end),
+        Value::Range(start, step, end) => add_numbers(out, *start, *step, *end),
         Value::Bool(b) => {
-            out.push(Value::Bool(b))?;
+            out.push(Value::Bool(*b))?;
             Ok(())
         }
         Value::Number(n) => {
-            out.push(Value::Number(n))?;
+            out.push(Value::Number(*n))?;
             Ok(())
         }
     }
 }
 
 /// What `for` runs over.
-pub fn items_of(alloc: Global, value: Value) -> Result<Vec<Value>, AllocError>
-    ensures { IfOk result (λ all. data_in all ≡ items (datum_of value)) }
+pub fn items_of(alloc: Global, value: &Value) -> Result<Vec<Value>, AllocError>
+    ensures { IfOk result (λ all. data_in all ≡ items (datum_of value.now)) }
 {
     let mut all = Vec::new(alloc);
     add(alloc, &mut all, value)?;

@@ -52,11 +52,11 @@ pub(crate) fn variables<'p>(
 
 /// What a value is run over by.
 #[tactic(auto, using(crate::proofs::RunsLeft::kinds))]
-pub(crate) fn course_of(alloc: Global, value: Value) -> Result<Course, AllocError>
-    ensures { IfOk result (λ c. course c ≡ items (datum_of value)) }
+pub(crate) fn course_of(alloc: Global, value: &Value) -> Result<Course, AllocError>
+    ensures { IfOk result (λ c. course c ≡ items (datum_of value.now)) }
 {
     match value {
-        Value::Range(start, step, end) => Ok(Course::Numbers(Some(start), step, end)),
+        Value::Range(start, step, end) => Ok(Course::Numbers(Some(*start), *step, *end)),
         value => Ok(Course::Values(items_of(alloc, value)?, 0)),
     }
 }

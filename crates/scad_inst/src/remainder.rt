@@ -27,11 +27,11 @@ pub(crate) enum Remainder {
 
 /// All that a value runs over.
 #[tactic(auto, using(scad_expr::proofs::RunsLeft::kinds), unfolding(crate::specs::Stack::left_in))]
-pub(crate) fn run_over(alloc: Global, over: Value) -> Result<Remainder, AllocError>
-    ensures { IfOk result (λ r. left_in r ≡ run_over (datum_of over)) }
+pub(crate) fn run_over(alloc: Global, over: &Value) -> Result<Remainder, AllocError>
+    ensures { IfOk result (λ r. left_in r ≡ run_over (datum_of over.now)) }
 {
     match over {
-        Value::Range(start, step, end) => Ok(Remainder::Numbers(Some(start), step, end)),
+        Value::Range(start, step, end) => Ok(Remainder::Numbers(Some(*start), *step, *end)),
         over => Ok(Remainder::Values(items_of(alloc, over)?, 0)),
     }
 }
@@ -70,7 +70,7 @@ pub(crate) fn naming(alloc: Global, scope: &Scope, value: &Value) -> Result<Rema
             let (first, last) = near(scope, *start, *step, *end);
             Ok(Remainder::Numbers(Some(first), *step, last))
         }
-        other => run_over(alloc, copy(alloc, other)?),
+        other => run_over(alloc, other),
     }
 }
 

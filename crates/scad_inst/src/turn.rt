@@ -140,7 +140,7 @@ fn named<'p>(
         stack.old) (state_of m.old)) stack.old m.old → Goes o result stack.new m.new }
 {
     let over = eval(stack.alloc, value, m)?;
-    let more = run_over(stack.alloc, over)?;
+    let more = run_over(stack.alloc, &over)?;
     Ok(Focus::Turns(variable, more, *w))
 }
 

@@ -18,18 +18,27 @@ mod last_name;
 mod shelf;
 mod sink;
 
-#[derive(Drop)]
 struct Input {
     name: LastName,
     cursor: Option<Cursor>,
     failed: bool,
 }
 
+// Let go by one call wherever it is owned; what is derived is done in place there.
+impl Drop for Input {
+    fn drop(self) {
+        let Input {
+            name: _name,
+            cursor: _cursor,
+            failed: _,
+        } = self;
+    }
+}
+
 /// A desk in memory, for tests: files by name, the numbers of the calls that are to fail, and a
 /// room for each output.
 ///
 /// Contracts see it as a `Memory`. Its calls take no memory.
-#[derive(Drop)]
 pub struct MemoryDesk {
     files: Vec<(Text, Text)>,
     calls: Calls,
@@ -38,6 +47,21 @@ pub struct MemoryDesk {
     report: Sink,
     cli: Sink,
     gcode: Sink,
+}
+
+// Let go by one call wherever it is owned; what is derived is done in place there.
+impl Drop for MemoryDesk {
+    fn drop(self) {
+        let MemoryDesk {
+            files: _files,
+            calls: _calls,
+            room: _,
+            input: _input,
+            report: _report,
+            cli: _cli,
+            gcode: _gcode,
+        } = self;
+    }
 }
 
 impl Model for MemoryDesk {

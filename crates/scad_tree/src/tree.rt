@@ -9,9 +9,16 @@ use scad_solid::Triangles;
 use std::marker::Model;
 
 /// A tree of set operations in normal form.
-#[derive(Debug, Drop)]
+#[derive(Debug)]
 pub struct Tree {
     node: Node,
+}
+
+// Let go by one call wherever it is owned; what is derived is done in place there.
+impl Drop for Tree {
+    fn drop(self) {
+        let Tree { node: _node } = self;
+    }
 }
 
 impl Model for Tree {
@@ -70,6 +77,7 @@ impl Tree {
         ensures same { result ≡ self }
         ensures normal { IsTrue (is_normal (solid_of self)) }
     {
-        self.node
+        let Tree { node } = self;
+        node
     }
 }

@@ -14,7 +14,7 @@ pub type Values = Vec<Value>;
 
 /// A value of the language (OpenSCAD manual, values and data types). What is in a string or a vector is shared by all
 /// copies, since nothing writes to it once it is made.
-#[derive(Debug, Drop)]
+#[derive(Debug)]
 pub enum Value {
     Undef,
     Bool(bool),
@@ -23,6 +23,17 @@ pub enum Value {
     List(Rc<Values>),
     /// Start, step and end.
     Range(Num, Num, Num),
+}
+
+// Let go by one call wherever it is owned; what is derived is done in place there.
+impl Drop for Value {
+    fn drop(self) {
+        match self {
+            Value::Undef | Value::Bool(_) | Value::Number(_) | Value::Range(_, _, _) => {}
+            Value::Str(_chars) => {}
+            Value::List(_all) => {}
+        }
+    }
 }
 
 impl Value {

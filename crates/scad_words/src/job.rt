@@ -4,7 +4,7 @@ use scad_fault::FileName;
 use thiserror::Error;
 
 /// A command with the files or the number that it names.
-#[derive(Debug, Drop)]
+#[derive(Debug)]
 pub enum Command {
     /// Reads a model and reports its size.
     Check(FileName),
@@ -20,12 +20,37 @@ pub enum Command {
     Verify(FileName, FileName),
 }
 
+// Let go by one call wherever it is owned; what is derived is done in place there.
+impl Drop for Command {
+    fn drop(self) {
+        match self {
+            Command::Sample(_) => {}
+            Command::Check(_model) => {}
+            Command::Tree(_model) => {}
+            Command::Slice(_model, _outlines) => {}
+            Command::Plan(_model, _outlines, _program) => {}
+            Command::Verify(_outlines, _program) => {}
+        }
+    }
+}
+
 /// A command, the file of its settings, where one is named, and how many workers share the layers.
-#[derive(Debug, Drop)]
+#[derive(Debug)]
 pub struct Job {
     pub command: Command,
     pub settings: Option<FileName>,
     pub workers: u32,
+}
+
+// Let go by one call wherever it is owned; what is derived is done in place there.
+impl Drop for Job {
+    fn drop(self) {
+        let Job {
+            command: _command,
+            settings: _settings,
+            workers: _,
+        } = self;
+    }
 }
 
 /// Why words give no job.
