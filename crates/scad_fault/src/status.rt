@@ -20,7 +20,7 @@ pub const WRITE_FAULT: &[u8] = b"write fault\n";
 pub const OUT_OF_MEMORY: &[u8] = b"out of memory\n";
 
 /// How a run ended.
-#[derive(Debug, Drop)]
+#[derive(Drop)]
 pub enum Status {
     /// What was asked for is written.
     Done,

@@ -1,7 +1,7 @@
 //! Set operations over leaves.
 
 /// A tree of set operations over numbered leaves.
-#[derive(Debug, Drop)]
+#[derive(Drop)]
 pub enum Shape {
     /// Holds no point.
     Empty,

@@ -1,5 +1,5 @@
 -- A node's value from that of its members, which code sees as a slice.
-use Rattle.std.proofs.Common.{◌≡◌, ℕ, slice_index_or, false, true, Bool, not, ◌&&◌, sym, ap, ◌∙◌}
+use Rattle.std.proofs.Common.{◌≡◌, ℕ, slice_index_or, false, true, Bool, not, ◌&&◌, refl, sym, ap, ◌∙◌, arith}
 use Rattle.scad_geom.specs.Shape.{shape_holds, any_holds, all_holds, has_items}
 use Rattle.scad_geom.proofs.Shapes.{holds_union, holds_inter, holds_diff}
 use Rattle.scad_geom.proofs.membership.+holds.Goals as goal
@@ -35,3 +35,15 @@ holds-returns-then-holds t c =
     ap not (c.any_holds-then-holds.ensures ∙ ap (any_holds inside) c.deref-then-holds.ensures.value)
     ∙ sym (ap (λ (b : Bool). b && not (any_holds inside c.in-Diff.rest.items)) first) ∙ sym
     (holds_diff inside c.in-Diff.first c.in-Diff.rest) ∙ ap (shape_holds inside) (sym c.in-Diff.is)
+
+pub all_hold-members-init : goal.all_hold-members-init
+all_hold-members-init t c = refl
+
+pub any_holds-members-init : goal.any_holds-members-init
+any_holds-members-init t c = refl
+
+pub all_hold-offset_bounds-members-member-index : goal.all_hold-offset_bounds-members-member-index
+all_hold-offset_bounds-members-member-index t c = omega arith
+
+pub any_holds-offset_bounds-members-member-index : goal.any_holds-offset_bounds-members-member-index
+any_holds-offset_bounds-members-member-index t c = omega arith

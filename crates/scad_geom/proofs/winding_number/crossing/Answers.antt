@@ -1,6 +1,6 @@
 -- The turn over doubled coordinates.
-use Rattle.std.proofs.Common.{rules, ◌≡◌, pos, sym, ◌∙◌, to_z, of_z}
-use Rattle.scad_geom.proofs.Casts.{casts}
+use Rattle.std.proofs.Common.{rules, ◌≡◌, pos, sym, ◌∙◌, to_z, of_z, arith}
+use Rattle.scad_geom.proofs.Casts.{casts, sizes}
 use Rattle.scad_geom.proofs.Crossing.{crossing, doubled_edge}
 use Rattle.scad_geom.proofs.CommonDivisor.{turn_halves}
 use Rattle.scad_geom.proofs.winding_number.crossing.Goals as goal
@@ -21,3 +21,18 @@ pub returns-else-times-gt0-clause-value : goal.returns-else-times-gt0-clause-val
 returns-else-times-gt0-clause-value c =
     let told : pos 0 ≡ crossing (doubled_edge c.args.edge.now) c.args.x c.args.y = search (rules, casts) in
     told ∙ sym (turn_halves c.args.edge.now c.args.x c.args.y)
+
+pub side_at-requires-clause-x : goal.side_at-requires-clause-x
+side_at-requires-clause-x c = omega (arith, sizes)
+
+pub side_at-requires-clause-y : goal.side_at-requires-clause-y
+side_at-requires-clause-y c = omega (arith, sizes)
+
+pub times-requires-clause-left : goal.times-requires-clause-left
+times-requires-clause-left c = omega (arith, sizes)
+
+pub times-requires-clause-right : goal.times-requires-clause-right
+times-requires-clause-right c = omega (arith, sizes)
+
+pub returns-then-times-gt0-clause-size : goal.returns-then-times-gt0-clause-size
+returns-then-times-gt0-clause-size c = omega (arith, sizes)
