@@ -1,7 +1,7 @@
 //! The functions of the language.
 
 /// A function of the language.
-#[derive(Clone, Copy, Debug, PartialEq, Eq)]
+#[derive(Clone, Copy)]
 pub enum Function {
     Abs,
     Sign,
@@ -29,7 +29,7 @@ pub enum Function {
 }
 
 /// What a name means where a function is called.
-#[derive(Clone, Copy, Debug, PartialEq, Eq)]
+#[derive(Clone, Copy)]
 pub enum Name {
     Known(Function),
     /// A function of the OpenSCAD User Manual that the language leaves out.

@@ -4,7 +4,7 @@ use scad_fault::{Budget, Fault};
 use std::alloc::{AllocError, AllocFailed};
 
 /// Why an expression has no value.
-#[derive(Debug, Drop)]
+#[derive(Drop)]
 pub enum EvalFault {
     /// A fault of the program.
     Fault(Fault),
