@@ -78,25 +78,31 @@ pub fn write_prefix(out: &mut Vec<u8>, op: UnOp) -> Result<(), AllocError>
     }
 }
 
+fn operator_word(op: BinOp) -> &'static [u8]
+    ensures { result.now ≡ operator_text op }
+{
+    match op {
+        BinOp::Or => b"||",
+        BinOp::And => b"&&",
+        BinOp::Eq => b"==",
+        BinOp::Ne => b"!=",
+        BinOp::Lt => b"<",
+        BinOp::Le => b"<=",
+        BinOp::Gt => b">",
+        BinOp::Ge => b">=",
+        BinOp::Add => b"+",
+        BinOp::Sub => b"-",
+        BinOp::Mul => b"*",
+        BinOp::Div => b"/",
+        BinOp::Rem => b"%",
+    }
+}
+
 /// Appends an operator of two operands.
 pub fn write_operator(out: &mut Vec<u8>, op: BinOp) -> Result<(), AllocError>
     ensures { OnOk result (out.new.items ≡ out.old.items ++ spaced (operator_text op)) }
 {
-    match op {
-        BinOp::Or => write_token(out, b"||"),
-        BinOp::And => write_token(out, b"&&"),
-        BinOp::Eq => write_token(out, b"=="),
-        BinOp::Ne => write_token(out, b"!="),
-        BinOp::Lt => write_token(out, b"<"),
-        BinOp::Le => write_token(out, b"<="),
-        BinOp::Gt => write_token(out, b">"),
-        BinOp::Ge => write_token(out, b">="),
-        BinOp::Add => write_token(out, b"+"),
-        BinOp::Sub => write_token(out, b"-"),
-        BinOp::Mul => write_token(out, b"*"),
-        BinOp::Div => write_token(out, b"/"),
-        BinOp::Rem => write_token(out, b"%"),
-    }
+    write_token(out, operator_word(op))
 }
 
 // A comma before each member of a list but the first.
