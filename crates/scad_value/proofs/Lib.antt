@@ -6,4 +6,5 @@ pub mod Memory
 pub mod Quotients
 pub mod Rows
 pub mod Steps
+pub mod Sums
 pub mod Lists

@@ -13,7 +13,7 @@ use scad_num::{Num, NumFault};
 use std::alloc::Global;
 
 /// An operation with one number given.
-#[derive(Clone, Copy, Debug)]
+#[derive(Clone, Copy)]
 pub(crate) enum Action {
     /// `n * x`
     TimesLeft(Num),

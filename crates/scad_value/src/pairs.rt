@@ -15,7 +15,7 @@ use scad_num::{Num, NumFault};
 use std::alloc::Global;
 
 /// An operation on two numbers.
-#[derive(Clone, Copy, Debug)]
+#[derive(Clone, Copy)]
 pub(crate) enum Pairing {
     Sum,
     Difference,

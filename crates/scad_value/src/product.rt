@@ -9,7 +9,7 @@ use crate::value::Value;
 use scad_num::{Num, NumFault};
 
 /// What the elements of a vector are to a product.
-#[derive(Clone, Copy, Debug, PartialEq, Eq)]
+#[derive(Clone, Copy)]
 pub(crate) enum Factor {
     /// So many numbers, one at least.
     Numbers(usize),

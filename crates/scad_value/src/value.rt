@@ -14,7 +14,6 @@ pub type Values = Vec<Value>;
 
 /// A value of the language (OpenSCAD manual, values and data types). What is in a string or a vector is shared by all
 /// copies, since nothing writes to it once it is made.
-#[derive(Debug)]
 pub enum Value {
     Undef,
     Bool(bool),

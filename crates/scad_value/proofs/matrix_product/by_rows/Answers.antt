@@ -1,9 +1,10 @@
-use Rattle.std.proofs.Common.{◌+◌, ◌∙◌, sym, ap, drop}
+use Rattle.std.proofs.Common.{◌+◌, ◌∙◌, sym, ap, drop, subst}
 use Rattle.scad_value.specs.Elementwise.{as_number}
+use Rattle.scad_value.specs.Faults.{Refuses}
 use Rattle.scad_value.specs.Products.{elements_in, dot, by_rows}
 use Rattle.scad_value.specs.View.{datum_of, elements}
 use Rattle.scad_value.proofs.Rows.{elements-drop}
-use Rattle.scad_value.proofs.Steps.{step_made}
+use Rattle.scad_value.proofs.Steps.{step_made, step_refused}
 use Rattle.scad_value.proofs.matrix_product.by_rows.Goals as goal
 
 pub rows-preserved : goal.rows-preserved
@@ -15,3 +16,12 @@ rows-preserved c =
     (ap (λ es. by_rows es ys) (elements-drop c.args.rows.now c.rows.row-index c.row-item.result c.rows-test.true
     c.row-item.is)) (ap (λ es. as_number (dot es ys)) (sym c.elements_in.ensures) ∙ ap as_number (sym c.dot.ensures)
     ∙ c.in-Ok.ensures.found) c.rows.invariant)
+
+pub returns-in-Err-clause-refused : goal.returns-in-Err-clause-refused
+returns-in-Err-clause-refused c =
+    let ys = elements c.args.ys.now in
+    step_refused c.rows.made.items c.in-Err.fault (as_number (dot (elements_in (datum_of c.row-item.result)) ys)) _
+    (by_rows (elements (drop (c.rows.row-index + 1) c.args.rows.now)) ys) _
+    (ap (λ es. by_rows es ys) (elements-drop c.args.rows.now c.rows.row-index c.row-item.result c.rows-test.true
+    c.row-item.is)) (subst (λ r. Refuses (as_number r) c.in-Err.fault)
+    (c.dot.ensures ∙ ap (λ es. dot es ys) c.elements_in.ensures) c.in-Err.ensures.refused) c.rows.invariant

@@ -6,7 +6,7 @@ use Rattle.scad_value.specs.Elementwise.{by_pairs, by_pairs_of}
 use Rattle.scad_value.specs.View.{datum_of, elements}
 use Rattle.scad_value.proofs.Others.{but-number}
 use Rattle.scad_value.proofs.Rows.{elements-drop, items_in}
-use Rattle.scad_value.proofs.Steps.{step_made, refused_vector}
+use Rattle.scad_value.proofs.Steps.{step_made, step_refused, refused_vector}
 use Rattle.scad_value.proofs.pairs.+pairs.Goals as goal
 
 pub by_pairs-returns-in-Err-clause-refused : goal.by_pairs-returns-in-Err-clause-refused
@@ -26,6 +26,16 @@ by_pairs_of-pairs-preserved t c =
     (ap₂ (by_pairs_of f) (elements-drop c.args.xs.now c.pairs.i c.index-xs-i.result c.pairs-test.true
     c.index-xs-i.is) (elements-drop c.args.ys.now c.pairs.i c.index-ys-i.result c.if-i-ys.false c.index-ys-i.is))
     c.in-Ok.ensures.found c.pairs.invariant)
+
+pub by_pairs_of-returns-in-Err-clause-refused : goal.by_pairs_of-returns-in-Err-clause-refused
+by_pairs_of-returns-in-Err-clause-refused t c =
+    let f = pairing c.args.operation in
+    step_refused c.pairs.made.items c.in-Err.fault (by_pairs f (datum_of c.index-xs-i.result)
+    (datum_of c.index-ys-i.result)) _ (by_pairs_of f (elements (drop (c.pairs.i + 1) c.args.xs.now))
+    (elements (drop (c.pairs.i + 1) c.args.ys.now))) _
+    (ap₂ (by_pairs_of f) (elements-drop c.args.xs.now c.pairs.i c.index-xs-i.result c.pairs-test.true
+    c.index-xs-i.is) (elements-drop c.args.ys.now c.pairs.i c.index-ys-i.result c.if-i-ys.false c.index-ys-i.is))
+    c.in-Err.ensures.refused c.pairs.invariant
 
 pub by_pairs-returns-in_default-b : goal.by_pairs-returns-in_default-b
 by_pairs-returns-in_default-b t c =
