@@ -1,6 +1,6 @@
 -- The commands, as a simple command of clap: each with its positionals in order, all required, and the options
 -- `--settings` and `--workers` with one value each. Help and version are off, and one of the commands is required.
-use Rattle.std.specs.Prelude.{◌≡◌, true, false, Some, Result, IfOk, codes}
+use Rattle.std.specs.Prelude.{◌≡◌, true, false, List, [], ◌∷◌, Some, Result, IfOk, codes}
 use Rattle.clap.specs.Walk.{Rule, Text}
 use Rattle.clap.specs.Simple.{App, app_of, new_rule, new_app, on_top, with_rule, with_subcommand}
 use Rattle.clap.specs.declared.builder.command.Command.{Command}
@@ -63,6 +63,15 @@ abbrev pub command_set : App
 command_set = with_subcommand (with_subcommand drawing_set sample_app.top) verify_app.top
 
 -- ---- for the contracts of the functions that make them
+
+-- a command that requires these words too, in order
+abbrev pub requiring : App → List Text → App
+requiring app [] = app
+requiring app (word ∷ words) = requiring (with_rule app (positional word)) words
+
+-- the command of this name that requires these words
+abbrev pub command_app : Text → List Text → App
+command_app name words = with_options (requiring (new_app name) words)
 
 -- a command is of this form, with no argument that its commands share
 pub record IsOf (app : App) (command : Command) : Type 0 where
