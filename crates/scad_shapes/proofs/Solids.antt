@@ -1,5 +1,5 @@
 -- The solids of faces whose numbers all name points, and rings that are made one by one.
-use Rattle.std.proofs.Common.{◌≡◌, ℕ, zero, suc, ◌+◌, ◌<◌, Bool, true, false, cond, ◌&&◌, ◌==◌, Some, List, [], ◌∷◌, ◌++◌, append_assoc, length, map, None, Result, Ok, Err, arith, refl, ap, ap₂, sym, ◌∙◌, nat_le, nat_lt, ◌-◌, ℤ}
+use Rattle.std.proofs.Common.{◌≡◌, ℕ, zero, suc, ◌+◌, ◌<◌, Bool, true, false, cond, ◌&&◌, ◌==◌, Some, List, [], ◌∷◌, ◌++◌, append_assoc, length, get_or, drop, map, None, Result, Ok, Err, arith, refl, ap, ap₂, sym, ◌∙◌, nat_le, nat_lt, ◌-◌, ℤ}
 use Rattle.std.proofs.lemmas.Bool.{and_parts}
 use Rattle.std.specs.Prelude.{if◌then◌else◌}
 use Rattle.std.specs.List.{find, flat_map, list_all, range_with_len}
@@ -17,11 +17,13 @@ use Rattle.scad_shapes.specs.declared.fault.ShapeFault.{ShapeFault}
 use Rattle.scad_shapes.specs.declared.fault.ShapeFault.TheVariants.{CoordinateRange, NotClosed, Memory}
 use Rattle.scad_shapes.specs.Pushes.{Pushes, Collects}
 use Rattle.std.proofs.lemmas.List.FromFn.{length-range_with_len}
-use Rattle.std.proofs.lemmas.List.{length-map}
+use Rattle.std.proofs.lemmas.List.{at_drop_more, length-map}
 use Rattle.scad_matrix.specs.declared.matrix.Matrix.{Matrix}
 use Rattle.scad_solid.specs.Stack.{are_alike}
 use Rattle.scad_shapes.specs.Outline.{sphere_rings}
-use Rattle.scad_shapes.specs.Rings.{sphere_ring_at, sphere_rings_of}
+use Rattle.scad_base.specs.Memory.{UnlessMemory}
+use Rattle.scad_shapes.specs.Faults.{is_memory}
+use Rattle.scad_shapes.specs.Rings.{ring_if_in_range, sphere_ring_at, sphere_rings_of}
 use Rattle.scad_shapes.specs.Polyhedron.{name_points, if_closed}
 
 module _ (count : ℕ) where
@@ -99,6 +101,15 @@ never_bad us i e = never_bad_by (is_closed us) us i e
 range-front : (i n : ℕ) → i < n → range_with_len i (n - i) ≡ i ∷ range_with_len (i + 1) (n - (i + 1))
 range-front i n inside = let left : n - i ≡ suc (n - (i + 1)) = omega arith in ap (range_with_len i) left
 
+-- a list of which x is the next to be made
+module _ {X : Type 0} (p : X → Bool) (x : X) (left rest : List X) (front : left ≡ x ∷ rest) where
+  next-made : (old new all : List X) → old ++ left ≡ all → new ≡ old ++ x ∷ [] → new ++ rest ≡ all
+  next-made old new all so_far more = ap (λ xs. xs ++ rest) more ∙ append_assoc old (x ∷ []) rest ∙ ap
+      (λ xs. old ++ xs) (sym front) ∙ so_far
+
+  next-ranged : (all here : Bool) → all ≡ list_all p left → p x ≡ here → all ≡ (here && list_all p rest)
+  next-ranged all here so_far is = so_far ∙ ap (list_all p) front ∙ ap (λ b. b && list_all p rest) is
+
 -- a list of the values of f at the numbers below n, where those below i were made
 module _ {X : Type 0} (p : X → Bool) (f : ℕ → X) (i n : ℕ) (inside : i < n) where
   abbrev left : List X
@@ -111,14 +122,35 @@ module _ {X : Type 0} (p : X → Bool) (f : ℕ → X) (i n : ℕ) (inside : i <
   front = ap (map f) (range-front i n inside)
 
   pub made-more : (old new all : List X) → old ++ left ≡ all → new ≡ old ++ f i ∷ [] → new ++ rest ≡ all
-  made-more old new all so_far more = ap (λ xs. xs ++ rest) more ∙ append_assoc old (f i ∷ []) rest ∙ ap
-      (λ xs. old ++ xs) (sym front) ∙ so_far
+  made-more = next-made p (f i) left rest front
 
   pub ranged-more : (all : Bool) → all ≡ list_all p left → p (f i) ≡ true → all ≡ list_all p rest
-  ranged-more all so_far here = so_far ∙ ap (list_all p) front ∙ ap (λ b. b && list_all p rest) here
+  ranged-more all = next-ranged p (f i) left rest front all true
 
   pub ranged-fails : (all : Bool) → all ≡ list_all p left → p (f i) ≡ false → all ≡ false
-  ranged-fails all so_far here = so_far ∙ ap (list_all p) front ∙ ap (λ b. b && list_all p rest) here
+  ranged-fails all = next-ranged p (f i) left rest front all false
+
+-- a list of the values of f at the items of a list, of which x is the next, where those before it were made
+module _ {A X : Type 0} (p : X → Bool) (f : A → X) (items : List A) (k : ℕ) (x : A) (inside : k < length items) (is : x
+    ≡ get_or items k x) where
+  abbrev items_left : List X
+  items_left = map f (drop k items)
+
+  abbrev items_rest : List X
+  items_rest = map f (drop (k + 1) items)
+
+  items_front : items_left ≡ f x ∷ items_rest
+  items_front = at_drop_more (map f) items k x inside ∙ ap (λ y. f y ∷ items_rest) (sym is)
+
+  pub item_made-more : (old new all : List X) → old ++ items_left ≡ all → new ≡ old ++ f x ∷ [] → new ++ items_rest
+      ≡ all
+  item_made-more = next-made p (f x) items_left items_rest items_front
+
+  pub item_ranged-more : (all : Bool) → all ≡ list_all p items_left → p (f x) ≡ true → all ≡ list_all p items_rest
+  item_ranged-more all = next-ranged p (f x) items_left items_rest items_front all true
+
+  pub item_ranged-fails : (all : Bool) → all ≡ list_all p items_left → p (f x) ≡ false → all ≡ false
+  item_ranged-fails all = next-ranged p (f x) items_left items_rest items_front all false
 
 -- what isn't pushed isn't collected
 pub fails : (B : Type 0) → {X : Type 0} → (ranged : X → Bool) (old new all : List X) (x : X) (e : ShapeFault) (items : B
@@ -127,6 +159,14 @@ pub fails : (B : Type 0) → {X : Type 0} → (ranged : X → Bool) (old new all
 fails B ranged old new all x CoordinateRange items why so = so why
 fails B ranged old new all x NotClosed items why so = absurd why
 fails B ranged old new all x Memory items why so = tt
+
+-- a ring of which a point isn't pushed isn't made
+pub ring_fails : (old new all : List Pt3) (x : Pt3) (e : ShapeFault) → Pushes {A = Unit {0}} is_in_range old x
+    new (Err e) → (is_in_range x ≡ false → list_all is_in_range all ≡ false)
+    → UnlessMemory {A = List Pt3} is_memory (Err e) (Err e ≡ ring_if_in_range all)
+ring_fails old new all x CoordinateRange why so = sym (ap (λ b. if b then Ok all else Err CoordinateRange) (so why))
+ring_fails old new all x NotClosed why so = absurd why
+ring_fails old new all x Memory why so = tt
 
 -- rings of equal length are alike
 pub alike-map : (f : ℕ → List Pt3) (m a n : ℕ) → ((i : ℕ) → length (f i) ≡ m) → list_all (λ ring. length ring == m)

@@ -112,9 +112,26 @@ fn side(a: &Exact, b: &Exact, x: i128, y: i128) -> i128
     ensures value { result ≡ side_by (halves x y) (point_of a.now) (point_of b.now) }
     ensures size { unsigned_abs result ≤ 2 ^ 124 }
 {
-    let left = times::<66, 56>(ends_apart(b.x, a.d, a.x, b.d), point_apart(y, a.d, a.y));
-    let right = times::<66, 56>(ends_apart(b.y, a.d, a.y, b.d), point_apart(x, a.d, a.x));
+    let left = aside(b.x, a.d, a.x, b.d, y, a.y);
+    let right = aside(b.y, a.d, a.y, b.d, x, a.x);
     minus(left, right)
+}
+
+// How far one end is from another along an axis, times how far the point is from it along the other one.
+fn aside(to: i128, from_divisor: i128, from: i128, to_divisor: i128, point: i128, end: i128) -> i128
+    requires to { unsigned_abs to ≤ 2 ^ 43 }
+    requires from_divisor { unsigned_abs from_divisor ≤ 2 ^ 22 }
+    requires from { unsigned_abs from ≤ 2 ^ 43 }
+    requires to_divisor { unsigned_abs to_divisor ≤ 2 ^ 22 }
+    requires point { unsigned_abs point ≤ 2 ^ 33 }
+    requires end { unsigned_abs end ≤ 2 ^ 43 }
+    ensures value { result ≡ (to *ℤ from_divisor -ℤ from *ℤ to_divisor) *ℤ (point *ℤ from_divisor -ℤ end *ℤ pos 2) }
+    ensures size { unsigned_abs result ≤ 2 ^ 122 }
+{
+    times::<66, 56>(
+        ends_apart(to, from_divisor, from, to_divisor),
+        point_apart(point, from_divisor, end),
+    )
 }
 
 // How far one end is from another along an axis, over both divisors.
