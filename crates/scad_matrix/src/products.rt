@@ -1,5 +1,5 @@
 //! Products of matrices.
-ghost use Rattle.std.specs.Prelude.{◌≡◌, ◌^◌, ◌<◌, ◌≤◌, ◌*ℤ◌, unsigned_abs};
+ghost use Rattle.std.specs.Prelude.{◌≡◌, ◌^◌, ◌<◌, ◌≤◌, ◌+ℤ◌, ◌*ℤ◌, unsigned_abs};
 ghost use Rattle.scad_num.specs.Number.{one};
 ghost use Rattle.scad_matrix.specs.Matrix.{dot, entry, entry_number, row_number, composed};
 
@@ -17,11 +17,20 @@ pub(crate) fn dot(row: &Row, x: Num, y: Num, z: Num, last: i64) -> i128
     ensures value { result ≡ dot row.now x y z last }
     ensures size { unsigned_abs result < 2 ^ 103 }
 {
-    let xy = plus(product(row.x, x), product(row.y, y));
-    let xyz = plus(xy, product(row.z, z));
     plus(
-        xyz,
+        unshifted(row, x, y, z),
         times::<50, 20>(row.shift.millionths() as i128, last as i128),
+    )
+}
+
+// The same without the shift.
+fn unshifted(row: &Row, x: Num, y: Num, z: Num) -> i128
+    ensures value { result ≡ row.now.x *ℤ x +ℤ row.now.y *ℤ y +ℤ row.now.z *ℤ z }
+    ensures size { unsigned_abs result ≤ 2 ^ 102 }
+{
+    plus(
+        plus(product(row.x, x), product(row.y, y)),
+        product(row.z, z),
     )
 }
 
