@@ -8,6 +8,7 @@ pub mod Yields
 pub mod AtEnds
 pub mod Early
 pub mod Homes
+pub mod Loops
 pub mod Stays
 pub mod AllPairs
 pub mod Finding

@@ -1,11 +1,14 @@
 -- The steps by which stays are made.
-use Rattle.std.proofs.Common.{◌≡◌, ℕ, suc, ◌+◌, ◌-◌, ◌<◌, true, false, List, [], ◌∷◌, ◌++◌, sym, ap, ◌∙◌, arith, append_assoc}
+use Rattle.std.proofs.Common.{◌≡◌, ℕ, suc, ◌+◌, ◌-◌, ◌<◌, true, false, List, [], ◌∷◌, ◌++◌, length, get_or, drop, sym, ap, ◌∙◌, arith, append_assoc}
+use Rattle.std.proofs.lemmas.List.{at_drop_more}
 use lib.IntN.{ℤ}
 use Rattle.scad_geom.specs.declared.point.Edge.{Edge}
 use Rattle.scad_geom.specs.Line.{low, high}
+use Rattle.slice_events.specs.declared.line.Line.{Line}
 use Rattle.slice_events.specs.declared.stay.Stay.{Stay}
 use Rattle.slice_events.specs.Boxes.{left_end}
-use Rattle.slice_events.specs.Stays.{bucket_of, later_stays, stays_from, stays_of}
+use Rattle.slice_events.specs.Lines.{edges_in}
+use Rattle.slice_events.specs.Stays.{bucket_of, later_stays, stays_from, stays_of, all_stays}
 
 one_less : (b e : ℕ) → b < e → e - b ≡ suc (e - (b + 1))
 one_less b e l = omega arith
@@ -48,4 +51,17 @@ stays_made stays one new tall line first last left e hl hf hh p q =
     ∙ (λ i. stays ++ stays_from line (hl i) (hf i) (hh i - hf i))
   where
     plus_one : (n : ℕ) → n + 1 ≡ suc n
+    plus_one n = omega arith
+
+-- the first of the edges that are left, and those after it
+pub next_stays : (tall : ℕ) (ls : List Line) (i : ℕ) (l : Line) → i < length ls → l ≡ get_or ls i l
+    → all_stays tall i (edges_in (drop i ls))
+    ≡ stays_of tall i l.edge ++ all_stays tall (i + 1) (edges_in (drop (i + 1) ls))
+next_stays tall ls i l there is =
+    let more : ℕ → List Stay = λ n. all_stays tall n (edges_in (drop (i + 1) ls)) in
+    at_drop_more (λ (xs : List Line). all_stays tall i (edges_in xs)) ls i l there
+    ∙ ap (λ (x : Line). stays_of tall i x.edge ++ more (suc i)) (sym is)
+    ∙ ap (λ (n : ℕ). stays_of tall i l.edge ++ more n) (plus_one i)
+  where
+    plus_one : (n : ℕ) → suc n ≡ n + 1
     plus_one n = omega arith

@@ -2,6 +2,7 @@ pub mod Ranking
 pub mod Steps
 pub mod Bundling
 pub mod Live
+pub mod Loops
 pub mod KeptOrder
 pub mod Times
 pub mod Choice

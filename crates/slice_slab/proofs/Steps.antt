@@ -111,9 +111,3 @@ open_step out ks ps i d whole h e w = rw add-one
 
 pub start_step : (ps : List Passage) → [] ++ prefixed [] (bundles_of (drop 0 ps)) ≡ bundles_of ps
 start_step ps = prefixed-nil (bundles_of ps)
-
-pub passage_step : (out : List Passage) (p : Passage) (rest whole : List ℕ) (i : ℕ) → p.number ≡ i
-    → numbers_of out ++ (i ∷ rest) ≡ whole → numbers_of (out ++ (p ∷ [])) ++ rest ≡ whole
-passage_step [] p rest whole i e h = rw e h
-passage_step (q ∷ out) p rest whole i e h = ap (λ (xs : List ℕ). q.number ∷ xs)
-    (passage_step out p rest (numbers_of out ++ (i ∷ rest)) i e refl) ∙ h

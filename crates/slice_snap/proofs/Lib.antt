@@ -13,6 +13,7 @@ pub mod ChainLinks
 pub mod ChainEnds
 pub mod Pairs
 pub mod Balance
+pub mod RoundedPieces
 pub mod Counts
 pub mod OneRest
 pub mod SamePieces

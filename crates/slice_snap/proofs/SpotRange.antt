@@ -1,9 +1,14 @@
 -- The numbers of a spot are in range of rounding.
-use Rattle.std.proofs.Common.{◌≡◌, ℕ, ◌*◌, ◌≤◌, arith}
+use Rattle.std.proofs.Common.{◌≡◌, ℕ, ◌*◌, ◌^◌, ◌≤◌, arith, subst, sym, ◌∙◌}
 use lib.IntN.{ℤ, pos, ◌*ℤ◌}
+use lib.Signed.{◌<ℤ◌}
 use Rattle.std.specs.Prelude.{unsigned_abs}
-use Rattle.std.proofs.Math.Nat.{mul-le-mul_left}
-use Rattle.std.proofs.lemmas.Int.{unsigned_abs-mul}
+use Rattle.std.proofs.Math.Nat.{mul-le-mul_left, mul_comm}
+use Rattle.std.proofs.lemmas.Nat.{mul-le}
+use Rattle.std.proofs.lemmas.Int.{ints, unsigned_abs-mul}
+use Rattle.scad_geom.specs.Limits.{coordinate_limit}
+use Rattle.slice_snap.specs.declared.piece.Spot.{Spot}
+use Rattle.slice_snap.specs.Spots.{point_of, IsSpotWithin}
 
 -- where n is within the limit times d, so are both times r
 pub scaled_within : (limit : ℕ) (n d : ℤ) (r : ℕ) → unsigned_abs n ≤ limit * unsigned_abs d
@@ -15,3 +20,17 @@ scaled_within limit n d r h =
 pub scaled_value : (limit : ℕ) (n d : ℤ) (r : ℕ) (z : ℤ) → z ≡ n *ℤ pos r
     → unsigned_abs n ≤ limit * unsigned_abs d → unsigned_abs z ≤ limit * unsigned_abs (d *ℤ pos r)
 scaled_value limit n d r z e h = rw e (scaled_within limit n d r h)
+
+module _ (s : Spot) (w : IsSpotWithin coordinate_limit s) where
+  -- the divisor of its point has few enough bits
+  pub divisor_bits : (point_of s).d <ℤ pos (2 ^ 65)
+  divisor_bits = few (point_of s).d (subst (λ m. m ≤ 10 ^ 13 * (2 * coordinate_limit)) (sym (unsigned_abs-mul s.at.d (pos s.run)))
+      (mul-le (unsigned_abs s.at.d) s.run (10 ^ 13) (2 * coordinate_limit) w.level.divisor w.run))
+    where
+      few : (d : ℤ) → unsigned_abs d ≤ 10 ^ 13 * (2 * coordinate_limit) → d <ℤ pos (2 ^ 65)
+      few d h = omega (arith, ints)
+
+  -- its x is within the limit times it
+  pub across_within : unsigned_abs s.x ≤ coordinate_limit * unsigned_abs (point_of s).d
+  across_within = subst (λ m. unsigned_abs s.x ≤ coordinate_limit * m)
+      (mul_comm s.run (unsigned_abs s.at.d) ∙ sym (unsigned_abs-mul s.at.d (pos s.run))) w.size

@@ -1,41 +1,44 @@
 -- An edge that reaches both heights gives its passage.
-use Rattle.std.proofs.Common.{◌≡◌, ◌∷◌, [], ◌++◌, ◌+◌, drop, sym, ap, ◌∙◌, subst, List, ℕ}
+use Rattle.std.proofs.Common.{◌≡◌, refl, ◌∷◌, [], ◌++◌, ◌+◌, drop, sym, ap, ◌∙◌, subst, List, ℕ}
 use Rattle.std.specs.List.{All}
 use Rattle.std.proofs.lemmas.List.Elements.{All-push}
 use Rattle.slice_slab.specs.declared.passage.Passage.{Passage}
 use Rattle.slice_slab.specs.Bundles.{reaching}
 use Rattle.slice_slab.specs.Passages.{numbers_of, IsPassageOf}
-use Rattle.slice_slab.proofs.Steps.{reaching_yes, reaching_no, passage_step}
+use Rattle.slice_slab.proofs.Loops.{mapped_step, pass_step, last_step}
+use Rattle.slice_slab.proofs.Steps.{reaching_yes, reaching_no}
 use Rattle.slice_slab.proofs.collect.passages.Goals as goal
 use Rattle.slice_slab.proofs.collect.passages.Goals.{then-reaches_at+in_ok-push, else-reaches_at}
 
 pub edges-preserved : goal.edges-preserved
-edges-preserved c = elim c.if-reaches_at.branch [
-  | then-reaches_at+in_ok-push w ↦
-      let items : c.if-reaches_at.out.items ≡ c.edges.out.items ++ (w.passage.result ∷ []) = ap (λ v. v.items) w.out-is
-      ∙ w.in_ok-push.ensures.items in
-      let rest : List ℕ = reaching (c.edges.i + 1) (drop (c.edges.i + 1) c.args.edges.now) c.args.lower.now
-      c.args.upper.now in
-      let whole : List ℕ = reaching 0 c.args.edges.now c.args.lower.now c.args.upper.now in
-      let step = reaching_yes c.args.edges.now c.edges.i c.args.lower.now c.args.upper.now c.edges-test.true
-      (sym c.reaches_at.ensures.value ∙ w.if-reaches_at.true) in
-      record {
-        numbers = ap (λ (xs : List Passage). numbers_of xs ++ rest) items
-            ∙ passage_step c.edges.out.items w.passage.result rest whole c.edges.i w.passage.ensures.number
-            (ap (λ (xs : List ℕ). numbers_of c.edges.out.items ++ xs) (sym step) ∙ c.edges.invariant.numbers);
-        passages = subst (All (IsPassageOf c.args.edges.now c.args.lower.now)) (sym items)
-            (All-push (IsPassageOf c.args.edges.now c.args.lower.now) c.edges.out.items w.passage.result
-            c.edges.invariant.passages w.passage.ensures.passage);
-      }
-  | else-reaches_at w ↦
-      let items : c.if-reaches_at.out.items ≡ c.edges.out.items = ap (λ v. v.items) w.out-is in
-      let rest : List ℕ = reaching (c.edges.i + 1) (drop (c.edges.i + 1) c.args.edges.now) c.args.lower.now
-      c.args.upper.now in
-      let step = reaching_no c.args.edges.now c.edges.i c.args.lower.now c.args.upper.now c.edges-test.true
-      (sym c.reaches_at.ensures.value ∙ w.if-reaches_at.false) in
-      record {
-        numbers = ap (λ (xs : List Passage). numbers_of xs ++ rest) items ∙ ap
-            (λ (xs : List ℕ). numbers_of c.edges.out.items ++ xs) (sym step) ∙ c.edges.invariant.numbers;
-        passages = subst (All (IsPassageOf c.args.edges.now c.args.lower.now)) (sym items) c.edges.invariant.passages;
-      }
-]
+edges-preserved c =
+    let es = c.args.edges.now in
+    let out = c.edges.out.items in
+    let rest : List ℕ = reaching (c.edges.i + 1) (drop (c.edges.i + 1) es) c.args.lower.now c.args.upper.now in
+    elim c.if-reaches_at.branch [
+      | then-reaches_at+in_ok-push w ↦
+          let items : c.if-reaches_at.out.items ≡ out ++ (w.passage.result ∷ []) = ap (λ v. v.items) w.out-is
+          ∙ w.in_ok-push.ensures.items in
+          record {
+            numbers = ap (λ (xs : List Passage). numbers_of xs ++ rest) items
+                ∙ mapped_step (λ (p : Passage). p.number) out w.passage.result c.edges.i _ rest _
+                w.passage.ensures.number (reaching_yes es c.edges.i c.args.lower.now c.args.upper.now c.edges-test.true
+                (sym c.reaches_at.ensures.value ∙ w.if-reaches_at.true)) c.edges.invariant.numbers;
+            passages = subst (All (IsPassageOf es c.args.lower.now)) (sym items)
+                (All-push (IsPassageOf es c.args.lower.now) out w.passage.result c.edges.invariant.passages
+                w.passage.ensures.passage);
+          }
+      | else-reaches_at w ↦
+          let items : c.if-reaches_at.out.items ≡ out = ap (λ v. v.items) w.out-is in
+          record {
+            numbers = ap (λ (xs : List Passage). numbers_of xs ++ rest) items
+                ∙ pass_step (numbers_of out) _ rest _ (reaching_no es c.edges.i c.args.lower.now c.args.upper.now
+                c.edges-test.true (sym c.reaches_at.ensures.value ∙ w.if-reaches_at.false)) c.edges.invariant.numbers;
+            passages = subst (All (IsPassageOf es c.args.lower.now)) (sym items) c.edges.invariant.passages;
+          }
+    ]
+
+pub returns-clause-numbers : goal.returns-clause-numbers
+returns-clause-numbers c =
+    last_step (λ es. reaching c.edges.i es c.args.lower.now c.args.upper.now) _ _ c.args.edges.now c.edges.i refl
+    c.edges-test.false c.edges.invariant.numbers

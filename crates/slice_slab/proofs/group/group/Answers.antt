@@ -1,7 +1,8 @@
 -- A passage goes to the numbers so far, which become a bundle where it ends one.
-use Rattle.std.proofs.Common.{◌≡◌, ◌∷◌, [], ◌++◌, ◌+◌, drop, get_or, sym, ap, ap₂, ◌∙◌, List, ℕ}
+use Rattle.std.proofs.Common.{◌≡◌, refl, ◌∷◌, [], ◌++◌, ◌+◌, drop, get_or, sym, ap, ap₂, ◌∙◌, List, ℕ}
 use Rattle.slice_slab.specs.declared.passage.Passage.{Passage}
 use Rattle.slice_slab.specs.Passages.{bundles_of, prefixed}
+use Rattle.slice_slab.proofs.Loops.{last_step}
 use Rattle.slice_slab.proofs.Steps.{close_step, open_step}
 use Rattle.slice_slab.proofs.group.group.Goals as goal
 use Rattle.slice_slab.proofs.group.group.Goals.{then-is_last+in_ok-close, else-is_last}
@@ -31,3 +32,7 @@ passages-preserved c =
           ∙ open_step c.passages.out.items ks c.args.passages.now c.passages.i d (bundles_of c.args.passages.now)
           c.passages-test.true (sym c.is_last.ensures ∙ w.if-is_last.false) c.passages.invariant
     ]
+
+pub returns : goal.returns
+returns c = last_step (λ ps. prefixed c.passages.current.items (bundles_of ps)) _ _ c.args.passages.now c.passages.i refl
+    c.passages-test.false c.passages.invariant
