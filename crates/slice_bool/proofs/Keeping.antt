@@ -1,11 +1,13 @@
 -- A shape's leaves follow their winding numbers.
-use Rattle.std.proofs.Common.{◌≡◌, ℕ, ◌+◌, Bool, true, false, not, List, get_or, refl, sym, ap, ◌∙◌, subst, arith, ◌||◌}
+use Rattle.std.proofs.Common.{◌≡◌, ℕ, ◌+◌, ◌<◌, Bool, true, false, not, List, length, get_or, refl, sym, ap, ◌∙◌, subst, arith, ◌||◌}
 use mathlib.Core.Bool.{beq}
 use mathlib.Core.Path.{fun_ext}
 use lib.IntN.{ℤ, pos, negsuc, ◌+ℤ◌, +ℤ_idl}
 use mir.Syntax.{w64}
 use mir.Val.{to_z, of_z}
+use Rattle.std.proofs.Math.ListN.{set}
 use Rattle.std.proofs.lemmas.Int.{ints}
+use Rattle.std.proofs.lemmas.List.{get_or-set_same, get_or-set_other}
 use Rattle.std.specs.Prelude.{◌==◌, ◌≤◌, int_lt, if◌then◌else◌, unsigned_abs}
 use Rattle.std.proofs.Math.IntN.{+ℤ_comm}
 use Rattle.scad_geom.specs.declared.point.Edge.{Edge}
@@ -20,6 +22,23 @@ use Rattle.slice_bool.specs.Keeping.{in_by, KeepsUp}
 
 pub same_leaf : (m n : ℕ) → (m == n) ≡ true → m ≡ n
 same_leaf m n e = grind arith
+
+other_leaf : (m n : ℕ) → (m == n) ≡ false → n ≡ m → ⊥
+other_leaf m n e same = grind arith
+
+-- one leaf's number is changed
+pub set_tally : (turns : List ℤ) (leaf : ℕ) (z by : ℤ) → leaf < length turns → z ≡ get_or turns leaf (pos 0) +ℤ by
+    → IsTally (set turns leaf z) (λ k. get_or turns k (pos 0) +ℤ (if leaf == k then by else pos 0))
+set_tally turns leaf z by there is k = by_test (leaf == k) refl
+  where
+    by_test : (t : Bool) → (leaf == k) ≡ t
+        → get_or (set turns leaf z) k (pos 0) ≡ get_or turns k (pos 0) +ℤ (if t then by else pos 0)
+    by_test true e =
+        subst (λ (j : ℕ). get_or (set turns leaf z) j (pos 0) ≡ get_or turns j (pos 0) +ℤ by) (same_leaf leaf k e)
+        (get_or-set_same turns leaf z (pos 0) there ∙ is)
+    by_test false e =
+        get_or-set_other turns leaf k z (pos 0) (other_leaf leaf k e)
+        ∙ sym (+ℤ_comm (get_or turns k (pos 0)) (pos 0) ∙ +ℤ_idl (get_or turns k (pos 0)))
 
 same_answer : (a b : Bool) → not (beq a b) ≡ false → a ≡ b
 same_answer true true e = refl
