@@ -115,14 +115,7 @@ fn least_key(strands: &[Strand], from: usize, to: usize) -> i64
 {
     let mut least = i64::MAX;
     'strands: for i in from..to {
-        least = lower(least, strands[i].wake);
+        least = least.min(strands[i].wake);
     }
     least
-}
-
-fn lower(a: i64, b: i64) -> i64
-    ensures a { result ≤ℤ a }
-    ensures b { result ≤ℤ b }
-{
-    if b < a { b } else { a }
 }

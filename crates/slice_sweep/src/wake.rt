@@ -115,7 +115,7 @@ fn least_end(edges: &[LeafEdge], numbers: &[u32]) -> i32
 {
     let mut least = i32::MAX;
     'numbers: for k in numbers {
-        least = lower(least, end_of(edges, *k));
+        least = least.min(end_of(edges, *k));
     }
     least
 }
@@ -126,13 +126,6 @@ fn end_of(edges: &[LeafEdge], k: u32) -> i32
     ensures { result ≡ (high (edge_at edges.now k)).y }
 {
     high(&edges[k as usize].edge).y
-}
-
-fn lower(a: i32, b: i32) -> i32
-    ensures a { result ≤ℤ a }
-    ensures b { result ≤ℤ b }
-{
-    if b < a { b } else { a }
 }
 
 /// The first edge of a bundle.

@@ -16,15 +16,15 @@ lower_too a b c h k = omega (arith, ints)
 
 pub numbers-preserved : goal.numbers-preserved
 numbers-preserved c =
-    let r : ℤ = c.lower-least.result in
-    let r_fits : FitsSigned w32 c.lower-least.result = record { sfits = c.lower-least.type_inv } in
+    let r : ℤ = c.min-least.result in
+    let r_fits : FitsSigned w32 c.min-least.result = record { sfits = c.min-least.type_inv } in
     let e_fits : FitsSigned w32 c.end_of.result = record { sfits = c.end_of.type_inv } in
-    let b : c.lower-least.result ≤ℤ c.end_of.result = simp to_z-of_z at c.lower-least.ensures.b in
-    simp to_z-of_z (All-more (λ k. c.lower-least.result ≤ℤ (high (edge_at c.args.edges.now k)).y) c.args.numbers.now
+    let b : c.min-least.result ≤ℤ c.end_of.result = simp to_z-of_z at c.min-least.ensures.other_bound in
+    simp to_z-of_z (All-more (λ k. c.min-least.result ≤ℤ (high (edge_at c.args.edges.now k)).y) c.args.numbers.now
     c.numbers.k-index 0 c.numbers-test.true
-    (λ k d o. lower_too c.lower-least.result (to_z w32 c.numbers.least-bits) _ c.lower-least.ensures.a
+    (λ k d o. lower_too c.min-least.result (to_z w32 c.numbers.least-bits) _ c.min-least.ensures.self_bound
     (c.numbers.invariant k d o))
-    (subst (λ (z : ℤ). c.lower-least.result ≤ℤ z) c.end_of.ensures b))
+    (subst (λ (z : ℤ). c.min-least.result ≤ℤ z) c.end_of.ensures b))
 
 pub returns : goal.returns
 returns c =
