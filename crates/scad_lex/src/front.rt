@@ -19,7 +19,7 @@ use scad_fault::Text;
 use scad_num::{literal_len, parse_decimal};
 use std::alloc::{AllocError, Global};
 
-#[derive(Debug, Drop)]
+#[derive(Drop)]
 pub(crate) enum Front {
     /// Blanks or a comment, of so many bytes.
     Gap(usize),

@@ -8,7 +8,7 @@ ghost use Rattle.scad_lex.specs.Gap.{closed_len, closes_at};
 use crate::bytes::byte_at;
 
 /// A class of bytes that a token, blanks or a comment go on with.
-#[derive(Clone, Copy, Debug)]
+#[derive(Clone, Copy)]
 pub(crate) enum Class {
     Blank,
     WithinLine,

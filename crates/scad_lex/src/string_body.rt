@@ -9,7 +9,7 @@ use crate::escape::escape_at;
 use scad_fault::Chars;
 use std::alloc::{AllocError, Global};
 
-#[derive(Debug, Drop)]
+#[derive(Drop)]
 pub(crate) enum Quoted {
     /// The characters up to the closing quote, and the number of bytes up to behind it.
     Closed(Chars, usize),

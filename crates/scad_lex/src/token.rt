@@ -4,14 +4,14 @@ use scad_fault::{Chars, Place, Text};
 use scad_num::Num;
 
 /// A token, and the place of its first byte.
-#[derive(Debug, Drop)]
+#[derive(Drop)]
 pub struct Token {
     pub kind: TokenKind,
     pub at: Place,
 }
 
 /// What a token is.
-#[derive(Debug, Drop)]
+#[derive(Drop)]
 pub enum TokenKind {
     Number(Num),
     Str(Chars),
@@ -21,7 +21,7 @@ pub enum TokenKind {
 }
 
 /// The tokens of a text in order, and the place after its last byte.
-#[derive(Debug, Drop)]
+#[derive(Drop)]
 pub struct Tokens {
     pub list: Vec<Token>,
     pub end: Place,
