@@ -4,7 +4,7 @@ use scad_fault::FileName;
 use thiserror::Error;
 
 /// A command with the files or the number that it names.
-#[derive(Debug, Drop)]
+#[derive(Drop)]
 pub enum Command {
     /// Reads a model and reports its size.
     Check(FileName),
@@ -21,7 +21,7 @@ pub enum Command {
 }
 
 /// A command, the file of its settings, where one is named, and how many workers share the layers.
-#[derive(Debug, Drop)]
+#[derive(Drop)]
 pub struct Job {
     pub command: Command,
     pub settings: Option<FileName>,
