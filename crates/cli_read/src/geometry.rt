@@ -14,7 +14,7 @@ use scad_geom::{Edge, Loop};
 use std::alloc::{AllocError, Global};
 
 /// Layers that are read: those that are whole, the height of the one at hand, and its outlines and hatches so far.
-#[derive(Debug, Drop)]
+#[derive(Drop)]
 struct Building {
     whole: Vec<CliLayer>,
     last: Option<u32>,

@@ -8,7 +8,7 @@ use scad_geom::{Edge, Loop};
 use std::marker::Model;
 
 /// The outlines of a layer.
-#[derive(Debug, Drop)]
+#[derive(Drop)]
 pub struct Loops {
     loops: Vec<Loop>,
 }
@@ -41,7 +41,7 @@ impl Loops {
 }
 
 /// The hatches of a layer.
-#[derive(Debug, Drop)]
+#[derive(Drop)]
 pub struct Hatches {
     hatches: Vec<Edge>,
 }
@@ -75,7 +75,7 @@ impl Hatches {
 
 /// A layer: the height of its upper surface in micrometres, its outlines, each without its first point repeated, and its
 /// hatches, each from `a` to `b`.
-#[derive(Debug, Drop)]
+#[derive(Drop)]
 pub struct CliLayer {
     pub z: u32,
     pub loops: Loops,
@@ -83,7 +83,7 @@ pub struct CliLayer {
 }
 
 /// The layers of a file, upwards.
-#[derive(Debug, Drop)]
+#[derive(Drop)]
 pub struct CliLayers {
     layers: Vec<CliLayer>,
 }
@@ -116,7 +116,7 @@ impl CliLayers {
 }
 
 /// What a text says.
-#[derive(Debug, Drop)]
+#[derive(Drop)]
 pub struct Cli {
     pub layers: CliLayers,
 }

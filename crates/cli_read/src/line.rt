@@ -13,7 +13,7 @@ use scad_geom::Loop;
 use std::alloc::Global;
 
 /// What a line says.
-#[derive(Debug, Drop)]
+#[derive(Drop)]
 pub enum Said {
     /// A layer begins, with this height.
     Height(u32),

@@ -23,6 +23,11 @@ begins_more {a} x p e = record {
 pub begins_on : {a b c : List ℕ} → BeginsWith a b → BeginsWith b c → BeginsWith a c
 begins_on p q = begins_more q.rest p q.is
 
+-- where an error is answered it holds what holds
+pub on_err : {T E : Type 0} (r : Result T E) (P : Type 0) → P → OnErr r P
+on_err (Ok x) P p = tt
+on_err (Err e) P p = p
+
 -- ---- digits
 
 pub last_digits_more : (out : List ℕ) (places n : ℕ) → 0 < places →

@@ -5,7 +5,7 @@ ghost use Rattle.gcode_text.specs.Machine.{nothing_given, was_given, with_number
 use scad_geom::COORDINATE_LIMIT;
 
 /// The numbers that the words of a line name. Those of `F` and `S` change nothing.
-#[derive(Clone, Copy, Debug, PartialEq, Eq)]
+#[derive(Clone, Copy)]
 pub(crate) struct Given {
     pub x: Option<i32>,
     pub y: Option<i32>,

@@ -14,7 +14,7 @@ use std::marker::Model;
 use text_scan::first_at;
 
 /// A move: axes in micrometres, amounts of filament in hundred-thousandths of a millimetre.
-#[derive(Clone, Copy, Debug, PartialEq, Eq)]
+#[derive(Clone, Copy, PartialEq, Eq)]
 pub struct Move {
     pub from: Pt3,
     pub to: Pt3,
@@ -25,7 +25,7 @@ pub struct Move {
 }
 
 /// A machine that reads a printing program line by line. It starts with all axes and the amount of filament at 0.
-#[derive(Debug, Drop)]
+#[derive(Drop)]
 pub struct Machine {
     at: Pt3,
     e: i64,

@@ -1,7 +1,7 @@
 //! What a move takes.
 
 /// The measures and speeds of a printing program's moves.
-#[derive(Clone, Copy, Debug, PartialEq, Eq)]
+#[derive(Clone, Copy)]
 pub struct Rates {
     /// The width of a printed line, in micrometres.
     pub line_width: u32,

@@ -7,7 +7,7 @@ ghost use Rattle.plan_verify.specs.Extent.{IsIn, Covers, Reaches, is_beyond, is_
 use scad_geom::{Edge, Pt};
 
 /// An upright rectangle with its border.
-#[derive(Clone, Copy, Debug)]
+#[derive(Clone, Copy)]
 pub struct Extent {
     pub left: i32,
     pub right: i32,

@@ -19,7 +19,7 @@ use scad_ring::reach;
 use std::alloc::{AllocError, Global};
 
 /// A layer: its height, and its sides.
-#[derive(Debug, Drop)]
+#[derive(Drop)]
 pub struct Field {
     pub z: u32,
     pub sides: Tree,

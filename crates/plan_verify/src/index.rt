@@ -19,7 +19,7 @@ use scad_geom::{Edge, Half, Pt, winding};
 use std::alloc::{AllocError, Global};
 
 /// Sides in their order, with a rectangle round them: a few, or the sides of two trees.
-#[derive(Debug, Drop)]
+#[derive(Drop)]
 pub enum Tree {
     Few(Extent, Vec<Edge>),
     Many(Extent, Box<Tree>, Box<Tree>),

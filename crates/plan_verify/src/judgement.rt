@@ -3,14 +3,14 @@ ghost use Rattle.std.specs.Prelude.{◌≡◌, ◌-◌, ◌<◌, ◌^◌, None};
 ghost use Rattle.plan_verify.specs.Judgement.{added, first_out};
 
 /// The first move that doesn't stay inside: its number among those that extrude, and its line's, each from 1.
-#[derive(Clone, Copy, Debug)]
+#[derive(Clone, Copy)]
 pub struct Out {
     pub number: u64,
     pub line: u32,
 }
 
 /// How many moves extrude, and which of them is the first that doesn't stay inside.
-#[derive(Clone, Copy, Debug)]
+#[derive(Clone, Copy)]
 pub struct Judgement {
     pub moves: u64,
     pub out: Option<Out>,

@@ -11,7 +11,7 @@ use scad_near::near;
 
 /// A move as it is seen from above, with the half width and the half sum of the octagon that it keeps clear, and the
 /// rectangle beyond which no side can be near to it.
-#[derive(Clone, Copy, Debug)]
+#[derive(Clone, Copy)]
 pub struct Trial {
     pub line: Edge,
     pub s: u32,

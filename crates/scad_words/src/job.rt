@@ -4,7 +4,6 @@ use scad_fault::FileName;
 use thiserror::Error;
 
 /// A command with the files or the number that it names.
-#[derive(Debug)]
 pub enum Command {
     /// Reads a model and reports its size.
     Check(FileName),
@@ -35,7 +34,6 @@ impl Drop for Command {
 }
 
 /// A command, the file of its settings, where one is named, and how many workers share the layers.
-#[derive(Debug)]
 pub struct Job {
     pub command: Command,
     pub settings: Option<FileName>,
