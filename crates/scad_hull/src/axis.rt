@@ -1,5 +1,5 @@
 //! The planes of faces, by two coordinates.
-ghost use Rattle.std.specs.Prelude.{◌≡◌, ◌-ℤ◌, ◌*ℤ◌, ℤ, pos, int_lt};
+ghost use Rattle.std.specs.Prelude.{◌≡◌, ◌^◌, ◌≤◌, ◌-ℤ◌, ◌*ℤ◌, ℤ, pos, int_lt, unsigned_abs};
 ghost use Rattle.scad_hull.specs.Space.{face_left, across_left, level_left};
 ghost use Rattle.scad_hull.specs.declared.turning.Normal.{Normal};
 
@@ -57,7 +57,14 @@ fn turns_level(n: &Normal, a: &Pt3, b: &Pt3, c: &Pt3) -> bool
 fn turns(ax: i32, ay: i32, bx: i32, by: i32, cx: i32, cy: i32) -> bool
     ensures { result ≡ int_lt (pos 0) ((bx -ℤ ax) *ℤ (cy -ℤ ay) -ℤ (by -ℤ ay) *ℤ (cx -ℤ ax)) }
 {
-    let ahead = times::<32, 32>(span(ax, bx), span(ay, cy));
-    let aside = times::<32, 32>(span(ay, by), span(ax, cx));
-    minus(ahead, aside) > 0
+    minus(area(ax, bx, ay, cy), area(ay, by, ax, cx)) > 0
+}
+
+// The area of a rectangle by its ends along both axes.
+#[tactic(auto, using(scad_geom::proofs::Casts::casts))]
+fn area(left: i32, right: i32, low: i32, high: i32) -> i128
+    ensures value { result ≡ (right -ℤ left) *ℤ (high -ℤ low) }
+    ensures size { unsigned_abs result ≤ 2 ^ 64 }
+{
+    times::<32, 32>(span(left, right), span(low, high))
 }

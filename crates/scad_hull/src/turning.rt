@@ -103,10 +103,21 @@ pub(crate) fn depth(normal: &Normal, a: Pt3, p: Pt3) -> i128
     requires p { IsSmall p }
     ensures { result ≡ depth_of normal.now a p }
 {
-    let r = between(a, p);
-    let across = times::<44, 21>(normal.x, r.x);
-    let along = times::<44, 21>(normal.y, r.y);
-    let upwards = times::<44, 21>(normal.z, r.z);
+    product(normal, between(a, p))
+}
+
+// The product of a normal and a way.
+#[tactic(auto, using(scad_geom::proofs::Casts::casts))]
+fn product(normal: &Normal, way: Way) -> i128
+    requires normal { IsNarrow normal.now }
+    requires x { unsigned_abs way.x ≤ 2 ^ 21 }
+    requires y { unsigned_abs way.y ≤ 2 ^ 21 }
+    requires z { unsigned_abs way.z ≤ 2 ^ 21 }
+    ensures { result ≡ normal.now.x *ℤ way.x +ℤ (normal.now.y *ℤ way.y +ℤ normal.now.z *ℤ way.z) }
+{
+    let across = times::<44, 21>(normal.x, way.x);
+    let along = times::<44, 21>(normal.y, way.y);
+    let upwards = times::<44, 21>(normal.z, way.z);
     plus(across, plus(along, upwards))
 }
 
