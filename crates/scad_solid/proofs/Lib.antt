@@ -2,6 +2,7 @@ pub mod Multiset
 pub mod SideOrder
 pub mod ClosedSides
 pub mod Faces
+pub mod NextRings
 pub mod Heights
 pub mod InRange
 pub mod Flow
