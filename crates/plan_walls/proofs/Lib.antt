@@ -11,3 +11,4 @@ pub mod Clear
 pub mod Inside
 pub mod Distance
 pub mod Lengths
+pub mod Pushes
