@@ -1,2 +1,3 @@
 pub mod Closure
 pub mod Within
+pub mod Pushes
