@@ -10,5 +10,4 @@ pub mod Numbers
 pub mod Strings
 pub mod Vectors
 -- What only the steps of the code promise to one another.
-pub mod FirstArgument
 pub mod Ids

@@ -3,9 +3,8 @@
 ghost use Rattle.std.specs.Prelude.{◌≡◌, Ok, IfOk, IfErr};
 ghost use Rattle.scad_value.specs.View.{datum_of, elements};
 ghost use Rattle.scad_builtin.specs.Answer.{Refuses};
-ghost use Rattle.scad_builtin.specs.Builtin.{of_number, of_test, value_of, builtin};
-ghost use Rattle.scad_builtin.specs.FirstArgument.{calculation, test};
-ghost use Rattle.scad_builtin.specs.Memory.{makes_list, names_maker, TakesMemoryFor, TakesNone};
+ghost use Rattle.scad_builtin.specs.Builtin.{value_of, builtin};
+ghost use Rattle.scad_builtin.specs.Memory.{makes_list, names_maker, TakesMemoryFor};
 ghost use Rattle.scad_builtin.specs.Names.{meaning_of};
 
 use crate::argument::{first, first_number, first_numbers, first_string, numbers, second_numbers};
@@ -14,32 +13,14 @@ use crate::cross::cross;
 use crate::extreme::{choices, greatest, least};
 use crate::fault::BuiltinFault;
 use crate::function::{Function, Name};
-use crate::kind::Test;
+use crate::kind::{is_boolean, is_number, is_string, is_undef, is_vector};
 use crate::length::length_of;
 use crate::name::meaning_of;
 use crate::norm::norm;
-use crate::number::{Calculation, root, tangent};
+use crate::number::{cosine, root, sign, sine, size, tangent};
 use crate::string::{first_code, string_of_code, text};
 use scad_value::Value;
 use std::alloc::Global;
-
-/// What is calculated from the first argument, a number.
-fn calculated(function: Calculation, args: &[Value]) -> Result<Value, BuiltinFault>
-    ensures ok { IfOk result (λ v. of_number (calculation function) (elements args.now) ≡ Ok (datum_of v)) }
-    ensures err { IfErr result (Refuses (of_number (calculation function) (elements args.now))) }
-    ensures memory { TakesNone result }
-{
-    Ok(Value::Number(function.at(first_number(args)?)))
-}
-
-/// What a test of the first argument gives.
-fn tested(kind: Test, args: &[Value]) -> Result<Value, BuiltinFault>
-    ensures ok { IfOk result (λ v. of_test (test kind) (elements args.now) ≡ Ok (datum_of v)) }
-    ensures err { IfErr result (Refuses (of_test (test kind) (elements args.now))) }
-    ensures memory { TakesNone result }
-{
-    Ok(Value::Bool(kind.holds(first(args)?)))
-}
 
 /// What a function gives of these arguments.
 fn value_of(alloc: Global, function: Function, args: &[Value]) -> Result<Value, BuiltinFault>
@@ -48,14 +29,14 @@ fn value_of(alloc: Global, function: Function, args: &[Value]) -> Result<Value, 
     ensures memory { TakesMemoryFor (makes_list function) result }
 {
     match function {
-        Function::Abs => calculated(Calculation::Size, args),
-        Function::Sign => calculated(Calculation::Sign, args),
-        Function::Floor => calculated(Calculation::Floor, args),
-        Function::Ceil => calculated(Calculation::Ceil, args),
-        Function::Round => calculated(Calculation::Round, args),
+        Function::Abs => Ok(Value::Number(size(first_number(args)?))),
+        Function::Sign => Ok(Value::Number(sign(first_number(args)?))),
+        Function::Floor => Ok(Value::Number(first_number(args)?.floor())),
+        Function::Ceil => Ok(Value::Number(first_number(args)?.ceil())),
+        Function::Round => Ok(Value::Number(first_number(args)?.round())),
         Function::Sqrt => Ok(Value::Number(root(first_number(args)?)?)),
-        Function::Sin => calculated(Calculation::Sine, args),
-        Function::Cos => calculated(Calculation::Cosine, args),
+        Function::Sin => Ok(Value::Number(sine(first_number(args)?))),
+        Function::Cos => Ok(Value::Number(cosine(first_number(args)?))),
         Function::Tan => Ok(Value::Number(tangent(first_number(args)?)?)),
         Function::Min => Ok(Value::Number(least(numbers(choices(args))?)?)),
         Function::Max => Ok(Value::Number(greatest(numbers(choices(args))?)?)),
@@ -66,11 +47,11 @@ fn value_of(alloc: Global, function: Function, args: &[Value]) -> Result<Value, 
         Function::Ord => Ok(first_code(first_string(args)?)),
         Function::Norm => Ok(Value::Number(norm(first_numbers(args)?)?)),
         Function::Cross => cross(alloc, first_numbers(args)?, second_numbers(args)?),
-        Function::IsUndef => tested(Test::Undef, args),
-        Function::IsBool => tested(Test::Boolean, args),
-        Function::IsNum => tested(Test::Number, args),
-        Function::IsString => tested(Test::String, args),
-        Function::IsList => tested(Test::Vector, args),
+        Function::IsUndef => Ok(Value::Bool(is_undef(first(args)?))),
+        Function::IsBool => Ok(Value::Bool(is_boolean(first(args)?))),
+        Function::IsNum => Ok(Value::Bool(is_number(first(args)?))),
+        Function::IsString => Ok(Value::Bool(is_string(first(args)?))),
+        Function::IsList => Ok(Value::Bool(is_vector(first(args)?))),
     }
 }
 

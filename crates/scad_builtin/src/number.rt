@@ -6,7 +6,6 @@ ghost use Rattle.scad_builtin.specs.Memory.{TakesNone};
 ghost use Rattle.scad_builtin.specs.Numbers.{size_of, sign_of, root_of, angle_of};
 ghost use Rattle.scad_builtin.specs.Numbers.{sine_of, cosine_of, tangent_of, cut_of};
 ghost use Rattle.scad_builtin.specs.Numbers.{minor_of};
-ghost use Rattle.scad_builtin.specs.FirstArgument.{calculation};
 
 use crate::fault::BuiltinFault;
 use scad_num::{Num, NumFault, half_away};
@@ -14,14 +13,14 @@ use scad_num::{Num, NumFault, half_away};
 /// The millionths of 1.
 pub(crate) const ONE: i64 = 1_000_000;
 
-fn size(a: Num) -> Num
+pub(crate) fn size(a: Num) -> Num
     ensures { result ≡ size_of a }
 {
     Num::within(a.millionths().unsigned_abs() as i64)
 }
 
 /// -1, 0 or 1.
-fn sign(a: Num) -> Num
+pub(crate) fn sign(a: Num) -> Num
     ensures { result ≡ sign_of a }
 {
     Num::within(a.millionths().signum() * ONE)
@@ -45,13 +44,13 @@ fn angle(degrees: Num) -> i64
     half_away(i128::from(degrees.millionths()), 1000) as i64
 }
 
-fn sine(degrees: Num) -> Num
+pub(crate) fn sine(degrees: Num) -> Num
     ensures { result ≡ sine_of degrees }
 {
     Num::within(scad_cos::sin(angle(degrees)))
 }
 
-fn cosine(degrees: Num) -> Num
+pub(crate) fn cosine(degrees: Num) -> Num
     ensures { result ≡ cosine_of degrees }
 {
     Num::within(scad_cos::cos(angle(degrees)))
@@ -62,34 +61,6 @@ pub(crate) fn tangent(degrees: Num) -> Result<Num, BuiltinFault>
     ensures memory { TakesNone result }
 {
     Ok(sine(degrees).div(cosine(degrees))?)
-}
-
-/// A function from a number to a number.
-#[derive(Clone, Copy)]
-pub(crate) enum Calculation {
-    Size,
-    Sign,
-    Floor,
-    Ceil,
-    Round,
-    Sine,
-    Cosine,
-}
-
-impl Calculation {
-    pub(crate) fn at(self, a: Num) -> Num
-        ensures { result ≡ calculation self a }
-    {
-        match self {
-            Calculation::Size => size(a),
-            Calculation::Sign => sign(a),
-            Calculation::Floor => a.floor(),
-            Calculation::Ceil => a.ceil(),
-            Calculation::Round => a.round(),
-            Calculation::Sine => sine(a),
-            Calculation::Cosine => cosine(a),
-        }
-    }
 }
 
 /// The number cut to a whole one.
