@@ -87,12 +87,23 @@ pub(crate) fn desk(alloc: Global, fails: &[u64]) -> Result<MemoryDesk, AllocErro
 }
 
 /// What a command answered and left.
-#[derive(Drop)]
 pub(crate) struct Answer {
     pub(crate) ended: Result<Text, Stop>,
     pub(crate) cli: Vec<u8>,
     pub(crate) gcode: Vec<u8>,
     pub(crate) faults: u64,
+}
+
+// Let go by one call wherever it is owned; what is derived is done in place there.
+impl Drop for Answer {
+    fn drop(self) {
+        let Answer {
+            ended: _ended,
+            cli: _cli,
+            gcode: _gcode,
+            faults: _,
+        } = self;
+    }
 }
 
 fn answer_on(

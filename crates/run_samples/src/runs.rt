@@ -13,7 +13,6 @@ use std::thread::Threads;
 pub const ROOM: usize = 1 << 20;
 
 /// What a run answered and left.
-#[derive(Drop)]
 pub struct Answer {
     /// The number of its status.
     pub code: u8,
@@ -22,6 +21,19 @@ pub struct Answer {
     pub gcode: Vec<u8>,
     /// How many calls of the desk failed.
     pub faults: u64,
+}
+
+// Let go by one call wherever it is owned; what is derived is done in place there.
+impl Drop for Answer {
+    fn drop(self) {
+        let Answer {
+            code: _,
+            report: _report,
+            cli: _cli,
+            gcode: _gcode,
+            faults: _,
+        } = self;
+    }
 }
 
 /// The words of a command line.

@@ -159,10 +159,19 @@ fn stopped_in(desk: &MemoryDesk, cli: &[u8], gcode: &[u8]) -> bool {
 }
 
 /// What the work on so many layers answers and leaves.
-#[derive(Drop)]
 struct Answer {
     told: Result<Summary, WorkFault>,
     desk: MemoryDesk,
+}
+
+// Let go by one call wherever it is owned; what is derived is done in place there.
+impl Drop for Answer {
+    fn drop(self) {
+        let Answer {
+            told: _told,
+            desk: _desk,
+        } = self;
+    }
 }
 
 fn worked<R: Threads + Sync + Abort>(
