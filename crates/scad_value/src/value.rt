@@ -26,6 +26,7 @@ pub enum Value {
 
 // Let go by one call wherever it is owned; what is derived is done in place there.
 impl Drop for Value {
+    #[inline(always)]
     fn drop(self) {
         match self {
             Value::Undef | Value::Bool(_) | Value::Number(_) | Value::Range(_, _, _) => {}
