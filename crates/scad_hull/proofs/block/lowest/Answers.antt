@@ -1,3 +1,4 @@
+-- Each coordinate is the lesser of the two.
 use Rattle.std.proofs.Common.{◌^◌, ◌≤◌, ℤ, unsigned_abs, FitsSigned, arith}
 use Rattle.std.proofs.lemmas.Int.{fits_signed_from_abs, to_z-of_z}
 use Rattle.scad_hull.proofs.block.lowest.Goals as goal

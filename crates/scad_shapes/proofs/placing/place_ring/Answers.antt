@@ -1,3 +1,4 @@
+-- The next point of an outline is placed, or its ring is refused.
 use Rattle.std.proofs.Common.{ℤ}
 use Rattle.std.proofs.lemmas.Result.{err_from_is_err_and}
 use Rattle.std.specs.List.{list_all}

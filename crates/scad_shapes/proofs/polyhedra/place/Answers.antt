@@ -1,3 +1,4 @@
+-- The next point of a polyhedron is placed, or all are refused.
 use Rattle.std.proofs.Common.{ℤ}
 use Rattle.std.proofs.lemmas.Result.{err_from_is_err_and}
 use Rattle.std.specs.List.{list_all}
