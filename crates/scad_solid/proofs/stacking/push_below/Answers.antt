@@ -1,3 +1,4 @@
+-- The next ring is as long as the one above it, and its band follows those so far.
 use Rattle.std.proofs.Common.{length, ◌++◌, ap, ap₂, sym, ◌∙◌}
 use Rattle.scad_solid.specs.Solid.{fans}
 use Rattle.scad_solid.specs.Stack.{band}
