@@ -1,5 +1,5 @@
 -- The operations give trees in normal form.
-use Rattle.std.proofs.Common.{◌≡◌, Bool, true, false, not, ◌&&◌, ◌||◌, List, [], ◌∷◌, ◌++◌, ℕ, zero, suc, ◌+◌, ◌<◌, ◌≤◌, length, take, drop, get_or, slice_index_or, refl, ap, ap₂, arith, sym, ◌∙◌, if◌then◌else◌}
+use Rattle.std.proofs.Common.{◌≡◌, Bool, true, false, cond, not, ◌&&◌, ◌||◌, List, [], ◌∷◌, ◌++◌, ℕ, zero, suc, ◌+◌, ◌<◌, ◌≤◌, length, take, drop, get_or, slice_index_or, refl, ap, ap₂, arith, sym, ◌∙◌, if◌then◌else◌}
 use Rattle.std.proofs.Math.Bool.{and-true}
 use Rattle.std.proofs.lemmas.Bool.{false≢true, and_from, and_parts}
 use Rattle.std.proofs.lemmas.List.Folds.{list_all-append}
@@ -88,6 +88,12 @@ pub any_more : (ns : List Node) (n : Node) → list_any is_nothing (solids ns) �
     → list_any is_nothing (solids (ns ++ (n ∷ []))) ≡ false
 any_more [] n e f = ap (λ b. b || false) f
 any_more (m ∷ ns) n e f = after (is_nothing (solid_of m)) ns n e f (any_more ns n)
+
+pub not_empty_skips : (ns : List Node) (n : Node) → is_nothing (solid_of n) ≡ true → not_empty (solids (ns ++ (n ∷ [])))
+    ≡ not_empty (solids ns)
+not_empty_skips [] n e = ap (λ b. cond (not b) (solid_of n ∷ []) []) e
+not_empty_skips (m ∷ ns) n e = ap (λ ss. cond (not (is_nothing (solid_of m))) (solid_of m ∷ ss) ss)
+    (not_empty_skips ns n e)
 
 -- ---- the operations by cases
 pub intersected_empty : (ss : List Solid) → list_any is_nothing ss ≡ true → intersected ss ≡ nothing
