@@ -89,11 +89,11 @@ pub any_more : (ns : List Node) (n : Node) → list_any is_nothing (solids ns) �
 any_more [] n e f = ap (λ b. b || false) f
 any_more (m ∷ ns) n e f = after (is_nothing (solid_of m)) ns n e f (any_more ns n)
 
-pub not_empty-skips : (ns : List Node) (n : Node) → is_nothing (solid_of n) ≡ true → not_empty (solids (ns ++ (n ∷ [])))
+pub not_empty_skips : (ns : List Node) (n : Node) → is_nothing (solid_of n) ≡ true → not_empty (solids (ns ++ (n ∷ [])))
     ≡ not_empty (solids ns)
-not_empty-skips [] n e = ap (λ b. cond (not b) (solid_of n ∷ []) []) e
-not_empty-skips (m ∷ ns) n e = ap (λ ss. cond (not (is_nothing (solid_of m))) (solid_of m ∷ ss) ss)
-    (not_empty-skips ns n e)
+not_empty_skips [] n e = ap (λ b. cond (not b) (solid_of n ∷ []) []) e
+not_empty_skips (m ∷ ns) n e = ap (λ ss. cond (not (is_nothing (solid_of m))) (solid_of m ∷ ss) ss)
+    (not_empty_skips ns n e)
 
 -- ---- the operations by cases
 pub intersected_empty : (ss : List Solid) → list_any is_nothing ss ≡ true → intersected ss ≡ nothing

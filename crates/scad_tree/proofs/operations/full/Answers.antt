@@ -1,17 +1,17 @@
+-- An empty member is skipped, and at the end all members were seen.
 use Rattle.std.proofs.Common.{◌≡◌, ◌∙◌, true, ap, sym}
 use Rattle.std.proofs.lemmas.List.{map-id}
 use Rattle.std.proofs.lemmas.Iterator.Consumers.{YieldsList-end}
 use Rattle.std.proofs.lemmas.Iterator.Adapters.{YieldsList-from_vec}
 use Rattle.scad_tree.specs.View.{solid_of, solids}
 use Rattle.scad_tree.specs.Normal.{is_nothing, not_empty}
-use Rattle.scad_tree.proofs.NormalForm.{not_empty-skips}
+use Rattle.scad_tree.proofs.NormalForm.{not_empty_skips}
 use Rattle.scad_tree.proofs.operations.full.Goals as goal
 
 pub loop-member-preserved : goal.loop-member-preserved
 loop-member-preserved c =
-    let empty : is_nothing (solid_of c.in-Some.member) ≡ true = ap (λ n. is_nothing (solid_of n))
-    (sym c.into_node-node.ensures.same) ∙ sym c.is_empty.ensures ∙ c.if-not-is_empty.false in (
-      c.loop-member.invariant.0 ∙ sym (not_empty-skips c.loop-member.yielded c.in-Some.member empty),
+    let empty : is_nothing (solid_of c.in-Some.member) ≡ true = cc in (
+      c.loop-member.invariant.0 ∙ sym (not_empty_skips c.loop-member.yielded c.in-Some.member empty),
       c.loop-member.invariant.1,
     )
 
