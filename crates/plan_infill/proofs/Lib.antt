@@ -15,3 +15,4 @@ pub mod Deciding
 pub mod StretchSearch
 pub mod SomeRuns
 pub mod Lengths
+pub mod Sizes

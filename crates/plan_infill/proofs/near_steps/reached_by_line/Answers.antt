@@ -1,4 +1,4 @@
-use Rattle.std.proofs.Common.{◌≡◌, rules, sym, subst, FitsSigned, ℤ, pos, ◌+ℤ◌, ◌-ℤ◌, ◌<ℤ◌}
+use Rattle.std.proofs.Common.{◌≡◌, rules, sym, subst, FitsSigned, ℤ, pos, arith, ◌+ℤ◌, ◌-ℤ◌, ◌<ℤ◌}
 use lib.Signed.{◌≤ℤ◌}
 use Rattle.std.specs.Prelude.{◌↔◌}
 use Rattle.scad_geom.specs.Line.{rise, x_at}
@@ -8,7 +8,17 @@ use Rattle.scad_geom.proofs.Casts.{casts}
 use Rattle.plan_infill.specs.Quotient.{IsFloor, IsCeiling}
 use Rattle.plan_infill.specs.Reach.{line_reach, IsBesideLine}
 use Rattle.plan_infill.proofs.RowReach.{line_those}
+use Rattle.plan_infill.proofs.Sizes.{sizes}
 use Rattle.plan_infill.proofs.near_steps.reached_by_line.Goals as goal
+
+pub minus-requires : goal.minus-requires
+minus-requires c = record { fits = omega (arith, sizes) }
+
+pub plus-requires : goal.plus-requires
+plus-requires c = record { fits = omega (arith, sizes) }
+
+pub plus-requires-2 : goal.plus-requires-2
+plus-requires-2 c = record { fits = omega (arith, sizes) }
 
 next : (c : goal.After-ceiling) → c.plus.result ≡ c.floor.result +ℤ pos 1
 next c = search (rules, casts)
