@@ -1,7 +1,8 @@
 -- A ray goes to the numbers so far, which become a bundle where it ends one.
-use Rattle.std.proofs.Common.{◌≡◌, ◌∷◌, [], ◌++◌, ◌+◌, drop, get_or, sym, ap, ap₂, ◌∙◌, List, ℕ}
+use Rattle.std.proofs.Common.{◌≡◌, refl, ◌∷◌, [], ◌++◌, ◌+◌, drop, get_or, sym, ap, ap₂, ◌∙◌, List, ℕ}
 use Rattle.slice_sweep.specs.declared.ray.Ray.{Ray}
 use Rattle.slice_slab.specs.Passages.{prefixed}
+use Rattle.slice_slab.proofs.Loops.{last_step}
 use Rattle.slice_sweep.specs.Rays.{bundles_of}
 use Rattle.slice_sweep.proofs.RaySteps.{close_step, open_step}
 use Rattle.slice_sweep.proofs.coinciding.group.Goals as goal
@@ -31,3 +32,7 @@ rays-preserved c =
           ∙ open_step c.rays.out.items ks c.args.rays.now c.rays.i d (bundles_of c.args.rays.now)
           c.rays-test.true (sym c.is_last.ensures ∙ w.if-is_last.false) c.rays.invariant
     ]
+
+pub returns : goal.returns
+returns c = last_step (λ rs. prefixed c.rays.current.items (bundles_of rs)) _ _ c.args.rays.now c.rays.i refl
+    c.rays-test.false c.rays.invariant

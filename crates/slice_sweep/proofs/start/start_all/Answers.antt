@@ -1,5 +1,8 @@
 -- One more edge has begun.
-use Rattle.std.proofs.Common.{◌∙◌}
+use Rattle.std.proofs.Common.{ap, ◌∙◌, ◌+◌, List, ℕ}
+use Rattle.std.proofs.lemmas.List.{take_all}
+use Rattle.slice_slab.specs.Active.{times}
+use Rattle.slice_sweep.specs.Strands.{numbers_in}
 use Rattle.slice_sweep.proofs.Starting.{started_more}
 use Rattle.slice_sweep.proofs.start.start_all.Goals as goal
 
@@ -13,3 +16,15 @@ numbers-preserved c = record {
   below = λ h. c.in_ok-start.ensures.below (h c.numbers.k-index 0 c.numbers-test.true) ∙ c.numbers.invariant.below h;
   keyless = λ h. c.in_ok-start.ensures.keyless (c.numbers.invariant.keyless h);
 }
+
+pub returns : goal.returns
+returns c =
+    let i = c.numbers.invariant in
+    record {
+      low = i.low;
+      waiting = i.waiting;
+      numbers = λ k r. i.numbers k r ∙ ap (λ (ks : List ℕ). times k (numbers_in c.args.strands.now.items) + times k ks)
+          (take_all c.numbers.k-index c.args.numbers.now c.numbers-test.false);
+      below = i.below;
+      keyless = i.keyless;
+    }

@@ -1,0 +1,34 @@
+-- Each edge gives its lower end.
+use Rattle.std.proofs.Common.{◌≡◌, refl, ◌∷◌, [], ◌++◌, ◌+◌, ◌<◌, length, drop, sym, ap, ◌∙◌, subst, List, ℕ}
+use Rattle.std.proofs.lemmas.List.{at_drop_more, map-append}
+use Rattle.std.proofs.lemmas.List.Elements.{All-push}
+use Rattle.scad_geom.specs.Line.{low}
+use Rattle.slice_slab.specs.declared.start.Start.{Start}
+use Rattle.slice_slab.specs.Bundles.{no_edge, edge_at}
+use Rattle.slice_slab.specs.Starts.{AreStarts, IsStartOf, numbers_of, numbers_from}
+use Rattle.slice_slab.proofs.Loops.{mapped_step, last_step}
+use Rattle.slice_sweep.specs.LowerEnds.{start_of, starts_of}
+use Rattle.slice_sweep.proofs.lower_ends.unsorted.Goals as goal
+
+pub edges-preserved : goal.edges-preserved
+edges-preserved c =
+    let es = c.args.edges.now in
+    let i = c.edges.i in
+    let out : List Start = starts_of c.edges.out.items in
+    let s : Start = start_of c.lower_end.result in
+    let number : s.number ≡ i = c.lower_end.ensures.number in
+    let items : starts_of c.push.new.self.items ≡ out ++ (s ∷ []) = ap starts_of c.in_ok-push.ensures.items
+    ∙ map-append start_of c.edges.out.items (c.lower_end.result ∷ []) in
+    record {
+      all = ap (λ (ss : List Start). numbers_of ss ++ numbers_from (i + 1) (drop (i + 1) es)) items
+          ∙ mapped_step (λ (t : Start). t.number) out s i _ _ _ number
+          (at_drop_more (numbers_from i) es i no_edge c.edges-test.true) c.edges.invariant.all;
+      starts = subst (AreStarts es) (sym items) (All-push (IsStartOf es) out s c.edges.invariant.starts (record {
+        there = subst (λ (k : ℕ). k < length es) (sym number) c.edges-test.true;
+        y = subst (λ (k : ℕ). s.y ≡ (low (edge_at es k)).y) (sym number) c.lower_end.ensures.y;
+      }));
+    }
+
+pub returns-clause-all : goal.returns-clause-all
+returns-clause-all c = last_step (numbers_from c.edges.i) _ _ c.args.edges.now c.edges.i refl c.edges-test.false
+    c.edges.invariant.all
