@@ -1,3 +1,4 @@
+pub mod Passed
 pub mod Lines
 pub mod Convex
 pub mod Octants

@@ -219,6 +219,12 @@ module _ (S U ax ay bx by : ℤ) (some : pos 0 ≤ℤ S) (wide : S ≤ℤ U) (na
   sum_is : U ≡ S +ℤ (U -ℤ S)
   sum_is = omega (arith, ints)
 
+  slant_some : pos 0 ≤ℤ (U -ℤ S)
+  slant_some = omega (arith, ints)
+
+  slant_most : (U -ℤ S) ≤ℤ S
+  slant_most = omega (arith, ints)
+
   by_octant : pos 0 <ℤ S → Ends S U ax ay bx by → (t u v : Bool) → int_le (by -ℤ ay) (bx -ℤ ax) ≡ t
       → int_le ((bx -ℤ ax) +ℤ (by -ℤ ay)) (pos 0) ≡ u → int_le (pos 0) (bx -ℤ ax) ≡ v
       → IsSize (if t then S *ℤ (bx -ℤ ax) +ℤ (U -ℤ S) *ℤ (by -ℤ ay)
@@ -233,33 +239,26 @@ module _ (S U ax ay bx by : ℤ) (some : pos 0 ≤ℤ S) (wide : S ≤ℤ U) (na
       elim (order (bx -ℤ ax) (pos 0)) [
         | inl h ↦ approach_point S U ax ay bx by (omega (arith, ints, p, up, h)) (omega (arith, ints, p, up, h)) e
         | inr h ↦ approach S U ax ay bx by (U -ℤ S) (pos 0 -ℤ S)
-            (right_corner S (U -ℤ S) U sum_is pos_s (omega (arith, ints))
-            (omega (arith, ints)) ax ay bx by h up (record {
+            (right_corner S (U -ℤ S) U sum_is pos_s slant_some slant_most ax ay bx by h up (record {
               least = omega (arith, ints, n, k);
               most = omega (arith, ints, m, k);
             })) e
       ]
   by_octant pos_s e false true v p q r l =
-      approach S U ax ay bx by (U -ℤ S) S (left_corner S (U -ℤ S) U sum_is pos_s (omega (arith, ints)) (omega (
-        arith,
-        ints,
-      ))
+      approach S U ax ay bx by (U -ℤ S) S (left_corner S (U -ℤ S) U sum_is pos_s slant_some slant_most
       ax ay bx by (omega (arith, ints, p, q, up)) up l) e
   by_octant pos_s e false false true p q r l =
       let m = l.most in
       let n = l.least in
       let k = minus_times (U -ℤ S) (bx -ℤ ax) in
-      approach S U ax ay bx by S (pos 0 -ℤ (U -ℤ S)) (steep_right_corner S (U -ℤ S) U sum_is pos_s (omega (
-        arith,
-        ints,
-      ))
-      (omega (arith, ints)) ax ay bx by (omega (arith, ints, r)) (omega (arith, ints, p, r)) (record {
+      approach S U ax ay bx by S (pos 0 -ℤ (U -ℤ S)) (steep_right_corner S (U -ℤ S) U sum_is pos_s slant_some
+      slant_most ax ay bx by (omega (arith, ints, r)) (omega (arith, ints, p, r)) (record {
         least = omega (arith, ints, n, k);
         most = omega (arith, ints, m, k);
       })) e
   by_octant pos_s e false false false p q r l =
-      approach S U ax ay bx by S (U -ℤ S) (steep_left_corner S (U -ℤ S) U sum_is pos_s (omega (arith, ints))
-      (omega (arith, ints)) ax ay bx by (omega (arith, ints, r)) (omega (arith, ints, q, r)) l) e
+      approach S U ax ay bx by S (U -ℤ S) (steep_left_corner S (U -ℤ S) U sum_is pos_s slant_some
+      slant_most ax ay bx by (omega (arith, ints, r)) (omega (arith, ints, q, r)) l) e
 
   -- an octagon of no width is the origin
   at_origin : S ≡ pos 0 → Ends S U ax ay bx by

@@ -8,7 +8,7 @@ ghost use Rattle.scad_ring.specs.declared.direction.Direction.TheVariants.{Right
 use scad_geom::{Edge, Pt};
 
 /// The direction of an edge that doesn't run backwards, counter-clockwise from the right.
-#[derive(Clone, Copy, Debug, PartialEq, Eq)]
+#[derive(Clone, Copy)]
 pub(crate) enum Direction {
     /// None: the edge is a point.
     Still,

@@ -1,6 +1,7 @@
--- The sizes of what is handed on.
-use Rattle.std.proofs.Common.{arith}
-use Rattle.scad_geom.proofs.Casts.{sizes}
+-- The breadth by the octant of the way, and the sizes of what is handed on.
+use Rattle.std.proofs.Common.{rules, arith}
+use Rattle.scad_geom.proofs.Casts.{casts, sizes}
+use Rattle.scad_ring.specs.Tests.{breadth}
 use Rattle.scad_ring.proofs.meeting.breadth.Goals as goal
 
 pub times-requires : goal.times-requires
@@ -61,3 +62,19 @@ returns-then-x-ge0-clause-size c = omega (arith, sizes)
 
 pub returns-else-x-ge0-clause-size : goal.returns-else-x-ge0-clause-size
 returns-else-x-ge0-clause-size c = omega (arith, sizes)
+
+pub returns-then-y-x-clause-value : goal.returns-then-y-x-clause-value
+unfolding breadth
+returns-then-y-x-clause-value c = search (rules, casts)
+
+pub returns-then-plus-le0-clause-value : goal.returns-then-plus-le0-clause-value
+unfolding breadth
+returns-then-plus-le0-clause-value c = search (rules, casts)
+
+pub returns-then-x-ge0-clause-value : goal.returns-then-x-ge0-clause-value
+unfolding breadth
+returns-then-x-ge0-clause-value c = search (rules, casts)
+
+pub returns-else-x-ge0-clause-value : goal.returns-else-x-ge0-clause-value
+unfolding breadth
+returns-else-x-ge0-clause-value c = search (rules, casts)
