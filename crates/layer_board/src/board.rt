@@ -31,14 +31,14 @@ pub struct Pass {
 }
 
 /// What a claim draws: a layer, or nothing, for all layers are drawn.
-#[derive(Clone, Copy, Debug, PartialEq, Eq)]
+#[derive(Clone, Copy, PartialEq, Eq)]
 pub enum Claim {
     Layer(u32),
     Ended,
 }
 
 /// The least failed layer, or the number of layers where none failed.
-#[derive(Clone, Copy, Debug, PartialEq, Eq)]
+#[derive(Clone, Copy, PartialEq, Eq)]
 pub struct Outcome {
     pub least: u32,
 }

@@ -2,7 +2,7 @@
 ghost use Rattle.std.specs.Prelude.{◌≡◌, pos};
 
 /// From a place of a line on, these numbers are added to the winding number and to the number of edges near by.
-#[derive(Clone, Copy, Debug)]
+#[derive(Clone, Copy)]
 pub(crate) struct Step {
     pub(crate) at: i128,
     pub(crate) turns: i128,

@@ -1,7 +1,7 @@
 //! Stretches of a line.
 
 /// The whole places from one on and before another.
-#[derive(Clone, Copy, Debug)]
+#[derive(Clone, Copy)]
 pub(crate) struct Stretch {
     pub(crate) from: i128,
     pub(crate) until: i128,

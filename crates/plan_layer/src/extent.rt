@@ -9,7 +9,7 @@ use scad_geom::{Edge, Pt};
 
 /// The least and the greatest coordinate across the lines of a layer; where there is none the greatest lies below the
 /// least.
-#[derive(Clone, Copy, Debug)]
+#[derive(Clone, Copy)]
 pub(crate) struct Extent {
     pub(crate) low: i32,
     pub(crate) high: i32,

@@ -23,7 +23,7 @@ pub const MOVE_LIMIT: u64 = 200_000;
 
 /// The paths of a layer, in the order in which they are printed. Each side of a path is one extruding move. The last
 /// `runs` of `paths` are the runs of infill, each from its first point to its last; `supports` come behind them.
-#[derive(Debug, Drop)]
+#[derive(Drop)]
 pub struct LayerPlan {
     pub paths: Vec<Path>,
     pub runs: u64,

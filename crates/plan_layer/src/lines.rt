@@ -14,7 +14,7 @@ use std::alloc::{AllocError, Global};
 use std::marker::Model;
 
 /// The coordinate of a line of infill, and its runs.
-#[derive(Debug, Drop)]
+#[derive(Drop)]
 pub(crate) struct LineRuns {
     at: i32,
     runs: Vec<Run>,

@@ -2,7 +2,7 @@
 use std::alloc::AllocError;
 
 /// Why stretches of cover aren't given.
-#[derive(Debug, Drop, PartialEq, Eq)]
+#[derive(Debug, Drop)]
 pub enum CoverFault {
     /// There was too little memory.
     Memory,

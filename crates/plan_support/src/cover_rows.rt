@@ -6,7 +6,7 @@ use crate::rows::Rows;
 use std::marker::Model;
 
 /// Of each layer the stretches that lie below higher layers.
-#[derive(Debug, Drop)]
+#[derive(Drop)]
 pub struct Covers {
     layers: Vec<Rows>,
 }

@@ -8,7 +8,7 @@ ghost use Rattle.plan_support.specs.Extent.{IsEdgeAmong};
 use scad_geom::Edge;
 
 /// The least and the greatest height; where there is none the greatest lies below the least.
-#[derive(Clone, Copy, Debug)]
+#[derive(Clone, Copy)]
 pub(crate) struct Extent {
     pub(crate) low: i32,
     pub(crate) high: i32,

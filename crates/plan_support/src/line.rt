@@ -2,14 +2,14 @@
 use crate::lists::Lists;
 
 /// What the work on lines is for: their number is judged before memory is taken for the stretches.
-#[derive(Clone, Copy, Debug, PartialEq, Eq)]
+#[derive(Clone, Copy, PartialEq, Eq)]
 pub(crate) enum Want {
     Count,
     Stretches,
 }
 
 /// What lies below higher layers on a line.
-#[derive(Debug, Drop)]
+#[derive(Drop)]
 pub(crate) struct Line {
     /// Which line it is: the place of its height.
     pub(crate) number: u32,

@@ -8,7 +8,7 @@ use std::alloc::{AllocError, Global};
 use std::marker::Model;
 
 /// Lists of runs, one after another in one piece of memory: eight bytes for a run and four for a list.
-#[derive(Debug, Drop)]
+#[derive(Drop)]
 pub(crate) struct Lists {
     ends: Vec<u32>,
     runs: Vec<Run>,

@@ -8,7 +8,7 @@ use std::alloc::{AllocError, Global};
 use std::marker::Model;
 
 /// Rows of a layer, each a height and the runs there. They lie in two pieces of memory, however many there are.
-#[derive(Debug, Drop)]
+#[derive(Drop)]
 pub struct Rows {
     heights: Vec<i32>,
     lists: Lists,

@@ -3,7 +3,7 @@ ghost use Rattle.std.specs.Prelude.{◌≡◌};
 ghost use Rattle.scad_extrude.specs.Count.{HasParts, triangles_of};
 
 /// An extrusion, with what its number of triangles depends on.
-#[derive(Clone, Copy, Debug, PartialEq, Eq)]
+#[derive(Clone, Copy)]
 pub enum FlatForm {
     /// Of an outline of so many points.
     Linear(u32),

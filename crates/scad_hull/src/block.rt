@@ -8,7 +8,7 @@ use scad_geom::Pt3;
 use std::alloc::{AllocError, Global};
 
 /// The box round a block of neighbours.
-#[derive(Clone, Copy, Debug)]
+#[derive(Clone, Copy)]
 pub(crate) struct Block {
     pub low: Pt3,
     pub high: Pt3,

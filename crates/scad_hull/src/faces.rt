@@ -12,7 +12,7 @@ use scad_geom::Pt3;
 use std::alloc::{AllocError, Global};
 
 /// A face: its inward normal, and its corners clockwise as seen from outside.
-#[derive(Debug, Drop)]
+#[derive(Drop)]
 pub(crate) struct Face {
     pub normal: Normal,
     pub ring: Vec<Pt3>,

@@ -1,7 +1,7 @@
 //! Refusals of hulls.
 
 /// Why there is no answer.
-#[derive(Clone, Copy, Debug, PartialEq, Eq)]
+#[derive(Clone, Copy, Debug)]
 pub enum HullFault {
     /// So many distinct points, which passes 20,000.
     Points(u64),

@@ -10,7 +10,7 @@ use scad_geom::Pt3;
 use std::alloc::{AllocError, Global};
 
 /// A point with its height first, by which points are ordered.
-#[derive(Clone, Copy, Debug, PartialEq, Eq, PartialOrd, Ord)]
+#[derive(Clone, Copy, PartialEq, Eq, PartialOrd, Ord)]
 pub(crate) struct Node {
     pub z: i32,
     pub y: i32,

@@ -5,7 +5,7 @@ use scad_num::Num;
 use std::marker::Model;
 
 /// The corners of a ring in order, where the last is joined to the first.
-#[derive(Debug, Drop)]
+#[derive(Drop)]
 pub struct Ring2 {
     points: Vec<(Num, Num)>,
 }

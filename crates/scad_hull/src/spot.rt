@@ -10,7 +10,7 @@ use scad_num::Num;
 use std::alloc::{AllocError, Global};
 
 /// A point with its height first, by which points are ordered.
-#[derive(Clone, Copy, Debug, PartialEq, Eq, PartialOrd, Ord)]
+#[derive(Clone, Copy, PartialEq, Eq, PartialOrd, Ord)]
 pub(crate) struct Spot {
     pub y: Num,
     pub x: Num,

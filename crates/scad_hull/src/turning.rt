@@ -9,7 +9,7 @@ use scad_geom::Pt3;
 use scad_geom::wide::{minus, plus, span, times};
 
 /// A normal of a plane.
-#[derive(Clone, Copy, Debug)]
+#[derive(Clone, Copy)]
 pub struct Normal {
     pub x: i128,
     pub y: i128,
@@ -122,7 +122,7 @@ fn product(normal: &Normal, way: Way) -> i128
 }
 
 // A way between points.
-#[derive(Clone, Copy, Debug)]
+#[derive(Clone, Copy)]
 struct Way {
     x: i128,
     y: i128,

@@ -7,7 +7,7 @@ use scad_cos::{cos, sin};
 use scad_num::Num;
 
 /// A coordinate axis.
-#[derive(Clone, Copy, Debug, PartialEq, Eq)]
+#[derive(Clone, Copy)]
 pub enum Axis {
     X,
     Y,

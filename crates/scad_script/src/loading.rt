@@ -12,7 +12,7 @@ use scad_io::{Desk, Failed, ReadEnd, read_all};
 use std::alloc::Global;
 
 /// What was read of a file.
-#[derive(Debug, Drop)]
+#[derive(Drop)]
 pub enum Input {
     /// All of it.
     Whole(Text),

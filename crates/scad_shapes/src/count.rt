@@ -3,7 +3,7 @@ ghost use Rattle.std.specs.Prelude.{◌≡◌, ◌≤◌};
 ghost use Rattle.scad_shapes.specs.Count.{HasFragments, sphere_triangles, prism_triangles, triangles_of};
 
 /// A primitive, with what its number of triangles depends on.
-#[derive(Clone, Copy, Debug, PartialEq, Eq)]
+#[derive(Clone, Copy)]
 pub enum Form {
     Cube,
     /// Of so many fragments.

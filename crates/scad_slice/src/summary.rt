@@ -3,7 +3,7 @@
 use slice_work::Summary;
 
 /// What is told of a tree whose files were written: the numbers of its layers, and how many bytes each file has.
-#[derive(Clone, Copy, Debug, PartialEq, Eq)]
+#[derive(Clone, Copy)]
 pub struct Written {
     pub summary: Summary,
     pub cli: u64,
@@ -11,7 +11,7 @@ pub struct Written {
 }
 
 /// How many bytes were written to each output.
-#[derive(Clone, Copy, Debug, PartialEq, Eq)]
+#[derive(Clone, Copy)]
 pub struct Sizes {
     pub cli: u64,
     pub gcode: u64,

@@ -4,7 +4,7 @@ ghost use Rattle.std.specs.Prelude.{◌≡◌, ℕ, List};
 use std::marker::Model;
 
 /// A face: the numbers of its points in order, clockwise as seen from outside.
-#[derive(Debug, Drop)]
+#[derive(Drop)]
 pub struct Face {
     indices: Vec<u32>,
 }

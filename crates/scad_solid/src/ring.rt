@@ -6,7 +6,7 @@ use scad_geom::Pt3;
 use std::marker::Model;
 
 /// A ring: its points in order, where the last is joined to the first.
-#[derive(Debug, Drop)]
+#[derive(Drop)]
 pub struct Ring {
     points: Vec<Pt3>,
 }

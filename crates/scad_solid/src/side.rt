@@ -5,7 +5,7 @@ ghost use Rattle.scad_solid.specs.Side.{reversed};
 use scad_geom::Pt3;
 
 /// A side of a triangle, run from one corner to the next.
-#[derive(Clone, Copy, Debug, PartialEq, Eq, PartialOrd, Ord)]
+#[derive(Clone, Copy, PartialEq, Eq, PartialOrd, Ord)]
 pub struct Side {
     pub from: Pt3,
     pub to: Pt3,

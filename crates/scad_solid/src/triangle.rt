@@ -7,7 +7,7 @@ use crate::side::Side;
 use scad_geom::Pt3;
 
 /// A triangle of a surface, its corners clockwise as seen from outside.
-#[derive(Clone, Copy, Debug, PartialEq, Eq)]
+#[derive(Clone, Copy)]
 pub struct Triangle {
     pub a: Pt3,
     pub b: Pt3,

@@ -16,7 +16,7 @@ use std::marker::Model;
 
 /// The closed surface of a solid in whole micrometres: triangles whose directed sides of differing
 /// points occur as often as their reverses, with all coordinates within `scad_geom::POINT_LIMIT`.
-#[derive(Debug, Drop)]
+#[derive(Drop)]
 pub struct Triangles {
     triangles: Vec<Triangle>,
 }

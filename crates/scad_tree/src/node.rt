@@ -3,7 +3,7 @@
 use scad_solid::Triangles;
 
 /// A tree of set operations whose leaves are closed surfaces.
-#[derive(Debug, Drop)]
+#[derive(Drop)]
 pub enum Node {
     /// Holds no point.
     Empty,

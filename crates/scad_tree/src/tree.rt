@@ -9,7 +9,6 @@ use scad_solid::Triangles;
 use std::marker::Model;
 
 /// A tree of set operations in normal form.
-#[derive(Debug)]
 pub struct Tree {
     node: Node,
 }

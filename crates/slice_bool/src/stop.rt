@@ -12,7 +12,7 @@ use scad_geom::{Edge, Level, Pt};
 use slice_snap::Spot;
 
 /// A spot whose numbers are small enough for the comparisons and for the winding numbers hard by it.
-#[derive(Clone, Copy, Debug)]
+#[derive(Clone, Copy)]
 pub(crate) struct Stop {
     pub(crate) spot: Spot,
     ghost level: { IsLevelWithin coordinate_limit spot.at },

@@ -9,7 +9,7 @@ use scad_geom::line::{high, low};
 use scad_geom::{Edge, Pt, whole, wide};
 
 /// An edge, its ends read upwards, and its line: the points with `rise * x = run * y + offset`.
-#[derive(Clone, Copy, Debug)]
+#[derive(Clone, Copy)]
 pub(crate) struct Line {
     pub(crate) edge: Edge,
     pub(crate) low: Pt,

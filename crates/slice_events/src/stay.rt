@@ -12,7 +12,7 @@ use std::alloc::{AllocError, Global};
 use std::cmp::Ordering;
 
 /// An edge in one of the buckets that it reaches.
-#[derive(Clone, Copy, Debug)]
+#[derive(Clone, Copy)]
 pub(crate) struct Stay {
     pub(crate) bucket: u32,
     /// The x of the edge's leftmost point.

@@ -1,6 +1,6 @@
 //! A leaf or an operation of a shape.
 
-#[derive(Clone, Copy, Debug)]
+#[derive(Clone, Copy)]
 pub(crate) struct Cell {
     /// The number of the operation that it is a member of, plus one; 0 for none.
     pub parent: usize,

@@ -10,7 +10,7 @@ use std::alloc::AllocError;
 
 /// A piece by its name, whether it runs as the sweep does, with the inside on its left, and the point, rounded, where
 /// the sweep came to it.
-#[derive(Clone, Copy, Debug)]
+#[derive(Clone, Copy)]
 pub(crate) struct Course {
     pub(crate) name: u32,
     pub(crate) forward: bool,
@@ -18,7 +18,7 @@ pub(crate) struct Course {
 }
 
 /// No piece, one alone, or more.
-#[derive(Clone, Copy, Debug)]
+#[derive(Clone, Copy)]
 pub(crate) enum Alone {
     Nothing,
     One(Course),

@@ -3,7 +3,7 @@ ghost use Rattle.std.specs.Prelude.{◌≤◌, unsigned_abs};
 ghost use Rattle.scad_geom.specs.Limits.{coordinate_limit};
 
 /// A flat edge: its height, its ends, and its number.
-#[derive(Clone, Copy, Debug)]
+#[derive(Clone, Copy)]
 pub(crate) struct Flat {
     pub(crate) y: i32,
     pub(crate) left: i32,

@@ -130,7 +130,7 @@ fn lies_on(e: &Flat, at: &Level) -> bool
 }
 
 /// A stretch of flat edges of one height that are joined: the place behind them, and its right end.
-#[derive(Clone, Copy, Debug)]
+#[derive(Clone, Copy)]
 pub(crate) struct Joined {
     pub(crate) to: usize,
     pub(crate) right: i32,

@@ -6,7 +6,7 @@ use scad_geom::Pt;
 
 /// The least number of a strand's edges, the shape's value to its left, and the point, rounded, where its piece began,
 /// if it has one.
-#[derive(Clone, Copy, Debug)]
+#[derive(Clone, Copy)]
 pub(crate) struct Mark {
     pub(crate) name: u32,
     pub(crate) left: bool,

@@ -66,7 +66,7 @@ fn end_strands(given: &mut Vec<Edge>, side: &Side<'_>, at: Pt) -> Result<(), All
 
 /// What lies to the right of a place, below the height and above it, the pieces along the height, and the place,
 /// rounded.
-#[derive(Clone, Copy, Debug)]
+#[derive(Clone, Copy)]
 pub(crate) struct Beside {
     pub(crate) below: bool,
     pub(crate) above: bool,

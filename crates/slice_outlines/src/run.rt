@@ -5,7 +5,7 @@ ghost use Rattle.slice_outlines.specs.Runs.{first, after};
 use slice_sweep::Change;
 
 /// From where to where the strands of a part of a height stand below it, and from where to where above it.
-#[derive(Clone, Copy, Debug)]
+#[derive(Clone, Copy)]
 pub(crate) struct Run {
     pub(crate) below: usize,
     pub(crate) below_to: usize,

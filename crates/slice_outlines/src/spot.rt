@@ -16,7 +16,7 @@ use slice_snap::Spot;
 use std::cmp::Ordering;
 
 /// A spot whose numbers are small enough for the comparisons.
-#[derive(Clone, Copy, Debug)]
+#[derive(Clone, Copy)]
 pub(crate) struct Stop {
     pub(crate) spot: Spot,
     ghost level: { IsLevelWithin coordinate_limit spot.at },

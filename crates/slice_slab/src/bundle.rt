@@ -8,7 +8,7 @@ use std::marker::Model;
 use std::slice;
 
 /// The numbers of edges that coincide between two neighbouring heights, ascending.
-#[derive(Debug, Drop)]
+#[derive(Drop)]
 pub struct Bundle {
     numbers: Numbers,
 }

@@ -3,7 +3,7 @@ ghost use Rattle.std.specs.Prelude.{pos, ◌<ℤ◌, ◌≤◌, ◌^◌, unsigne
 
 /// Where an edge that rises passes a height: at the x `x` over its rise and the divisor of the height. All numbers are
 /// small enough for the comparisons.
-#[derive(Clone, Copy, Debug)]
+#[derive(Clone, Copy)]
 pub(crate) struct Passage {
     pub(crate) number: u32,
     pub(crate) x: i128,

@@ -5,7 +5,7 @@ ghost use Rattle.slice_snap.specs.Spots.{IsSpotWithin};
 use crate::piece::Spot;
 
 /// Where the piece at a place of a list starts or ends.
-#[derive(Clone, Copy, Debug)]
+#[derive(Clone, Copy)]
 pub(crate) struct End {
     pub(crate) spot: Spot,
     pub(crate) place: usize,

@@ -4,7 +4,7 @@ use scad_geom::Level;
 
 /// The point at the height of `at` whose x is `x / (run * at.d)`, in micrometres. `run` is the rise of an edge through the
 /// point, or 1 where the point's x is whole.
-#[derive(Clone, Copy, Debug)]
+#[derive(Clone, Copy)]
 pub struct Spot {
     pub at: Level,
     pub x: i128,
@@ -12,7 +12,7 @@ pub struct Spot {
 }
 
 /// A straight piece of a border, with the inside on its left. `edge` is the number of an edge that it lies on.
-#[derive(Clone, Copy, Debug)]
+#[derive(Clone, Copy)]
 pub struct Piece {
     pub from: Spot,
     pub to: Spot,

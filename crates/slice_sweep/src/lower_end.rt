@@ -3,7 +3,7 @@ ghost use Rattle.std.specs.Prelude.{◌≤◌, unsigned_abs};
 ghost use Rattle.scad_geom.specs.Limits.{coordinate_limit};
 
 /// The height of an edge's lower end, and the edge's number.
-#[derive(Clone, Copy, Debug)]
+#[derive(Clone, Copy)]
 pub(crate) struct LowerEnd {
     pub(crate) y: i32,
     pub(crate) number: u32,

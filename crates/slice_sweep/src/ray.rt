@@ -3,7 +3,7 @@ ghost use Rattle.std.specs.Prelude.{pos, ◌<ℤ◌, ◌≤◌, ◌^◌, unsigne
 
 /// An edge that rises, as it goes on from a place: what its slope is, and its number. All numbers are small enough for
 /// the comparisons.
-#[derive(Clone, Copy, Debug)]
+#[derive(Clone, Copy)]
 pub(crate) struct Ray {
     pub(crate) number: u32,
     pub(crate) rise: i128,

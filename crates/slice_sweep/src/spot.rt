@@ -14,7 +14,7 @@ use scad_geom::{Edge, Level};
 use std::cmp::Ordering;
 
 /// An x over a rise, which lies between two whole numbers.
-#[derive(Clone, Copy, Debug)]
+#[derive(Clone, Copy)]
 pub(crate) struct Spot {
     pub(crate) x: i128,
     pub(crate) up: i128,

@@ -3,7 +3,7 @@
 use slice_slab::Bundle;
 
 /// A bundle and its wake-up key: at a height below the key none of its edges ends and it doesn't meet the next bundle.
-#[derive(Debug, Drop)]
+#[derive(Drop)]
 pub(crate) struct Strand {
     pub(crate) bundle: Bundle,
     pub(crate) wake: i64,

@@ -4,7 +4,7 @@ use scad_fault::Budget;
 use std::alloc::{AllocError, AllocFailed};
 
 /// Why the work on a part stops before its end.
-#[derive(Debug, Drop)]
+#[derive(Drop)]
 pub enum WorkFault {
     /// There was too little memory.
     Memory,

@@ -4,7 +4,7 @@ use scad_geom::{Loop, Path};
 
 /// A layer as it is written: its number, its outlines, the paths of its moves, the last `runs` of which are runs of
 /// infill, and its supports.
-#[derive(Clone, Copy, Debug)]
+#[derive(Clone, Copy)]
 pub struct LaidLayer<'a> {
     pub number: u32,
     pub loops: &'a [Loop],

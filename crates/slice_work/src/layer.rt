@@ -5,7 +5,7 @@ use scad_fault::Budget;
 use scad_geom::Loop;
 
 /// What the work on a layer ends with.
-#[derive(Debug, Drop)]
+#[derive(Drop)]
 pub enum LayerEnd {
     /// Its outlines and its plan; a plan that isn't wanted has no paths.
     Made(Vec<Loop>, LayerPlan),
@@ -14,7 +14,7 @@ pub enum LayerEnd {
 }
 
 /// A layer, and what the work on it ended with.
-#[derive(Debug, Drop)]
+#[derive(Drop)]
 pub struct Drawn {
     pub layer: u32,
     pub end: LayerEnd,

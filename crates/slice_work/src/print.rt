@@ -7,7 +7,7 @@ use crate::want::Want;
 use scad_words::Settings;
 
 /// What is wanted of a part, by which settings, and how many workers share its layers.
-#[derive(Clone, Copy, Debug)]
+#[derive(Clone, Copy)]
 pub struct Print {
     pub settings: Settings,
     pub want: Want,

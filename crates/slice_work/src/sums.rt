@@ -9,7 +9,7 @@ use scad_geom::Path;
 
 /// What is counted of layers that were written: outlines, moves, the volume of the moves in cubic micrometres, and
 /// the bytes of both outputs. No memory holds more than these numbers count.
-#[derive(Clone, Copy, Debug, PartialEq, Eq)]
+#[derive(Clone, Copy)]
 pub struct Sums {
     pub loops: u64,
     pub moves: u64,

@@ -4,7 +4,7 @@ use scad_fault::Budget;
 use std::alloc::{AllocError, AllocFailed};
 
 /// Why a survey stops before its end.
-#[derive(Debug, Drop)]
+#[derive(Drop)]
 pub enum SurveyFault {
     /// There was too little memory.
     Memory,

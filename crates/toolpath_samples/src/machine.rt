@@ -3,7 +3,7 @@
 use Answer::*;
 use gcode_text::{GFault, Machine};
 
-#[derive(Clone, Copy, Debug, PartialEq, Eq)]
+#[derive(Clone, Copy, PartialEq, Eq)]
 enum Answer {
     Stays,
     Drives,
