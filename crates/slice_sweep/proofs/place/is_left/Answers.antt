@@ -1,8 +1,9 @@
--- What the ends tell is so.
+-- What the ends tell is so, and the sizes of what is handed on.
 use Rattle.std.proofs.Common.{arith, subst, FitsSigned, ◌<ℤ◌}
 use lib.Signed.{◌≤ℤ◌}
 use Rattle.std.proofs.lemmas.Int.{ints, to_z-of_z}
 use Rattle.scad_geom.specs.declared.point.Edge.{Edge}
+use Rattle.scad_geom.proofs.Casts.{sizes}
 use Rattle.slice_slab.proofs.Live.{reaches_is}
 use Rattle.slice_sweep.specs.Strands.{head}
 use Rattle.slice_sweep.proofs.Sides.{left_by_ends, right_by_ends}
@@ -34,3 +35,13 @@ returns-then-lies_behind c =
     c.requires.between m (subst (λ (e : Edge). m ≤ℤ e.a.x) c.head-first.ensures.value c.left_end.ensures.a)
     (subst (λ (e : Edge). m ≤ℤ e.b.x) c.head-first.ensures.value c.left_end.ensures.b) o in
     omega (arith, ints, l)
+
+pub is_left_of-requires-clause-x : goal.is_left_of-requires-clause-x
+is_left_of-requires-clause-x c =
+    let size = c.args.spot.now.x_size in
+    omega (arith, sizes)
+
+pub is_left_of-requires-clause-up : goal.is_left_of-requires-clause-up
+is_left_of-requires-clause-up c =
+    let size = c.args.spot.now.up_size in
+    omega (arith, sizes)

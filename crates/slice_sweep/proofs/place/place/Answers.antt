@@ -43,33 +43,33 @@ module _ (es : List LeafEdge) (L : List Strand) (m : ℕ) (s : Strand) (at : Lev
 pub is_left-requires-clause-there : goal.is_left-requires-clause-there
 is_left-requires-clause-there c =
     let i = c.places.invariant in
-    let apart = c.places-test.true in
+    let some = c.places-test.true in
     subst (λ (s : Strand). All (λ k. k < length c.args.edges.now) s.bundle) (sym c.index-strands-middle.is)
     (c.requires.strands (c.places.low + (c.places.high - c.places.low) / 2) c.index-strands-middle.result
-    (omega (arith, i, apart)))
+    (omega (arith, i, some)))
 
 pub is_left-requires-clause-reach : goal.is_left-requires-clause-reach
 is_left-requires-clause-reach c =
     let i = c.places.invariant in
-    let apart = c.places-test.true in
+    let some = c.places-test.true in
     subst (λ (s : Strand). reaches (head c.args.edges.now s.bundle) c.args.at.now c.args.at.now ≡ true)
     (sym c.index-strands-middle.is)
     (c.requires.reach (c.places.low + (c.places.high - c.places.low) / 2) c.index-strands-middle.result
-    (omega (arith, i, apart)))
+    (omega (arith, i, some)))
 
 pub places-preserved-then-is_left : goal.places-preserved-then-is_left
 places-preserved-then-is_left c =
     let i = c.places.invariant in
-    let apart = c.places-test.true in
+    let some = c.places-test.true in
     let m = c.places.low + (c.places.high - c.places.low) / 2 in
     let s = c.spot_on-spot in
     let left : IsLeftAt c.args.at.now (head c.args.edges.now (strand_at c.args.strands.now m).bundle)
     (edge_at c.args.edges.now c.args.k) =
     lies_left c.args.edges.now c.args.strands.now m c.index-strands-middle.result c.args.at.now
-    (edge_at c.args.edges.now c.args.k) s.result.x s.result.up c.is_left.result (omega (arith, i, apart))
+    (edge_at c.args.edges.now c.args.k) s.result.x s.result.up c.is_left.result (omega (arith, i, some))
     c.index-strands-middle.is s.ensures.x s.ensures.up c.is_left.ensures c.if-is_left.true in
     record {
-      order = omega (arith, apart);
+      order = omega (arith, some);
       within = i.within;
       left = λ j e. subst (λ (k : ℕ). IsLeftAt c.args.at.now
           (head c.args.edges.now (strand_at c.args.strands.now k).bundle) (edge_at c.args.edges.now c.args.k))
@@ -80,12 +80,12 @@ places-preserved-then-is_left c =
 pub places-preserved : goal.places-preserved
 places-preserved c =
     let i = c.places.invariant in
-    let apart = c.places-test.true in
+    let some = c.places-test.true in
     let m = c.places.low + (c.places.high - c.places.low) / 2 in
     let s = c.spot_on-spot in
     record {
-      order = omega (arith, apart);
-      within = omega (arith, i, apart);
+      order = omega (arith, some);
+      within = omega (arith, i, some);
       left = i.left;
       right = λ o. lies_not_left c.args.edges.now c.args.strands.now m c.index-strands-middle.result c.args.at.now
           (edge_at c.args.edges.now c.args.k) s.result.x s.result.up c.is_left.result o
