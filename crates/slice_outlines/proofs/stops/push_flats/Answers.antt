@@ -1,6 +1,6 @@
 -- Both ends of a flat edge come behind those of the edges to its left.
 use Rattle.std.proofs.Common.{◌+◌, ◌++◌, ◌∷◌, [], ℕ, List, drop, sym, ap, ◌∙◌, append_assoc}
-use Rattle.std.proofs.lemmas.List.{at_drop_more}
+use Rattle.std.proofs.lemmas.List.{append-nil, at_drop_more, drop_all}
 use Rattle.slice_snap.specs.declared.piece.Spot.{Spot}
 use Rattle.slice_bool.specs.Pieces.{whole_spot}
 use Rattle.slice_outlines.specs.declared.flat.Flat.{Flat}
@@ -20,4 +20,12 @@ flats-preserved c =
     ∙ ap (λ (ss : List Spot). out ++ ss)
     (ap (λ (f : Flat). whole_spot f.left at ∷ (whole_spot f.right at ∷ rest)) c.e-item.is
     ∙ sym (at_drop_more (flat_spots at) fs i e c.flats-test.true))
+    ∙ c.flats.invariant
+
+pub returns : goal.returns
+returns c =
+    let before : List Spot = spots_in c.flats.out.items in
+    sym (append-nil before)
+    ∙ ap (λ (fs : List Flat). before ++ flat_spots c.args.at.now fs)
+    (sym (drop_all c.flats.e-index c.args.flats.now c.flats-test.false))
     ∙ c.flats.invariant

@@ -1,8 +1,9 @@
 -- A strand's spot comes behind those of the strands to its left.
 use Rattle.std.proofs.Common.{◌+◌, ◌++◌, ◌∷◌, ℕ, List, drop, sym, ap, ◌∙◌}
-use Rattle.std.proofs.lemmas.List.{at_drop_more}
+use Rattle.std.proofs.lemmas.List.{append-nil, at_drop_more, drop_all}
 use Rattle.slice_snap.specs.declared.piece.Spot.{Spot}
 use Rattle.slice_outlines.specs.declared.spot.Stop.{Stop}
+use Rattle.slice_outlines.specs.declared.mark.Mark.{Mark}
 use Rattle.slice_outlines.specs.Marks.{no_mark}
 use Rattle.slice_outlines.specs.Stops.{spots_in, mark_spots}
 use Rattle.slice_outlines.proofs.Stopping.{kept_step}
@@ -20,3 +21,11 @@ marks-preserved c =
     (ap (λ (s : Spot). spots_in out ++ (s ∷ rest)) c.stop_of.ensures
     ∙ ap (λ (ss : List Spot). spots_in out ++ ss) (sym (at_drop_more spots ms i no_mark c.marks-test.true))
     ∙ c.marks.invariant)
+
+pub returns : goal.returns
+returns c =
+    let before : List Spot = spots_in c.marks.out.items in
+    sym (append-nil before)
+    ∙ ap (λ (ms : List Mark). before ++ mark_spots c.args.edges.now c.args.at.now ms)
+    (sym (drop_all c.marks.mark-index c.args.marks.now c.marks-test.false))
+    ∙ c.marks.invariant
