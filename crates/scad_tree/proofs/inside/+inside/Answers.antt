@@ -1,0 +1,30 @@
+-- Whether a node holds a point, from whether its members do, which code sees as a slice.
+use Rattle.std.proofs.Common.{◌≡◌, Bool, List, true, ◌&&◌, ap, sym, ◌∙◌}
+use Rattle.scad_geom.specs.Half.{meant}
+use Rattle.scad_solid.specs.Cut.{plane_of, contains}
+use Rattle.scad_solid.specs.declared.triangle.Triangle.{Triangle}
+use Rattle.scad_tree.specs.Member.{holds, some_hold, all_hold}
+use Rattle.scad_tree.specs.Normal.{are_some}
+use Rattle.scad_tree.specs.Solid.{members}
+use Rattle.scad_tree.specs.View.{solids}
+use Rattle.scad_tree.proofs.Rows.{at_union, at_inter}
+use Rattle.scad_tree.proofs.inside.+inside.Goals as goal
+
+pub holds-returns-in-Union : goal.holds-returns-in-Union
+holds-returns-in-Union t c =
+    let at = c.args.at in
+    let inside : List Triangle → Bool = λ ts. contains (plane_of at.layer at.height) ts (meant at.half at.point) in
+    c.any_holds.ensures ∙ ap (λ ns. some_hold inside (members (solids ns))) c.deref.ensures.value
+    ∙ sym (ap (holds inside) (at_union c.args.node.now c.in-Union.members c.in-Union.is))
+
+pub holds-returns-then-has_any : goal.holds-returns-then-has_any
+holds-returns-then-has_any t c =
+    let at = c.args.at in
+    let inside : List Triangle → Bool = λ ts. contains (plane_of at.layer at.height) ts (meant at.half at.point) in
+    let all = all_hold inside (members (solids c.in-Inter.members.items)) in
+    let some : are_some (members (solids c.in-Inter.members.items)) ≡ true =
+    ap (λ ns. are_some (members (solids ns))) (sym c.deref-in-Inter.ensures.value) ∙ sym c.has_any.ensures
+    ∙ c.if-has_any.true in
+    c.all_hold.ensures ∙ ap (λ ns. all_hold inside (members (solids ns))) c.deref-then-has_any.ensures.value
+    ∙ sym (ap (λ (b : Bool). b && all) some)
+    ∙ sym (ap (holds inside) (at_inter c.args.node.now c.in-Inter.members c.in-Inter.is))
