@@ -1,3 +1,4 @@
+-- The edges of an operation are those of its parts, one part after another, and so are the numbers of its leaves.
 use Rattle.std.proofs.Common.{◌≡◌, ◌+◌, ◌++◌, ap, sym, ◌∙◌}
 use Rattle.scad_tree.specs.Order.{surfaces, all_surfaces, leaves, all_leaves}
 use Rattle.scad_tree.specs.Solid.{members}
@@ -5,7 +6,7 @@ use Rattle.scad_tree.specs.Sections.{sections_from}
 use Rattle.scad_tree.specs.View.{solid_of, solids}
 use Rattle.scad_tree.proofs.LeafSections.{sections_append, cut_more}
 use Rattle.scad_tree.proofs.Lines.{pieces, behind, numbered_more}
-use Rattle.scad_tree.proofs.Rows.{at_diff}
+use Rattle.scad_tree.proofs.Rows.{at_union, at_inter, at_diff}
 use Rattle.scad_tree.proofs.sections.+edges.Goals as goal
 
 pub push_node-returns-in_ok-after-in-Diff-clause-edges : goal.push_node-returns-in_ok-after-in-Diff-clause-edges
@@ -52,3 +53,35 @@ push_members-loop-node-preserved t c = record {
   numbered = numbered_more c.loop-node.leaf c.in_ok-after.after _ c.args.nodes.now c.loop-node.node-index
       c.node-item.result c.loop-node-test.true c.node-item.is c.in_ok-after.ensures.next c.loop-node.invariant.numbered;
 }
+
+pub push_node-returns-in_ok-after-in-Union-clause-edges : goal.push_node-returns-in_ok-after-in-Union-clause-edges
+push_node-returns-in_ok-after-in-Union-clause-edges t c =
+    let a = c.args in
+    c.in_ok-after-in-Union.ensures.edges
+    ∙ ap (λ ns. a.out.now.items ++ sections_from a.at.number a.at.height a.leaf (all_surfaces (members (solids ns))))
+    c.deref.ensures.value
+    ∙ ap (λ s. a.out.now.items ++ sections_from a.at.number a.at.height a.leaf (surfaces s))
+    (sym (at_union a.node.now c.in-Union.members c.in-Union.is))
+
+pub push_node-returns-in_ok-after-in-Union-clause-next : goal.push_node-returns-in_ok-after-in-Union-clause-next
+push_node-returns-in_ok-after-in-Union-clause-next t c =
+    let a = c.args in
+    c.in_ok-after-in-Union.ensures.next
+    ∙ ap (λ ns. a.leaf + all_leaves (members (solids ns))) c.deref.ensures.value
+    ∙ ap (λ s. a.leaf + leaves s) (sym (at_union a.node.now c.in-Union.members c.in-Union.is))
+
+pub push_node-returns-in_ok-after-in-Inter-clause-edges : goal.push_node-returns-in_ok-after-in-Inter-clause-edges
+push_node-returns-in_ok-after-in-Inter-clause-edges t c =
+    let a = c.args in
+    c.in_ok-after-in-Inter.ensures.edges
+    ∙ ap (λ ns. a.out.now.items ++ sections_from a.at.number a.at.height a.leaf (all_surfaces (members (solids ns))))
+    c.deref-in-Inter.ensures.value
+    ∙ ap (λ s. a.out.now.items ++ sections_from a.at.number a.at.height a.leaf (surfaces s))
+    (sym (at_inter a.node.now c.in-Inter.members c.in-Inter.is))
+
+pub push_node-returns-in_ok-after-in-Inter-clause-next : goal.push_node-returns-in_ok-after-in-Inter-clause-next
+push_node-returns-in_ok-after-in-Inter-clause-next t c =
+    let a = c.args in
+    c.in_ok-after-in-Inter.ensures.next
+    ∙ ap (λ ns. a.leaf + all_leaves (members (solids ns))) c.deref-in-Inter.ensures.value
+    ∙ ap (λ s. a.leaf + leaves s) (sym (at_inter a.node.now c.in-Inter.members c.in-Inter.is))

@@ -1,3 +1,4 @@
+-- The lines of an operation stand below its own, and its leaves are those of its parts.
 use Rattle.std.proofs.Common.{◌≡◌, ◌+◌, ◌++◌, ap, ap₂, sym, ◌∙◌}
 use Rattle.scad_tree.specs.Order.{leaves, all_leaves}
 use Rattle.scad_tree.specs.Solid.{members, difference}
@@ -55,3 +56,17 @@ push_node-returns-in_ok-after-in-Diff-clause-next t c =
     (c.in_ok-after-in-Diff.ensures.next ∙ ap (λ ns. c.in_ok-leaf-in-Diff.leaf + all_leaves (members (solids ns)))
     c.deref-in-Diff-2.ensures.value)
     ∙ ap (λ s. a.leaf + leaves s) (sym (at_diff a.node.now c.in-Diff.first c.in-Diff.rest c.in-Diff.is))
+
+pub push_node-returns-in_ok-after-in-Union-clause-next : goal.push_node-returns-in_ok-after-in-Union-clause-next
+push_node-returns-in_ok-after-in-Union-clause-next t c =
+    let a = c.args in
+    c.in_ok-after-in-Union.ensures.next
+    ∙ ap (λ ns. a.leaf + all_leaves (members (solids ns))) c.deref.ensures.value
+    ∙ ap (λ s. a.leaf + leaves s) (sym (at_union a.node.now c.in-Union.members c.in-Union.is))
+
+pub push_node-returns-in_ok-after-in-Inter-clause-next : goal.push_node-returns-in_ok-after-in-Inter-clause-next
+push_node-returns-in_ok-after-in-Inter-clause-next t c =
+    let a = c.args in
+    c.in_ok-after-in-Inter.ensures.next
+    ∙ ap (λ ns. a.leaf + all_leaves (members (solids ns))) c.deref-in-Inter.ensures.value
+    ∙ ap (λ s. a.leaf + leaves s) (sym (at_inter a.node.now c.in-Inter.members c.in-Inter.is))
