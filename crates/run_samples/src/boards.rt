@@ -2,7 +2,8 @@
 ghost use Rattle.std.specs.Prelude.{◌≡◌, true, None, length, IfOk};
 ghost use Rattle.layer_board.specs.Calls.{view, layers_of, workers_of, IsOf, IsFresh};
 
-use layer_board::{Board, Claim, Outcome, Pass};
+use crate::cases::{holds, holds_at};
+use layer_board::{Board, Claim, Pass};
 use std::alloc::{AllocError, Global};
 use std::process::Abort;
 use std::thread;
@@ -64,7 +65,7 @@ fn a_board_without_layers_ends_at_once(rt: HostRuntime) {
     let Claim::Ended = board.claim(&mut pass) else {
         panic!(rt; "a layer was drawn")
     };
-    assert!(rt; board.close(pass) == Outcome { least: 0 });
+    holds(&rt, board.close(pass).least == 0, "a board without layers");
 }
 
 #[test]
@@ -73,22 +74,22 @@ fn layers_above_a_failed_one_are_skipped(rt: HostRuntime) {
     let Claim::Layer(0) = board.claim(&mut pass) else {
         panic!(rt; "layer 0 wasn't drawn")
     };
-    assert!(rt; !board.look(&mut pass, 0));
+    holds(&rt, !board.look(&mut pass, 0), "layer 0 is wanted");
     board.fail(&mut pass, 0);
     let Claim::Layer(1) = board.claim(&mut pass) else {
         panic!(rt; "layer 1 wasn't drawn")
     };
-    assert!(rt; board.look(&mut pass, 1));
+    holds(&rt, board.look(&mut pass, 1), "layer 1 is skipped");
     let Claim::Layer(2) = board.claim(&mut pass) else {
         panic!(rt; "layer 2 wasn't drawn")
     };
-    assert!(rt; board.look(&mut pass, 2));
+    holds(&rt, board.look(&mut pass, 2), "layer 2 is skipped");
     let Claim::Ended = board.claim(&mut pass) else {
         panic!(rt; "a fourth layer was drawn")
     };
     let again = board.claim(&mut pass);
-    assert!(rt; again == Claim::Ended);
-    assert!(rt; board.close(pass) == Outcome { least: 0 });
+    holds(&rt, again == Claim::Ended, "the board stays ended");
+    holds(&rt, board.close(pass).least == 0, "layer 0 failed");
 }
 
 #[test]
@@ -102,15 +103,15 @@ fn joined_passes_are_one(rt: HostRuntime) {
     };
     board.fail(&mut second, 1);
     // The board's least failed layer is 1, so layer 0 is still wanted.
-    assert!(rt; !board.look(&mut first, 0));
+    holds(&rt, !board.look(&mut first, 0), "layer 0 is wanted");
     board.finish(&mut first, 0);
-    assert!(rt; first.members() == 1);
+    holds(&rt, first.members() == 1, "a pass of one");
     board.join(&mut first, second);
-    assert!(rt; first.members() == 2);
+    holds(&rt, first.members() == 2, "a pass of two");
     let Claim::Ended = board.claim(&mut first) else {
         panic!(rt; "a third layer was drawn")
     };
-    assert!(rt; board.close(first) == Outcome { least: 1 });
+    holds(&rt, board.close(first).least == 1, "layer 1 failed");
 }
 
 #[test]
@@ -132,12 +133,12 @@ fn two_threads_draw_a_board_to_its_end(rt: HostRuntime) {
         finished: more,
     } = other.expect(&rt, "memory");
     board.join(&mut pass, also);
-    assert!(rt; board.close(pass) == Outcome { least: 200 });
+    holds(&rt, board.close(pass).least == 200, "layer 200 failed");
     finished.extend_from_slice(&more).expect(&rt, "memory");
     finished.sort().expect(&rt, "memory");
     // Layers above 200 may be finished by a thread that hadn't met the failed one.
     for (n, layer) in finished.iter().take(200).enumerate() {
-        assert!(rt; *layer as usize == n);
+        holds_at(&rt, *layer as usize == n, "finished layer", n as u64);
     }
 }
 
@@ -153,8 +154,8 @@ fn four_threads_draw_each_layer_once(rt: HostRuntime) {
         all.extend_from_slice(&drawn.finished).expect(&rt, "memory");
     }
     all.sort().expect(&rt, "memory");
-    assert!(rt; all.len() == 500);
+    holds(&rt, all.len() == 500, "500 layers are finished");
     for (n, layer) in all.iter().enumerate() {
-        assert!(rt; *layer as usize == n);
+        holds_at(&rt, *layer as usize == n, "finished layer", n as u64);
     }
 }

@@ -1,6 +1,7 @@
 //! Trees that pass a budget.
 ghost use Rattle.std.specs.Prelude.{◌≡◌, ◌≤◌};
 
+use crate::cases::holds;
 use crate::files::{Answer, block, desk, planned, polyhedron, pt, sliced};
 use scad_fault::{Budget, BudgetKind};
 use scad_geom::Pt3;
@@ -35,8 +36,10 @@ fn thin_layers(tree: &Tree) -> Workpiece<'_, Open> {
 #[test]
 fn layers_are_counted_up_to_the_budget(rt: HostRuntime) {
     let tree = high(rt.alloc()).expect(&rt, "a tree");
-    assert!(rt; is_over(&count_layers(&tree, 20), Budget::layers(20_001)));
-    assert!(rt; matches!(count_layers(&tree, 21), Ok(19_049)));
+    let is_over = is_over(&count_layers(&tree, 20), Budget::layers(20_001));
+    holds(&rt, is_over, "20001 layers");
+    let is_counted = matches!(count_layers(&tree, 21), Ok(19_049));
+    holds(&rt, is_counted, "19049 layers");
 }
 
 #[test]
@@ -45,7 +48,8 @@ fn too_many_layers_create_nothing(rt: HostRuntime) {
     let piece = thin_layers(&tree);
     let mut desk = desk(rt.alloc(), &[0]).expect(&rt, "a desk");
     let ended = slice(&rt, rt.alloc(), &piece, "o.cli", &mut desk);
-    assert!(rt; is_over(&ended, Budget::layers(20_001)) && desk.faults() == 0);
+    let is_over = is_over(&ended, Budget::layers(20_001));
+    holds(&rt, is_over && desk.faults() == 0, "20001 layers sliced");
 }
 
 #[test]
@@ -54,7 +58,8 @@ fn too_many_layers_are_not_planned(rt: HostRuntime) {
     let piece = thin_layers(&tree);
     let mut desk = desk(rt.alloc(), &[0]).expect(&rt, "a desk");
     let ended = plan(&rt, rt.alloc(), &piece, "o.cli", "o.gcode", &mut desk);
-    assert!(rt; is_over(&ended, Budget::layers(20_001)) && desk.faults() == 0);
+    let is_over = is_over(&ended, Budget::layers(20_001));
+    holds(&rt, is_over && desk.faults() == 0, "20001 layers planned");
 }
 
 const CORNERS: u32 = 10_005;
@@ -125,9 +130,11 @@ fn ends_before(answer: &Answer) -> bool {
 #[test]
 fn the_lowest_layer_with_too_many_edges(rt: HostRuntime) {
     let tree = prism_and_block(rt.alloc()).expect(&rt, "a tree");
-    assert!(rt; ends_before(&sliced(&rt, rt.alloc(), &tree, 1, &[])));
+    let answer = sliced(&rt, rt.alloc(), &tree, 1, &[]);
+    holds(&rt, ends_before(&answer), "sliced up to layer 2");
     let answer = planned(&rt, rt.alloc(), &tree, 3, &[]);
-    assert!(rt; ends_before(&answer) && !answer.gcode.ends_with(b"M84\n"));
+    let is_cut = ends_before(&answer) && !answer.gcode.ends_with(b"M84\n");
+    holds(&rt, is_cut, "planned up to layer 2");
 }
 
 const BEFORE: &str = r#"$$HEADERSTART

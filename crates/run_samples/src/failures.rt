@@ -3,8 +3,9 @@
 ghost use Rattle.std.specs.Prelude.{◌≡◌, Some, [], IfOk};
 ghost use Rattle.scad_io.specs.Desk.{unused};
 
+use crate::cases::{holds, holds_at};
 use crate::plans::sample_of_plate;
-use crate::runs::{Answer, ROOM, answer_of, answer_on, expect, push_file, run_on};
+use crate::runs::{Answer, ROOM, answer_of, answer_on, expect, expect_bare, push_file, run_on};
 use scad_fault::Text;
 use scad_io::MemoryDesk;
 use scad_script::{Stop, report};
@@ -97,7 +98,7 @@ fn end_from(call: u64, echo: u64) -> (u8, &'static str) {
 fn expect_stopped(rt: &impl Abort, whole: &Answer, answer: &Answer, end: (u8, &str), case: &str) {
     let (code, report) = end;
     let told = answer.code == code && answer.report.as_slice() == report.as_bytes();
-    assert!(rt; told && are_fronts(whole, answer), "{case}");
+    holds(rt, told && are_fronts(whole, answer), case);
 }
 
 /// Both files are fronts of the whole ones; nothing is written where reading fails.
@@ -124,10 +125,8 @@ fn expect_stopped_at<R: Threads + Sync + Abort>(
     let answer = answer_to(rt, alloc, words, SOURCE, &[call]);
     expect_stopped(rt, whole, &answer, end_without(call, echo, last), words);
     let is_cut = call < last && !whole.cli.is_empty();
-    assert!(rt;
-        answer.faults == 1 && is_short(whole, &answer) == is_cut,
-        "{words}"
-    );
+    let is_alone = answer.faults == 1 && is_short(whole, &answer) == is_cut;
+    holds_at(rt, is_alone, words, call);
     answer
 }
 
@@ -144,7 +143,8 @@ fn expect_one_call_more<R: Threads + Sync + Abort>(
     let but_the_next = fails_from(alloc, call, call.saturating_add(2)).expect(rt, "memory");
     let same = answer_to(rt, alloc, words, SOURCE, &but_the_next);
     expect_stopped(rt, alone, &same, end_without(call, echo, last), words);
-    assert!(rt; has_same_files(&same, alone) && same.faults == 1, "{words}");
+    let is_same = has_same_files(&same, alone) && same.faults == 1;
+    holds_at(rt, is_same, words, call);
 }
 
 /// Where that one fails too, the report has nothing more.
@@ -165,10 +165,8 @@ fn expect_silence<R: Threads + Sync + Abort>(
     );
     expect_stopped(rt, alone, &silent, end_from(call, echo), words);
     let faults = if call == echo || call == last { 1 } else { 2 };
-    assert!(rt;
-        has_same_files(&silent, alone) && silent.faults == faults,
-        "{words}"
-    );
+    let is_same = has_same_files(&silent, alone) && silent.faults == faults;
+    holds_at(rt, is_same, words, call);
 }
 
 fn has_same_files(answer: &Answer, other: &Answer) -> bool {
@@ -181,7 +179,7 @@ fn each_call_failing_in_turn(rt: HostRuntime) {
     for &row in &RUNS {
         let (words, _, last) = row;
         let whole = answer_to(&rt, alloc, words, SOURCE, &[]);
-        assert!(rt; whole.code == 0 && whole.faults == 0, "{words}");
+        holds(&rt, whole.code == 0 && whole.faults == 0, words);
         for call in 0..last.saturating_add(1) {
             let alone = expect_stopped_at(&rt, alloc, row, &whole, call);
             expect_one_call_more(&rt, alloc, row, &alone, call);
@@ -189,11 +187,8 @@ fn each_call_failing_in_turn(rt: HostRuntime) {
         }
         let behind = &[last.saturating_add(1)];
         let done = answer_to(&rt, alloc, words, SOURCE, behind);
-        assert!(rt; done.code == 0 && done.faults == 0, "{words}");
-        assert!(rt;
-            done.report == whole.report && done.cli == whole.cli,
-            "{words}"
-        );
+        let is_same = done.report == whole.report && done.cli == whole.cli;
+        holds(&rt, done.code == 0 && done.faults == 0 && is_same, words);
     }
 }
 
@@ -216,7 +211,8 @@ fn expect_reported(rt: &impl Abort, alloc: Global, ended: Result<Text, Stop>, ca
     let answer = answer_on(alloc, status, &desk).expect(rt, "memory");
     let is_told = answer.code == code && answer.report.is_empty() == (code == 5);
     let is_alone = answer.cli.is_empty() && answer.gcode.is_empty();
-    assert!(rt; is_told && is_alone && (answer.faults == 0) == (code == 0));
+    let is_counted = (answer.faults == 0) == (code == 0);
+    holds_at(rt, is_told && is_alone && is_counted, "sample, call", call);
 }
 
 /// A plate with a square hole.
@@ -231,8 +227,7 @@ fn expect_early_end<R: Threads + Sync + Abort>(rt: &R, alloc: Global, front: &[u
     let column = front.len().wrapping_add(1);
     let report = format!(in alloc; "fault 2 Syntax at 1:{column}\n").expect(rt, "memory");
     let answer = checked(rt, alloc, front);
-    expect(rt, &answer, 1, report.as_str(), "a front");
-    assert!(rt; answer.cli.is_empty() && answer.faults == 0);
+    expect_bare(rt, &answer, 1, report.as_str(), report.as_str());
 }
 
 /// Each front ends early, where it isn't empty: the fault stands behind its last byte.
@@ -245,7 +240,7 @@ fn each_front_of_a_source(rt: HostRuntime) {
         &nothing,
         0,
         "ok: 0 leaves, 0 triangles, 0 layers\n",
-        "",
+        "no source",
     );
     for len in 1..HOLED.len() {
         expect_early_end(&rt, alloc, &HOLED.as_bytes()[..len]);
@@ -308,8 +303,7 @@ fn sources_that_ask_for_too_much(rt: HostRuntime) {
     for &(front, unit, times, code, report) in &HOSTILE {
         let source = lengthened(alloc, front, unit, times).expect(&rt, "memory");
         let answer = checked(&rt, alloc, source.as_bytes());
-        expect(&rt, &answer, code, report, front);
-        assert!(rt; answer.cli.is_empty() && answer.faults == 0, "{front}");
+        expect_bare(&rt, &answer, code, report, front);
     }
 }
 
@@ -360,7 +354,7 @@ fn expect_cut<R: Threads + Sync + Abort>(
     let answer = answer_by(rt, alloc, front, workers, &[call]);
     expect_stopped(rt, whole, &answer, (5, "write fault\n"), front);
     let is_cut = is_short(whole, &answer) && answer.cli.ends_with(lines.as_bytes());
-    assert!(rt; answer.faults == 1 && is_cut, "{front}");
+    holds_at(rt, answer.faults == 1 && is_cut, front, call);
 }
 
 /// A file that fails comes before the budget of a later layer, by however many workers it was met.

@@ -4,6 +4,7 @@ ghost use Rattle.layer_board.specs.Limits.{worker_limit};
 ghost use Rattle.scad_io.specs.Desk.{unused};
 ghost use Rattle.scad_script.specs.Run.{Sound};
 
+use crate::cases::{holds, holds_at};
 use crate::file_texts::{
     FRAME_OUTLINES, FRAME_PROGRAM, PLATE_HATCHED, PLATE_OUTLINES, PLATE_PROGRAM,
 };
@@ -204,9 +205,11 @@ fn expect_sample<R: Threads + Sync + Abort>(
     requires most { workers ≤ worker_limit }
 {
     let answer = sliced(rt, alloc, tree, workers, &[]);
-    assert!(rt; is_done(&answer, sample.sliced, sample.outlines, ""));
+    let is_sliced = is_done(&answer, sample.sliced, sample.outlines, "");
+    holds(rt, is_sliced, sample.sliced);
     let answer = planned(rt, alloc, tree, workers, &[]);
-    assert!(rt; is_done(&answer, sample.planned, sample.hatched, sample.gcode));
+    let is_planned = is_done(&answer, sample.planned, sample.hatched, sample.gcode);
+    holds(rt, is_planned, sample.planned);
 }
 
 #[test]
@@ -243,9 +246,11 @@ fn files_are_as_long_as_is_told(rt: HostRuntime) {
     };
     count_layers(&plate, piece.settings.layer_height).expect(&rt, "few layers");
     let told = draw(&rt, rt.alloc(), &piece, Want::Plan, &mut desk).expect(&rt, "a drawing");
-    assert!(rt; told.cli == PLATE_HATCHED.len() as u64 && told.gcode == PLATE_PROGRAM.len() as u64);
-    assert!(rt; told.summary.e == 67_351);
-    assert!(rt; desk.written(Out::Cli) == PLATE_HATCHED.as_bytes());
+    let is_long = told.cli == PLATE_HATCHED.len() as u64
+        && told.gcode == PLATE_PROGRAM.len() as u64;
+    holds(&rt, is_long && told.summary.e == 67_351, "what is told");
+    let is_hatched = desk.written(Out::Cli) == PLATE_HATCHED.as_bytes();
+    holds(&rt, is_hatched, "the outlines of a plate");
 }
 
 /// Whether the frame's files end where this call fails: what came before it is there.
@@ -264,8 +269,8 @@ fn each_call_fails_in_turn(rt: HostRuntime) {
     let frame = frame(rt.alloc()).expect(&rt, "a tree");
     for call in 0..10 {
         let answer = planned(&rt, rt.alloc(), &frame, 3, &[call]);
-        assert!(rt; stops_at(&answer, call), "call {call}");
+        holds_at(&rt, stops_at(&answer, call), "call", call);
     }
     let answer = planned(&rt, rt.alloc(), &frame, 3, &[10]);
-    assert!(rt; answer.ended.is_ok());
+    holds(&rt, answer.ended.is_ok(), "a plan of a frame has ten calls");
 }

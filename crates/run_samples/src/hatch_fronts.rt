@@ -1,4 +1,5 @@
 //! Every front of a text of three layers with hatches.
+use crate::cases::holds;
 use cli_read::{Cli, CliFault, read};
 use cli_text::{write_end, write_head, write_layer};
 use scad_geom::{Edge, Pt};
@@ -92,10 +93,10 @@ fn each_front_of_hatches(rt: HostRuntime) {
                 .push(mark(&read(alloc, &text), number, *said))
                 .expect(&rt, "memory");
         }
-        assert_eq!(rt; marks.as_str(), *wanted, "{line}");
+        holds(&rt, marks.as_str() == *wanted, line);
         text.push(b'\n').expect(&rt, "memory");
     }
-    assert!(rt; read(alloc, &text).is_ok());
+    holds(&rt, read(alloc, &text).is_ok(), "the whole text");
 }
 
 const FRONT: [Edge; 2] = [
@@ -219,6 +220,7 @@ fn hatches_are_joined_and_written_in_one_line(rt: HostRuntime) {
     let text = whole(rt.alloc()).expect(&rt, "memory for a text");
     for &text in &[text.as_slice(), WRITTEN.as_bytes()] {
         let cli = read(rt.alloc(), text).expect(&rt, "a text of the form");
-        assert!(rt; are_joined(&cli) && is_written(rt.alloc(), &cli));
+        let is_same = are_joined(&cli) && is_written(rt.alloc(), &cli);
+        holds(&rt, is_same, "hatches joined, and in one line");
     }
 }

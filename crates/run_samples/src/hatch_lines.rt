@@ -1,4 +1,5 @@
 //! A line of hatches changed in many ways.
+use crate::cases::holds;
 use cli_read::{Cli, CliFault, CliLayer, read};
 use std::alloc::{AllocError, Global};
 
@@ -123,7 +124,7 @@ fn is_told(alloc: Global, text: &str, wanted: &str) -> bool {
 fn lines_of_hatches(rt: HostRuntime) {
     for (line, wanted) in lines() {
         let text = with_line(rt.alloc(), line).expect(&rt, "memory for a text");
-        assert!(rt; is_told(rt.alloc(), text.as_str(), wanted), "{line:?}");
+        holds(&rt, is_told(rt.alloc(), text.as_str(), wanted), line);
     }
 }
 
@@ -132,5 +133,6 @@ fn hatches_want_a_layer(rt: HostRuntime) {
     let text = format!(in rt.alloc(); "{HEAD}$$HATCHES/1,2,1,2,3,4\n{LAYER}{END}").expect(
         &rt, "a text",
     );
-    assert!(rt; is_told(rt.alloc(), text.as_str(), "BadLine 8"));
+    let is_bad = is_told(rt.alloc(), text.as_str(), "BadLine 8");
+    holds(&rt, is_bad, "hatches before all layers");
 }

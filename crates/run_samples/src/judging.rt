@@ -1,6 +1,7 @@
 //! Verdicts over the text of a file of outlines, of the programs over a plate with a hole and of random moves.
 ghost use Rattle.std.specs.Prelude.{◌≤◌};
 
+use crate::cases::holds;
 use crate::{holed_plate, random_moves};
 use cli_read::read;
 use plan_verify::laws::files_are_within;
@@ -37,7 +38,7 @@ fn expect_verdicts(
 {
     for &(outlines, program, wanted) in rows {
         let found = judged(alloc, outlines.as_bytes(), program, line_width);
-        assert!(rt; found == Some(wanted), "{program}");
+        holds(rt, found == Some(wanted), program);
     }
 }
 

@@ -8,6 +8,8 @@ mod boards;
 #[cfg(test)]
 mod budgets;
 #[cfg(test)]
+mod cases;
+#[cfg(test)]
 mod failures;
 #[cfg(test)]
 mod file_texts;

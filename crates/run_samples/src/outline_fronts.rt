@@ -1,4 +1,5 @@
 //! Every front of the outlines of a plate with a square hole.
+use crate::cases::holds;
 use cli_read::{Cli, CliFault, read};
 use cli_text::{write_end, write_head, write_layer};
 use scad_geom::{Loop, Pt};
@@ -114,5 +115,5 @@ fn each_front_of_outlines(rt: HostRuntime) {
     let text = outlines(rt.alloc()).expect(&rt, "memory for a text");
     let found = marks(rt.alloc(), &text).expect(&rt, "memory for marks");
     let wanted = all_marks(rt.alloc()).expect(&rt, "memory for marks");
-    assert!(rt; found.as_str() == wanted.as_str());
+    holds(&rt, found.as_str() == wanted.as_str(), "marks of fronts");
 }

@@ -2,6 +2,7 @@
 ghost use Rattle.std.specs.Prelude.{◌≤◌};
 ghost use Rattle.layer_board.specs.Limits.{worker_limit};
 
+use crate::cases::{holds, holds_at};
 use crate::file_texts::{PLATE_HATCHED, PLATE_PROGRAM};
 use crate::runs::{Answer, ROOM, answer_of, desk_with};
 use crate::settings::settled;
@@ -33,10 +34,8 @@ fn planned<R: Threads + Sync + Abort>(
 }
 
 fn expect_report(rt: &impl Abort, answer: &Answer, code: u8, report: &str, case: &str) {
-    assert!(rt;
-        answer.code == code && answer.report.as_slice() == report.as_bytes(),
-        "{case}"
-    );
+    let same = answer.report.as_slice() == report.as_bytes();
+    holds(rt, answer.code == code && same, case);
 }
 
 #[test]
@@ -47,7 +46,7 @@ fn a_plate_is_planned(rt: HostRuntime) {
         expect_report(&rt, &answer, 0, PLATE_LINE, workers);
         let same = answer.cli.as_slice() == PLATE_HATCHED.as_bytes()
             && answer.gcode.as_slice() == PLATE_PROGRAM.as_bytes();
-        assert!(rt; same);
+        holds(&rt, same, "both files of a plate");
     }
 }
 
@@ -58,10 +57,8 @@ fn done_but_for<R: Threads + Sync + Abort>(rt: &R, alloc: Global, call: u64) -> 
     expect_report(rt, &answer, code, report, "a call fails");
     let fronts = PLATE_HATCHED.as_bytes().starts_with(&answer.cli)
         && PLATE_PROGRAM.as_bytes().starts_with(&answer.gcode);
-    assert!(rt;
-        fronts && (answer.faults == 0) == (code == 0),
-        "call {call}"
-    );
+    let is_counted = (answer.faults == 0) == (code == 0);
+    holds_at(rt, fronts && is_counted, "call", call);
     code == 0
 }
 
@@ -82,9 +79,10 @@ fn end_without(call: u64) -> (u8, &'static str) {
 fn each_call_of_a_plan_failing_in_turn(rt: HostRuntime) {
     let alloc = rt.alloc();
     for call in 0..12 {
-        assert!(rt; !done_but_for(&rt, alloc, call));
+        let is_done = done_but_for(&rt, alloc, call);
+        holds_at(&rt, !is_done, "a plan stops at call", call);
     }
-    assert!(rt; done_but_for(&rt, alloc, 12));
+    holds(&rt, done_but_for(&rt, alloc, 12), "a plan has twelve calls");
 }
 
 const FIFTEEN: &[u8] = b"$$HEADERSTART\n$$ASCII\n$$UNITS/0.001\n$$VERSION/200\n$$LAYERS/15\n";
@@ -109,9 +107,8 @@ fn the_least_layer_with_a_budget_is_answered(rt: HostRuntime) {
             workers,
         );
         let layers = answer.cli.as_slice();
-        assert!(rt;
-            layers.starts_with(FIFTEEN) && layers.ends_with(FOURTH) && answer.gcode.is_empty()
-        );
+        let is_cut = layers.starts_with(FIFTEEN) && layers.ends_with(FOURTH);
+        holds(&rt, is_cut && answer.gcode.is_empty(), "four layers");
     }
 }
 
@@ -142,7 +139,8 @@ pub fn sample_of_plate<R: Threads + Sync + Abort>(
 #[test]
 fn a_sample_tells_sizes(rt: HostRuntime) {
     let line = sample_of_plate(&rt, rt.alloc(), 3).expect(&rt, "a plan");
-    assert!(rt; line.as_slice() == PLATE_SAMPLE.as_bytes());
+    let is_told = line.as_slice() == PLATE_SAMPLE.as_bytes();
+    holds(&rt, is_told, PLATE_SAMPLE);
 }
 
 #[test]

@@ -1,4 +1,5 @@
 //! Every front of a printing program, fed to the machine.
+use crate::cases::holds;
 use crate::file_texts::PLATE_PROGRAM;
 use gcode_text::{GFault, Machine, Move};
 use std::process::Abort;
@@ -40,7 +41,7 @@ const MARKS: &str = "\
 fn driven(rt: &impl Abort, lines: &[&str]) -> Machine {
     let mut machine = Machine::new();
     for line in lines {
-        assert!(rt; machine.step(line.as_bytes()).is_ok(), "{line}");
+        holds(rt, machine.step(line.as_bytes()).is_ok(), line);
     }
     machine
 }
@@ -72,9 +73,9 @@ fn each_front_of_a_program(rt: HostRuntime) {
                 .expect(&rt, "memory");
             if answer.is_err() {
                 let whole = driven(&rt, &lines[..number]).step(line.as_bytes());
-                assert!(rt; machine.step(line.as_bytes()) == whole, "{line}");
+                holds(&rt, machine.step(line.as_bytes()) == whole, line);
             }
         }
     }
-    assert_eq!(rt; marks.as_str(), MARKS);
+    holds(&rt, marks.as_str() == MARKS, "marks of fronts");
 }

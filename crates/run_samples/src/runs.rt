@@ -2,6 +2,7 @@
 ghost use Rattle.std.specs.Prelude.{◌≡◌, Some, [], IfOk};
 ghost use Rattle.scad_io.specs.Desk.{unused};
 
+use crate::cases::{holds, holds_at};
 use scad_fault::{Status, Text};
 use scad_io::{MemoryDesk, Open, Out};
 use scad_run::run;
@@ -117,10 +118,14 @@ fn sliced<R: Threads + Sync + Abort>(rt: &R, alloc: Global, source: &[u8]) -> An
 /// The run ended with this status and this report, and wrote no printing program.
 pub fn expect(rt: &impl Abort, answer: &Answer, code: u8, report: &str, case: &str) {
     let same = answer.report.as_slice() == report.as_bytes();
-    assert!(rt;
-        answer.code == code && same && answer.gcode.is_empty(),
-        "{case}"
-    );
+    let is_told = answer.code == code && same;
+    holds(rt, is_told && answer.gcode.is_empty(), case);
+}
+
+/// The same of a run that wrote no outlines either, and in which no call failed.
+pub fn expect_bare(rt: &impl Abort, answer: &Answer, code: u8, report: &str, case: &str) {
+    expect(rt, answer, code, report, case);
+    holds(rt, answer.cli.is_empty() && answer.faults == 0, case);
 }
 
 /// Words that are no command.
@@ -143,8 +148,7 @@ fn words_of_another_form(rt: HostRuntime) {
     let alloc = rt.alloc();
     for &words in &STRANGE {
         let answer = answer_of(&rt, alloc, words, b"cube(1);", &[], ROOM);
-        expect(&rt, &answer, 2, "usage: scadslice COMMAND\n", "words");
-        assert!(rt; answer.cli.is_empty() && answer.faults == 0);
+        expect_bare(&rt, &answer, 2, "usage: scadslice COMMAND\n", "words");
     }
 }
 
@@ -154,7 +158,8 @@ fn unknown_model(rt: HostRuntime) {
     let words = ["slice", "n.scad", "o.cli"];
     let answer = answer_of(&rt, alloc, &words, b"cube(1);", &[], ROOM);
     expect(&rt, &answer, 4, "read fault\n", "unknown model");
-    assert!(rt; answer.cli.is_empty() && answer.faults == 1);
+    let is_bare = answer.cli.is_empty() && answer.faults == 1;
+    holds(&rt, is_bare, "unknown model");
 }
 
 /// How a source begins, how many bytes it has, the status of `slice`, its report, and whether nothing is written: it may be
@@ -177,6 +182,7 @@ fn longest_source(rt: HostRuntime) {
         source.resize(len, b'\n').expect(&rt, "memory");
         let answer = sliced(&rt, rt.alloc(), &source);
         expect(&rt, &answer, code, report, report);
-        assert!(rt; answer.cli.is_empty() == is_bare, "{len} bytes");
+        let is_so = answer.cli.is_empty() == is_bare;
+        holds_at(&rt, is_so, "bytes of a source", len as u64);
     }
 }

@@ -3,6 +3,7 @@ ghost use Rattle.std.specs.Prelude.{◌≡◌, Some, [], IfOk, true, OnOk};
 ghost use Rattle.scad_io.specs.Desk.{unused};
 ghost use Rattle.scad_script.specs.Run.{IsReady, Sound};
 
+use crate::cases::holds;
 use scad_fault::{BadKind, Budget, BudgetKind, Status, Text};
 use scad_io::{Desk, MemoryDesk, Out};
 use scad_script::{Input, Refusal, Stop, load, make, report, send};
@@ -104,8 +105,8 @@ fn all_is_written_and_the_last_line_follows(rt: HostRuntime) {
     let mut desk = drawn(&rt, rt.alloc());
     let line = Text::of(rt.alloc(), b"done\n").expect(&rt, "memory for a line");
     let status = report(rt.alloc(), Ok(line), &mut desk);
-    assert!(rt; status.code() == 0);
-    assert!(rt; has_written(&desk, "ECHO: 1\ndone\n", "LAYER", "layer"));
+    let is_whole = has_written(&desk, "ECHO: 1\ndone\n", "LAYER", "layer");
+    holds(&rt, status.code() == 0 && is_whole, "all and the last line");
 }
 
 #[test]
@@ -117,27 +118,29 @@ fn a_budget_in_mid_file(rt: HostRuntime) {
         Err(Stop::Ends(Refusal::Over(passed))),
         &mut desk,
     );
-    assert!(rt; status.code() == 6);
     let lines = "ECHO: 1\nbudget 7 LayerEdges layer 4 count 20010\n";
-    assert!(rt; has_written(&desk, lines, "LAYER", "layer"));
+    let is_told = has_written(&desk, lines, "LAYER", "layer");
+    holds(&rt, status.code() == 6 && is_told, "a budget in mid-file");
 }
 
 #[test]
 fn a_report_cut_within_its_echo_lines(rt: HostRuntime) {
     let mut desk = desk_with(&rt, rt.alloc(), &[], 4);
-    assert!(rt; matches!(draw(rt.alloc(), &mut desk), Err(Stop::Silent)));
-    assert!(rt; has_written(&desk, "ECHO", "", ""));
+    let is_silent = matches!(draw(rt.alloc(), &mut desk), Err(Stop::Silent));
+    let is_cut = has_written(&desk, "ECHO", "", "");
+    holds(&rt, is_silent && is_cut, "an echo line is cut");
     let status = report(rt.alloc(), Err(Stop::Silent), &mut desk);
-    assert!(rt; status.code() == 5);
-    assert!(rt; has_written(&desk, "ECHO", "", ""));
+    let is_same = has_written(&desk, "ECHO", "", "");
+    holds(&rt, status.code() == 5 && is_same, "nothing follows");
 }
 
 #[test]
 fn the_second_of_two_outputs_fails(rt: HostRuntime) {
     // open, two reads, the echo line, two creates, the outlines' layer, and then the other one
     let mut desk = desk_with(&rt, rt.alloc(), &[7], ROOM);
-    assert!(rt; matches!(draw(rt.alloc(), &mut desk), Err(Stop::Write)));
-    assert!(rt; has_written(&desk, "ECHO: 1\n", "LAYER", ""));
+    let has_failed = matches!(draw(rt.alloc(), &mut desk), Err(Stop::Write));
+    let is_cut = has_written(&desk, "ECHO: 1\n", "LAYER", "");
+    holds(&rt, has_failed && is_cut, "the second output fails");
 }
 
 /// A refusal before anything is drawn ends with this status and this line.
@@ -149,18 +152,21 @@ fn ends_with(rt: &impl Abort, alloc: Global, refusal: Refusal, code: u8, line: &
 
 #[test]
 fn refusals_have_their_status_and_line(rt: HostRuntime) {
-    assert!(rt; matches!(Refusal::Usage.into_status(), Status::Usage));
+    let is_usage = matches!(Refusal::Usage.into_status(), Status::Usage);
+    holds(&rt, is_usage, "the status of bad usage");
     let outside = Refusal::Outside {
         number: 3,
         line: 17,
     };
-    assert!(rt; ends_with(&rt, rt.alloc(), outside, 8, "outside: move 3 line 17\n"));
+    let line = "outside: move 3 line 17\n";
+    holds(&rt, ends_with(&rt, rt.alloc(), outside, 8, line), line);
     let bad = Refusal::BadFile {
         kind: BadKind::CliCount,
         first: 2,
         second: 1,
     };
-    assert!(rt; ends_with(&rt, rt.alloc(), bad, 9, "cli 2 CountDiffers 2 1\n"));
+    let line = "cli 2 CountDiffers 2 1\n";
+    holds(&rt, ends_with(&rt, rt.alloc(), bad, 9, line), line);
 }
 
 /// What is read of the file of this name up to the limit.
@@ -172,9 +178,9 @@ fn loaded(rt: &impl Abort, alloc: Global, name: &str, limit: Option<usize>) -> R
 #[test]
 fn a_file_is_read_whole_or_is_long(rt: HostRuntime) {
     let whole = loaded(&rt, rt.alloc(), "m", Some(3));
-    assert!(rt; matches!(&whole, Ok(Input::Whole(_))));
+    holds(&rt, matches!(&whole, Ok(Input::Whole(_))), "up to three");
     let long = loaded(&rt, rt.alloc(), "m", Some(2));
-    assert!(rt; matches!(&long, Ok(Input::Long)));
+    holds(&rt, matches!(&long, Ok(Input::Long)), "up to two");
     let missing = loaded(&rt, rt.alloc(), "n", None);
-    assert!(rt; matches!(&missing, Err(Stop::Read)));
+    holds(&rt, matches!(&missing, Err(Stop::Read)), "no file");
 }

@@ -1,4 +1,5 @@
 //! Settings: where they are named, what they change, and how they are refused.
+use crate::cases::holds;
 use crate::runs::{Answer, ROOM, expect, push_file, run_on, texts_of};
 use scad_io::MemoryDesk;
 use std::alloc::{AllocError, Global};
@@ -115,5 +116,5 @@ fn layers_are_of_the_given_height(rt: HostRuntime) {
         "$$HEADERSTART\n$$ASCII\n$$UNITS/0.001\n$$VERSION/200\n$$LAYERS/2\n$$HEADEREND\n$$GEOMETRYSTART\n\
         $$LAYER/500\n$$POLYLINE/1,1,5,0,0,1000,0,1000,1000,0,1000,0,0\n\
         $$LAYER/1000\n$$POLYLINE/1,1,5,0,0,1000,0,1000,1000,0,1000,0,0\n$$GEOMETRYEND\n";
-    assert_eq!(rt; answer.cli.as_slice(), text.as_bytes());
+    holds(&rt, answer.cli.as_slice() == text.as_bytes(), "two layers");
 }

@@ -1,5 +1,6 @@
 //! What `slice` writes. The outlines come from an independent program.
-use crate::runs::{Answer, ROOM, answer_of, expect};
+use crate::cases::{holds, holds_at};
+use crate::runs::{Answer, ROOM, answer_of, expect, expect_bare};
 use std::alloc::{AllocError, Global};
 use std::process::Abort;
 use std::thread::Threads;
@@ -135,10 +136,8 @@ fn trees_sliced(rt: HostRuntime) {
             &rt, "memory",
         );
         expect(&rt, &answer, 0, report.as_str(), source);
-        assert!(rt;
-            answer.cli == outlines(alloc, count, layers).expect(&rt, "memory"),
-            "{source}"
-        );
+        let wanted = outlines(alloc, count, layers).expect(&rt, "memory");
+        holds(&rt, answer.cli == wanted, source);
     }
 }
 
@@ -162,8 +161,7 @@ fn refused(rt: HostRuntime) {
     let alloc = rt.alloc();
     for &(source, report) in &REFUSED {
         let answer = sliced(&rt, alloc, source, &[], ROOM);
-        expect(&rt, &answer, 1, report, source);
-        assert!(rt; answer.cli.is_empty() && answer.faults == 0, "{source}");
+        expect_bare(&rt, &answer, 1, report, source);
     }
 }
 
@@ -180,9 +178,8 @@ fn a_layer_with_too_many_edges(rt: HostRuntime) {
         "budget 7 LayerEdges layer 4 count 20010\n",
         source,
     );
-    assert!(rt;
-        answer.cli == begun(alloc, 15, 4, SQUARE).expect(&rt, "memory") && answer.faults == 0
-    );
+    let wanted = begun(alloc, 15, 4, SQUARE).expect(&rt, "memory");
+    holds(&rt, answer.cli == wanted && answer.faults == 0, source);
 }
 
 /// A source with a line of `echo` and two layers.
@@ -198,10 +195,8 @@ fn done_but_for<R: Threads + Sync + Abort>(rt: &R, alloc: Global, call: u64) -> 
     let whole = outlines(alloc, 2, SQUARE).expect(rt, "memory");
     let is_front = whole.starts_with(&answer.cli)
         && (answer.cli.len() == whole.len()) == (call >= 9);
-    assert!(rt;
-        is_front && (answer.faults == 0) == (code == 0),
-        "call {call}"
-    );
+    let is_counted = (answer.faults == 0) == (code == 0);
+    holds_at(rt, is_front && is_counted, "call", call);
     code == 0
 }
 
@@ -224,9 +219,10 @@ fn end_without(call: u64) -> (u8, &'static str) {
 fn each_call_of_a_slice_failing_in_turn(rt: HostRuntime) {
     let alloc = rt.alloc();
     for call in 0..10 {
-        assert!(rt; !done_but_for(&rt, alloc, call));
+        let is_done = done_but_for(&rt, alloc, call);
+        holds_at(&rt, !is_done, "a slice stops at call", call);
     }
-    assert!(rt; done_but_for(&rt, alloc, 10));
+    holds(&rt, done_but_for(&rt, alloc, 10), "a slice has ten calls");
 }
 
 #[test]
@@ -236,9 +232,7 @@ fn room_for_a_part_of_the_outlines(rt: HostRuntime) {
     for room in 20..whole.len() {
         let answer = sliced(&rt, alloc, TWO, &[], room);
         expect(&rt, &answer, 5, "ECHO: 1\nwrite fault\n", "room");
-        assert!(rt;
-            answer.cli.len() == room && whole.starts_with(&answer.cli),
-            "room {room}"
-        );
+        let is_front = answer.cli.len() == room && whole.starts_with(&answer.cli);
+        holds_at(&rt, is_front, "room", room as u64);
     }
 }

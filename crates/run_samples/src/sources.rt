@@ -1,5 +1,6 @@
 //! What `check` and `tree` tell of sources. The answers come from an independent program.
-use crate::runs::{Answer, ROOM, answer_of, expect};
+use crate::cases::{holds, holds_at};
+use crate::runs::{Answer, ROOM, answer_of, expect, expect_bare};
 use std::alloc::Global;
 use std::process::Abort;
 use std::thread::Threads;
@@ -139,8 +140,7 @@ fn expect_told<R: Threads + Sync + Abort>(
 ) {
     for &(source, code, report) in rows {
         let answer = told(rt, alloc, command, source, &[], ROOM);
-        expect(rt, &answer, code, report, source);
-        assert!(rt; answer.cli.is_empty() && answer.faults == 0, "{source}");
+        expect_bare(rt, &answer, code, report, source);
     }
 }
 
@@ -161,10 +161,8 @@ fn checked_but_for<R: Threads + Sync + Abort>(rt: &R, alloc: Global, call: u64) 
     let answer = told(rt, alloc, "check", SOURCE, &[call], ROOM);
     let (code, report) = end_without(call);
     expect(rt, &answer, code, report, "a call fails");
-    assert!(rt;
-        answer.cli.is_empty() && (answer.faults == 0) == (code == 0),
-        "call {call}"
-    );
+    let is_bare = answer.cli.is_empty() && (answer.faults == 0) == (code == 0);
+    holds_at(rt, is_bare, "call", call);
     code == 0
 }
 
@@ -185,9 +183,10 @@ fn end_without(call: u64) -> (u8, &'static str) {
 fn each_call_of_a_check_failing_in_turn(rt: HostRuntime) {
     let alloc = rt.alloc();
     for call in 0..5 {
-        assert!(rt; !checked_but_for(&rt, alloc, call));
+        let is_done = checked_but_for(&rt, alloc, call);
+        holds_at(&rt, !is_done, "a check stops at call", call);
     }
-    assert!(rt; checked_but_for(&rt, alloc, 5));
+    holds(&rt, checked_but_for(&rt, alloc, 5), "five calls");
 }
 
 /// Behind a part of the echo lines stands no line; behind all of them a part of the last one.
@@ -197,10 +196,8 @@ fn room_for_a_part_of_the_report(rt: HostRuntime) {
     for room in 0..WHOLE.len() {
         let answer = told(&rt, alloc, "check", SOURCE, &[], room);
         let is_front = answer.report.len() == room && WHOLE.as_bytes().starts_with(&answer.report);
-        assert!(rt;
-            is_front && answer.code == 5 && answer.faults == 1,
-            "room {room}"
-        );
+        let is_cut = is_front && answer.code == 5 && answer.faults == 1;
+        holds_at(&rt, is_cut, "room", room as u64);
     }
     let answer = told(&rt, alloc, "check", SOURCE, &[], WHOLE.len());
     expect(&rt, &answer, 0, WHOLE, "room for all");

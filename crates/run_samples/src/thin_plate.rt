@@ -1,4 +1,5 @@
 //! Verdicts over the program of a plate of three millimetres, one layer thick.
+use crate::cases::holds_at;
 use crate::file_texts::{PLATE_HATCHED, PLATE_PROGRAM};
 use crate::judging::judged;
 use plan_verify::{Verdict, VerifyFault};
@@ -84,6 +85,6 @@ fn programs_of_a_thin_plate(rt: HostRuntime) {
             program.as_str(),
             line_width,
         );
-        assert!(rt; found == wanted, "{fifteenth} by {line_width}");
+        holds_at(&rt, found == wanted, fifteenth, u64::from(line_width));
     }
 }

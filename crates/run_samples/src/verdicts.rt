@@ -1,4 +1,5 @@
 //! What `verify` answers. The answers come from an independent program.
+use crate::cases::{holds, holds_at};
 use crate::file_texts::{PLATE_HATCHED, PLATE_PROGRAM};
 use crate::runs::{Answer, ROOM, expect, push_file, run_on, texts_of};
 use scad_io::MemoryDesk;
@@ -65,7 +66,7 @@ fn expect_answer<R: Threads + Sync + Abort>(
 ) {
     let answer = judged(rt, alloc, words, case, &[]);
     expect(rt, &answer, code, report, report);
-    assert!(rt; answer.cli.is_empty());
+    holds(rt, answer.cli.is_empty(), report);
 }
 
 #[test]
@@ -237,5 +238,5 @@ fn each_call_of_a_verdict_failing_in_turn(rt: HostRuntime) {
             break;
         }
     }
-    assert!(rt; last_read >= 5);
+    holds_at(&rt, last_read >= 5, "last call that reads", last_read);
 }

@@ -1,4 +1,5 @@
 //! Layers are really worked by as many workers as the words say: gates hold layers until others come.
+use crate::cases::{holds, holds_at};
 use crate::runs::{ROOM, answer_on, desk_with, texts_of};
 use scad_io::Gate;
 use scad_run::run;
@@ -98,26 +99,25 @@ fn two_at_once(rt: HostRuntime) {
         };
         let code = code_of(&rt, alloc, &words, "cube(1);", &gate);
         let met = gate.met.load(Ordering::SeqCst);
-        assert!(rt;
-            code == 0 && met == 1,
-            "layer {layer} is held until the others are done"
-        );
+        let is_held = code == 0 && met == 1;
+        holds_at(&rt, is_held, "held layer", u64::from(layer));
     }
 }
 
-/// From which of 70 layers on so many workers meet, and how many are awaited; the last six are a round of their own.
-const MEETINGS: [(u32, &str, u64); 5] = [
-    (0, "1", 1),
-    (0, "2", 2),
-    (0, "5", 5),
-    (64, "2", 2),
-    (64, "5", 5),
+/// The case, from which of 70 layers on so many workers meet, and how many are awaited; the last six are a
+/// round of their own.
+const MEETINGS: [(&str, u32, &str, u64); 5] = [
+    ("1 worker from layer 0 on", 0, "1", 1),
+    ("2 workers from layer 0 on", 0, "2", 2),
+    ("5 workers from layer 0 on", 0, "5", 5),
+    ("2 workers from layer 64 on", 64, "2", 2),
+    ("5 workers from layer 64 on", 64, "5", 5),
 ];
 
 #[test]
 fn each_worker_has_a_layer_at_once(rt: HostRuntime) {
     let alloc = rt.alloc();
-    for &(from, workers, wanted) in &MEETINGS {
+    for &(case, from, workers, wanted) in &MEETINGS {
         let words = ["plan", "m.scad", "o.cli", "o.gcode", "--workers", workers];
         let gate = Meeting {
             from,
@@ -127,9 +127,6 @@ fn each_worker_has_a_layer_at_once(rt: HostRuntime) {
         };
         let code = code_of(&rt, alloc, &words, "cube([1,1,14]);", &gate);
         let met = gate.met.load(Ordering::SeqCst);
-        assert!(rt;
-            code == 0 && met == 1,
-            "{workers} workers from layer {from} on"
-        );
+        holds(&rt, code == 0 && met == 1, case);
     }
 }

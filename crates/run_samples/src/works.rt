@@ -7,6 +7,7 @@ ghost use Rattle.scad_io.specs.Desk.{unused};
 ghost use Rattle.scad_script.specs.Run.{Sound};
 ghost use Rattle.slice_work.specs.Part.{layer_limit};
 
+use crate::cases::{holds, holds_at};
 use plan_support::Rows;
 use scad_fault::{Budget, BudgetKind};
 use scad_geom::{Loop, Path, Pt};
@@ -208,7 +209,8 @@ fn layers_are_written_in_order(rt: HostRuntime) {
     for &workers in &[1, 3, 64] {
         let print = print(Want::Plan, workers);
         let answer = worked(&rt, rt.alloc(), 130, &Squares { over: 130 }, &print, &[]);
-        assert!(rt; is_whole(&answer, &cli, &gcode));
+        let is_whole = is_whole(&answer, &cli, &gcode);
+        holds_at(&rt, is_whole, "in order, workers", u64::from(workers));
     }
 }
 
@@ -224,7 +226,8 @@ fn the_least_layer_over_a_budget_is_answered(rt: HostRuntime) {
     for &workers in &[1, 2, 64] {
         let print = print(Want::Outlines, workers);
         let answer = worked(&rt, rt.alloc(), 130, &Squares { over: 69 }, &print, &[]);
-        assert!(rt; is_over(&answer, &cli));
+        let is_over = is_over(&answer, &cli);
+        holds_at(&rt, is_over, "over budget, workers", u64::from(workers));
     }
 }
 
@@ -241,8 +244,8 @@ const NOTHING: Summary = Summary {
 fn a_part_without_layers_writes_nothing(rt: HostRuntime) {
     let print = print(Want::Plan, 5);
     let answer = worked(&rt, rt.alloc(), 0, &Squares { over: 0 }, &print, &[]);
-    assert!(rt; matches!(&answer.told, Ok(told) if *told == NOTHING));
-    assert!(rt; answer.desk.faults() == 0);
+    let is_nothing = matches!(&answer.told, Ok(told) if *told == NOTHING);
+    holds(&rt, is_nothing && answer.desk.faults() == 0, "no layers");
 }
 
 #[test]
@@ -251,8 +254,9 @@ fn each_write_fails_in_turn(rt: HostRuntime) {
     for call in 2..8 {
         let print = print(Want::Plan, 3);
         let answer = worked(&rt, rt.alloc(), 3, &Squares { over: 3 }, &print, &[call]);
-        assert!(rt; matches!(&answer.told, Err(WorkFault::Write)));
-        assert!(rt; stopped_in(&answer.desk, &cli, &gcode));
+        let has_failed = matches!(&answer.told, Err(WorkFault::Write));
+        let is_cut = stopped_in(&answer.desk, &cli, &gcode);
+        holds_at(&rt, has_failed && is_cut, "call", call);
     }
 }
 
@@ -312,7 +316,8 @@ fn is_held<R: Threads + Sync + Abort>(rt: &R, alloc: Global, layer: u32) -> bool
 #[test]
 fn two_at_once(rt: HostRuntime) {
     for layer in 0..5 {
-        assert!(rt; is_held(&rt, rt.alloc(), layer), "layer {layer}");
+        let is_held = is_held(&rt, rt.alloc(), layer);
+        holds_at(&rt, is_held, "held layer", u64::from(layer));
     }
 }
 
@@ -352,7 +357,7 @@ fn supports_are_written<R: Threads + Sync + Abort>(rt: &R, alloc: Global) -> boo
 
 #[test]
 fn supports_stand_behind_the_paths(rt: HostRuntime) {
-    assert!(rt; supports_are_written(&rt, rt.alloc()));
+    holds(&rt, supports_are_written(&rt, rt.alloc()), "supports last");
 }
 
 /// Whether the rows are those of the square: from its lower border on, at each millimetre below the upper one.
@@ -379,7 +384,7 @@ fn has_rows(surveyed: &Result<Vec<Rows>, SurveyFault>, layers: usize) -> bool {
 fn each_layer_has_its_rows(rt: HostRuntime) {
     for &workers in &[1, 2, 64] {
         let all = survey(&rt, rt.alloc(), 70, &Squares { over: 70 }, 1000, workers);
-        assert!(rt; has_rows(&all, 70));
+        holds_at(&rt, has_rows(&all, 70), "rows, workers", u64::from(workers));
     }
 }
 
@@ -388,6 +393,7 @@ fn a_survey_answers_the_least_layer_over_a_budget(rt: HostRuntime) {
     let passed = Budget::of_layer(BudgetKind::LayerEdges, 70, 20_010);
     for &workers in &[1, 3] {
         let all = survey(&rt, rt.alloc(), 130, &Squares { over: 69 }, 1000, workers);
-        assert!(rt; matches!(&all, Err(SurveyFault::Over(budget)) if *budget == passed));
+        let is_over = matches!(&all, Err(SurveyFault::Over(budget)) if *budget == passed);
+        holds_at(&rt, is_over, "over budget, workers", u64::from(workers));
     }
 }
