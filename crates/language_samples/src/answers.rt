@@ -1,5 +1,6 @@
 //! Short sources, and that each is a program or its first fault.
 
+use crate::cases::expect;
 use crate::parse_answer::is_answered;
 
 /// A source, and behind `~` that it is a program or the first fault.
@@ -167,6 +168,6 @@ x = a < b == c > d; ~ program";
 fn sources_are_programs_or_have_their_first_fault(rt: HostRuntime) {
     for row in ROWS.lines() {
         let (source, wanted) = row.split_once(" ~ ").unwrap_or((row, ""));
-        assert!(rt; is_answered(rt.alloc(), source.as_bytes(), wanted), "{row}");
+        expect(&rt, is_answered(rt.alloc(), source.as_bytes(), wanted), row);
     }
 }

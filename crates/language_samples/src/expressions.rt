@@ -1,6 +1,7 @@
 //! Sources of expressions with what they give.
 
 use crate::budgets::BUDGETS;
+use crate::cases::expect;
 use crate::comprehensions::COMPREHENSIONS;
 use crate::operators::OPERATORS;
 use crate::scopes::SCOPES;
@@ -22,7 +23,7 @@ fn gives(alloc: Global, row: &str) -> bool {
 /// Each row has a program, and behind `~` what its last variable gives.
 fn all_give(rt: &(impl Abort + AllocGlobal), rows: &str) {
     for row in rows.lines() {
-        assert!(rt; gives(rt.alloc(), row), "{row}");
+        expect(rt, gives(rt.alloc(), row), row);
     }
 }
 

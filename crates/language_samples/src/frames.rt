@@ -1,5 +1,6 @@
 //! The variables of a scope, and frames of names.
 
+use crate::cases::expect;
 use scad_ast::{Expr, Item, Node, Scope};
 use scad_fault::{Place, Text};
 use scad_num::Num;
@@ -70,13 +71,21 @@ fn are_found(alloc: Global, assigned: &[&[u8]], names: &[&[u8]], items: &[usize]
 #[test]
 fn last_assignments_in_the_order_of_the_first(rt: HostRuntime) {
     let alloc = rt.alloc();
-    assert!(rt; are_found(alloc, &[], &[], &[]));
+    expect(&rt, are_found(alloc, &[], &[], &[]), "no assignment");
     // a = ..; b = ..; a = ..; c = ..; b = ..; with functions between
     let assigned: &[&[u8]] = &[b"a", b"", b"b", b"a", b"", b"c", b"b"];
-    assert!(rt; are_found(alloc, assigned, &[b"a", b"b", b"c"], &[3, 6, 5]));
+    expect(
+        &rt,
+        are_found(alloc, assigned, &[b"a", b"b", b"c"], &[3, 6, 5]),
+        "functions between",
+    );
     // names that begin alike are different names
     let assigned: &[&[u8]] = &[b"ab", b"a", b"$a", b"ab"];
-    assert!(rt; are_found(alloc, assigned, &[b"ab", b"a", b"$a"], &[3, 1, 2]));
+    expect(
+        &rt,
+        are_found(alloc, assigned, &[b"ab", b"a", b"$a"], &[3, 1, 2]),
+        "names that begin alike",
+    );
 }
 
 fn number(z: i64) -> Value {
@@ -140,16 +149,32 @@ fn have_surroundings(frames: &Frames) -> bool {
 fn names_are_sought_outwards(rt: HostRuntime) {
     let scope = scope_of(rt.alloc(), &[b"a"]).expect(&rt, "a scope");
     let (mut frames, numbers) = nested(rt.alloc(), &scope).expect(&rt, "frames");
-    assert!(rt; numbers == [0, 1, 2] && frames.len() == 3);
-    assert!(rt; have_names(&frames) && have_children(&frames) && have_surroundings(&frames));
+    expect(
+        &rt,
+        numbers == [0, 1, 2] && frames.len() == 3,
+        "three frames",
+    );
+    expect(
+        &rt,
+        have_names(&frames) && have_children(&frames) && have_surroundings(&frames),
+        "what three frames have",
+    );
     frames.pop();
-    assert!(rt; frames.len() == 2 && frames.get(2, b"a").is_none());
+    expect(
+        &rt,
+        frames.len() == 2 && frames.get(2, b"a").is_none(),
+        "one frame less",
+    );
 }
 
 #[test]
 fn no_frame_has_a_name(rt: HostRuntime) {
     let frames = Frames::new(rt.alloc());
-    assert!(rt; frames.len() == 0 && frames.get(0, b"a").is_none());
+    expect(
+        &rt,
+        frames.len() == 0 && frames.get(0, b"a").is_none(),
+        "no frame",
+    );
 }
 
 /// Sets each of the names to a number.
@@ -175,11 +200,15 @@ fn with_ten(alloc: Global) -> Result<Frames<'static>, AllocError> {
 #[test]
 fn further_names_are_found_and_set(rt: HostRuntime) {
     let frames = with_ten(rt.alloc()).expect(&rt, "frames");
-    assert!(rt; has(&frames, 0, b"h", 2) && has(&frames, 0, b"i", 3));
+    expect(
+        &rt,
+        has(&frames, 0, b"h", 2) && has(&frames, 0, b"i", 3),
+        "h and i set again",
+    );
     for &name in &[b"a", b"b", b"c", b"d", b"e", b"f", b"g", b"j"] {
-        assert!(rt; has(&frames, 0, name, 1));
+        expect(&rt, has(&frames, 0, name, 1), "a name set once");
     }
-    assert!(rt; frames.get(0, b"k").is_none());
+    expect(&rt, frames.get(0, b"k").is_none(), "k never set");
 }
 
 /// These names, each once.
@@ -240,18 +269,32 @@ fn lists(frames: &Frames, at: u32, name: &[u8], place: usize) -> bool {
 fn names_are_found_by_slots(rt: HostRuntime) {
     let names = listed(rt.alloc()).expect(&rt, "names");
     let mut frames = called(rt.alloc(), &names).expect(&rt, "frames");
-    assert!(rt;
-        lies(rt.alloc(), &frames, &names, b"f", 2) && lies(rt.alloc(), &frames, &names, b"x", 2)
+    expect(
+        &rt,
+        lies(rt.alloc(), &frames, &names, b"f", 2) && lies(rt.alloc(), &frames, &names, b"x", 2),
+        "f and x by slots",
     );
-    assert!(rt;
-        is_unset(rt.alloc(), &frames, &names, b"g") && is_unset(rt.alloc(), &frames, &names, b"h")
+    expect(
+        &rt,
+        is_unset(rt.alloc(), &frames, &names, b"g") && is_unset(rt.alloc(), &frames, &names, b"h"),
+        "g and h unset",
     );
-    assert!(rt; has(&frames, 1, b"f", 2) && has(&frames, 1, b"x", 2));
-    assert!(rt; lists(&frames, 0, b"g", 1) && lists(&frames, 1, b"x", 0));
+    expect(
+        &rt,
+        has(&frames, 1, b"f", 2) && has(&frames, 1, b"x", 2),
+        "f and x by name",
+    );
+    expect(
+        &rt,
+        lists(&frames, 0, b"g", 1) && lists(&frames, 1, b"x", 0),
+        "the places of g and x",
+    );
     // h isn't listed
     frames.set(b"h", number(5)).expect(&rt, "a value");
-    assert!(rt;
-        frames.names(1).is_none() && has(&frames, 1, b"h", 5) && lists(&frames, 0, b"f", 0)
+    expect(
+        &rt,
+        frames.names(1).is_none() && has(&frames, 1, b"h", 5) && lists(&frames, 0, b"f", 0),
+        "h set in the call",
     );
 }
 
@@ -281,10 +324,16 @@ fn unset_slots_are_passed(rt: HostRuntime) {
         names_of(alloc, words).expect(&rt, "names"),
     ];
     let frames = hidden(alloc, &names).expect(&rt, "frames");
-    assert!(rt; lies(alloc, &frames, &both, b"b", 1) && lies(alloc, &frames, &both, b"c", 3));
-    assert!(rt; is_unset(alloc, &frames, &both, b"a"));
+    expect(
+        &rt,
+        lies(alloc, &frames, &both, b"b", 1) && lies(alloc, &frames, &both, b"c", 3),
+        "b of the outer frame, c of the inner one",
+    );
+    expect(&rt, is_unset(alloc, &frames, &both, b"a"), "a unset");
     let slots = resolve(alloc, &both, b"c").expect(&rt, "slots");
-    assert!(rt;
-        slots.as_slice().len() == 2 && is_slot(&slots, 0, 0, 2) && is_slot(&slots, 1, 1, 2)
+    expect(
+        &rt,
+        slots.as_slice().len() == 2 && is_slot(&slots, 0, 0, 2) && is_slot(&slots, 1, 1, 2),
+        "the slots of c",
     );
 }

@@ -1,5 +1,6 @@
 //! Every front of a program.
 
+use crate::cases::expect;
 use crate::stand::STAND;
 use scad_fault::Place;
 use scad_lex::lex;
@@ -44,5 +45,5 @@ fn marks(alloc: Global, source: &[u8]) -> Result<String, AllocError> {
 #[test]
 fn each_front_of_a_program_ends_early_or_is_a_program(rt: HostRuntime) {
     let marks = marks(rt.alloc(), STAND.as_bytes()).expect(&rt, "memory for the marks");
-    assert!(rt; marks.as_str() == FRONTS);
+    expect(&rt, marks.as_str() == FRONTS, "the marks of all fronts");
 }

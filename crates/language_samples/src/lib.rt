@@ -7,6 +7,8 @@ mod answers;
 #[cfg(test)]
 mod budgets;
 #[cfg(test)]
+mod cases;
+#[cfg(test)]
 mod comprehensions;
 #[cfg(test)]
 mod definitions;

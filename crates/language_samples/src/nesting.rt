@@ -1,5 +1,6 @@
 //! A construct in itself up to the limit, and once more.
 
+use crate::cases::expect;
 use crate::parse_answer::is_answered;
 use std::alloc::{AllocError, Global};
 
@@ -81,9 +82,10 @@ fn ends_at_the_limit(alloc: Global, row: &str) -> Result<bool, AllocError> {
 #[test]
 fn two_hundred_constructs_may_stand_open(rt: HostRuntime) {
     for row in NESTED.lines() {
-        assert!(rt;
+        expect(
+            &rt,
             ends_at_the_limit(rt.alloc(), row).unwrap_or(false),
-            "{row}"
+            row,
         );
     }
 }

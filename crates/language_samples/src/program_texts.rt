@@ -1,5 +1,6 @@
 //! The printed text of programs: operands stand in parentheses, bodies in braces.
 
+use crate::cases::expect;
 use crate::stand::STAND;
 use scad_ast::print;
 use scad_fault::Text;
@@ -141,7 +142,7 @@ fn is_printed(alloc: Global, row: &str) -> bool {
 #[test]
 fn printed_programs_show_what_belongs_together(rt: HostRuntime) {
     for row in PRINTED.lines() {
-        assert!(rt; is_printed(rt.alloc(), row), "{row}");
+        expect(&rt, is_printed(rt.alloc(), row), row);
     }
 }
 
@@ -156,7 +157,7 @@ fn prints(alloc: Global, source: &str, wanted: &str) -> bool {
 #[test]
 fn printed_programs_are_the_same_programs(rt: HostRuntime) {
     for &(source, wanted) in &[(STAND, PRINTED_STAND), (SMALL, PRINTED_SMALL)] {
-        assert!(rt; prints(rt.alloc(), source, wanted));
-        assert!(rt; prints(rt.alloc(), wanted, wanted));
+        expect(&rt, prints(rt.alloc(), source, wanted), source);
+        expect(&rt, prints(rt.alloc(), wanted, wanted), wanted);
     }
 }

@@ -2,6 +2,7 @@
 
 ghost use Rattle.std.specs.Prelude.{◌<◌, length};
 
+use crate::cases::expect;
 use scad_ast::{Arg, BinOp, Expr, Item, Node, Program, Stmt, StmtBody};
 use scad_fault::Place;
 use scad_lex::lex;
@@ -41,7 +42,7 @@ fn an_operator_has_its_operands_in_order(rt: HostRuntime) {
         }
         _ => false,
     };
-    assert!(rt; found);
+    expect(&rt, found, "x=a - b;");
 }
 
 fn is_unnamed(argument: &Arg) -> bool {
@@ -67,5 +68,5 @@ fn a_call_has_its_marks_and_arguments(rt: HostRuntime) {
         [Item::Run(statement)] => statement.percent && !statement.hash && is_call(statement),
         _ => false,
     };
-    assert!(rt; found);
+    expect(&rt, found, "%cube(x);");
 }

@@ -2,6 +2,7 @@
 
 ghost use Rattle.std.specs.Prelude.{◌<◌, length};
 
+use crate::cases::expect;
 use scad_lex::{LexFault, TokenKind, lex};
 use std::alloc::{AllocError, Global};
 
@@ -180,6 +181,6 @@ fn is_answered(alloc: Global, source: &[u8], wanted: &str) -> bool {
 #[test]
 fn tokens_and_refusals_of_short_sources(rt: HostRuntime) {
     for &(source, wanted) in &SOURCES {
-        assert!(rt; is_answered(rt.alloc(), source, wanted), "{wanted}");
+        expect(&rt, is_answered(rt.alloc(), source, wanted), wanted);
     }
 }

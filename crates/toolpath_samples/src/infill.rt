@@ -5,6 +5,7 @@ ghost use Rattle.scad_geom.specs.Limits.{coordinate_limit};
 ghost use Rattle.scad_geom.specs.Within.{IsWithin};
 ghost use Rattle.plan_infill.specs.Runs.{IsLineWithin};
 
+use crate::cases::expect;
 use crate::points::{are_at, outlines};
 use plan_infill::{Line, Run, runs};
 use plan_sides::sides;
@@ -35,7 +36,11 @@ fn have_ends(sides: &[Edge], wanted: &[[(i32, i32); 2]]) -> bool {
 fn sides_go_round(rt: HostRuntime) {
     let outlines = outlines(rt.alloc(), &OUTLINES).expect(&rt, "outlines");
     let sides = sides(rt.alloc(), &outlines).expect(&rt, "sides");
-    assert!(rt; have_ends(sides.as_slice(), &ENDS));
+    expect(
+        &rt,
+        have_ends(sides.as_slice(), &ENDS),
+        "the ends of all sides",
+    );
 }
 
 fn square(alloc: Global, size: u32) -> Result<Loop, AllocError>
@@ -69,6 +74,14 @@ fn has_run(alloc: Global, line: Line) -> Result<bool, AllocError>
 
 #[test]
 fn a_run_keeps_its_distance(rt: HostRuntime) {
-    assert!(rt; has_run(rt.alloc(), Line::Row(2000)).unwrap_or(false));
-    assert!(rt; has_run(rt.alloc(), Line::Column(2000)).unwrap_or(false));
+    expect(
+        &rt,
+        has_run(rt.alloc(), Line::Row(2000)).unwrap_or(false),
+        "a row",
+    );
+    expect(
+        &rt,
+        has_run(rt.alloc(), Line::Column(2000)).unwrap_or(false),
+        "a column",
+    );
 }

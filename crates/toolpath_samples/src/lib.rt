@@ -4,6 +4,8 @@
 #![tactic(auto, using(scad_geom::proofs::Casts::casts))]
 
 #[cfg(test)]
+mod cases;
+#[cfg(test)]
 mod cover_limits;
 #[cfg(test)]
 mod infill;

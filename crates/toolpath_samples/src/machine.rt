@@ -1,5 +1,6 @@
 //! Lines of printing programs, and what the machine makes of them.
 
+use crate::cases::expect;
 use Answer::*;
 use gcode_text::{GFault, Machine};
 
@@ -167,8 +168,8 @@ fn lines_behind_a_first_move(rt: HostRuntime) {
     for (line, wanted, stands) in lines() {
         let mut machine = Machine::new();
         let _ = machine.step(b"G1 X1 Y2 Z3 E4");
-        assert!(rt; judged(&mut machine, line.as_bytes()) == *wanted, "{line}");
-        assert!(rt; place(&mut machine) == *stands, "{line}");
+        let answers = judged(&mut machine, line.as_bytes()) == *wanted;
+        expect(&rt, answers && place(&mut machine) == *stands, line);
     }
 }
 
@@ -225,7 +226,19 @@ fn program_of_a_square(rt: HostRuntime) {
             Err(_) => extruding = 99,
         }
     }
-    assert!(rt; moves == 13 && extruding == 9);
-    assert!(rt; place(&mut machine) == [2100, 2000, 200, 67351]);
-    assert!(rt; matches!(machine.step(b"G2"), Err(GFault::UnknownWord(31))));
+    expect(
+        &rt,
+        moves == 13 && extruding == 9,
+        "13 moves, nine of them extruding",
+    );
+    expect(
+        &rt,
+        place(&mut machine) == [2100, 2000, 200, 67351],
+        "where it ends",
+    );
+    expect(
+        &rt,
+        matches!(machine.step(b"G2"), Err(GFault::UnknownWord(31))),
+        "an unknown word in line 31",
+    );
 }

@@ -1,5 +1,6 @@
 //! Texts of outlines, whole and with a fault, read back.
 
+use crate::cases::expect;
 use cli_read::{Cli, CliFault, CliLayer, read};
 use cli_text::{write_end, write_head, write_layer};
 use scad_geom::{Loop, Pt};
@@ -315,8 +316,8 @@ fn is_frame(outlines: &[Loop]) -> bool {
 fn what_was_written(rt: HostRuntime) {
     let text = frame(rt.alloc()).expect(&rt, "memory for a text");
     match read(rt.alloc(), &text) {
-        Ok(cli) => assert!(rt; are_frames(cli.layers.as_slice())),
-        Err(_) => assert!(rt; false, "the text was written so"),
+        Ok(cli) => expect(&rt, are_frames(cli.layers.as_slice()), "fifty frames"),
+        Err(_) => expect(&rt, false, "the text was written so"),
     }
 }
 
@@ -395,9 +396,13 @@ const CHANGES: [(&str, &str, &str); 2] = [
 fn texts_with_other_bytes(rt: HostRuntime) {
     for &(old, new, wanted) in &CHANGES {
         let text = changed(rt.alloc(), old, new).expect(&rt, "a text");
-        assert!(rt; is_told(rt.alloc(), &text, wanted), "{wanted}");
+        expect(&rt, is_told(rt.alloc(), &text, wanted), wanted);
     }
-    assert!(rt; is_told(rt.alloc(), b"$$HEADERSTART\n$$ASCII\xff\n", "BadLine 2"));
+    expect(
+        &rt,
+        is_told(rt.alloc(), b"$$HEADERSTART\n$$ASCII\xff\n", "BadLine 2"),
+        "a byte that is no text",
+    );
 }
 
 /// Bytes, and where the first comma stands in them.
@@ -406,6 +411,10 @@ const COMMAS: [(&[u8], usize); 5] = [(b"", 0), (b",", 0), (b"a,b,c", 1), (b"abc"
 #[test]
 fn a_mark_is_found_where_it_stands_first(rt: HostRuntime) {
     for &(bytes, at) in &COMMAS {
-        assert!(rt; first_at(bytes, b',') == at);
+        expect(
+            &rt,
+            first_at(bytes, b',') == at,
+            "where the first comma stands",
+        );
     }
 }

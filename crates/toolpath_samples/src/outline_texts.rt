@@ -1,5 +1,6 @@
 //! Whole texts of outlines, and lines at the edges of the format.
 
+use crate::cases::expect;
 use crate::points::outlines;
 use cli_text::{write_end, write_head, write_layer};
 use std::alloc::{AllocError, Global};
@@ -75,7 +76,15 @@ fn is_text(written: &Result<Vec<u8>, AllocError>, wanted: &[u8]) -> bool {
 // A cube of a millimetre, a file without layers, and a layer of odd outlines.
 #[test]
 fn outlines_are_written_byte_for_byte(rt: HostRuntime) {
-    assert!(rt; is_text(&cube(rt.alloc()), CUBE));
-    assert!(rt; is_text(&nothing(rt.alloc()), NOTHING));
-    assert!(rt; is_text(&odd_layers(rt.alloc()), ODD_LAYERS));
+    expect(&rt, is_text(&cube(rt.alloc()), CUBE), "a cube");
+    expect(
+        &rt,
+        is_text(&nothing(rt.alloc()), NOTHING),
+        "a file without layers",
+    );
+    expect(
+        &rt,
+        is_text(&odd_layers(rt.alloc()), ODD_LAYERS),
+        "a layer of odd outlines",
+    );
 }

@@ -3,6 +3,7 @@ ghost use Rattle.std.specs.Prelude.{◌≤◌, IfOk, All};
 ghost use Rattle.scad_geom.specs.Limits.{point_limit};
 ghost use Rattle.scad_geom.specs.Within.{IsWithin};
 
+use crate::cases::expect;
 use crate::points::{are_at, paths};
 use plan_layer::{LayerPlan, PlanFault, plan};
 use scad_geom::{Loop, Path, Pt};
@@ -121,7 +122,11 @@ const COLUMN: &[(i32, i32)] = &[(2000, 900), (2000, 2100)];
 fn even_layers_have_rows_and_odd_ones_columns(rt: HostRuntime) {
     for &(layer, run) in &[(0, ROW), (1, COLUMN)] {
         let made = planned_cube(rt.alloc(), layer).expect(&rt, "a plan");
-        assert!(rt; is_planned(&made, 1, &[FIRST_WALL, SECOND_WALL, run]));
+        expect(
+            &rt,
+            is_planned(&made, 1, &[FIRST_WALL, SECOND_WALL, run]),
+            "two walls and a run of infill",
+        );
     }
 }
 
@@ -167,7 +172,11 @@ fn holes_have_walls(rt: HostRuntime) {
     let made = plan(rt.alloc(), &outlines, 0, &NO_INFILL, Vec::new(rt.alloc())).expect(
         &rt, "a plan",
     );
-    assert!(rt; is_planned(&made, 0, &FRAME[..2]));
+    expect(
+        &rt,
+        is_planned(&made, 0, &FRAME[..2]),
+        "the walls of the frame",
+    );
 }
 
 #[test]
@@ -176,7 +185,11 @@ fn lines_alternate(rt: HostRuntime) {
     let made = plan(rt.alloc(), &outlines, 0, &ONE_WALL, Vec::new(rt.alloc())).expect(
         &rt, "a plan",
     );
-    assert!(rt; is_planned(&made, 6, &FRAME));
+    expect(
+        &rt,
+        is_planned(&made, 6, &FRAME),
+        "the walls and the rows of the frame",
+    );
 }
 
 /// The plan of the cube with these support runs.
@@ -191,8 +204,10 @@ fn supported_cube(alloc: Global, runs: &[&[(i32, i32)]]) -> Result<LayerPlan, Pl
 fn supports_are_given_back(rt: HostRuntime) {
     let runs: [&[(i32, i32)]; 2] = [&[(3301, 0), (5999, 0)], &[(5999, 1000), (3301, 1000)]];
     let made = supported_cube(rt.alloc(), &runs).expect(&rt, "a plan");
-    assert!(rt;
-        is_planned(&made, 1, &[FIRST_WALL, SECOND_WALL, ROW]) && are_paths(&made.supports, &runs)
+    expect(
+        &rt,
+        is_planned(&made, 1, &[FIRST_WALL, SECOND_WALL, ROW]) && are_paths(&made.supports, &runs),
+        "the cube's paths and its supports",
     );
 }
 
@@ -216,12 +231,18 @@ fn moves_of_supports_are_counted(rt: HostRuntime) {
     let alloc = rt.alloc();
     let outlines = cube(alloc).expect(&rt, "outlines");
     let most = back_and_forth(alloc, 199_991).expect(&rt, "memory");
-    assert!(rt; plan(alloc, &outlines, 0, &USUAL, most).is_ok());
+    expect(
+        &rt,
+        plan(alloc, &outlines, 0, &USUAL, most).is_ok(),
+        "200,000 moves",
+    );
     let more = back_and_forth(alloc, 199_992).expect(&rt, "memory");
-    assert!(rt;
+    expect(
+        &rt,
         matches!(
             plan(alloc, &outlines, 0, &USUAL, more),
             Err(PlanFault::Moves(200_001))
-        )
+        ),
+        "one move more",
     );
 }

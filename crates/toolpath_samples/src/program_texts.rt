@@ -1,5 +1,6 @@
 //! Whole texts of printing programs, and numbers at the edges of the format.
 
+use crate::cases::expect;
 use crate::points::paths;
 use gcode_text::{Rates, are_few, write_end, write_head, write_layer, write_supports};
 use std::alloc::{AllocError, Global};
@@ -64,8 +65,12 @@ const SQUARE_PROGRAM: &[u8] =
 #[test]
 fn square_of_three_millimetres(rt: HostRuntime) {
     let (text, volume) = program(rt.alloc(), &SQUARES).expect(&rt, "memory for a text");
-    assert!(rt; text.as_slice() == SQUARE_PROGRAM);
-    assert!(rt; volume == 1_620_000_000);
+    expect(
+        &rt,
+        text.as_slice() == SQUARE_PROGRAM,
+        "the program of a square",
+    );
+    expect(&rt, volume == 1_620_000_000, "the volume of a square");
 }
 
 const WIDEST: Rates = Rates {
@@ -104,7 +109,7 @@ const LAST_LAYER: &[u8] = b"before\n\
 #[test]
 fn numbers_at_the_edges(rt: HostRuntime) {
     let text = last_layer(rt.alloc()).expect(&rt, "memory for a text");
-    assert!(rt; text.as_slice() == LAST_LAYER);
+    expect(&rt, text.as_slice() == LAST_LAYER, "the last layer");
 }
 
 /// A run of infill, and two support runs behind it.
@@ -144,7 +149,15 @@ const SUPPORTED_LAYER: &[u8] = b"; layer 0\n\
 #[test]
 fn supports_stand_behind_their_layer(rt: HostRuntime) {
     let (text, volume) = supported_layer(rt.alloc(), &INFILL, &SUPPORTS).expect(&rt, "memory");
-    assert!(rt; text.as_slice() == SUPPORTED_LAYER && volume == 773_640_000);
+    expect(
+        &rt,
+        text.as_slice() == SUPPORTED_LAYER && volume == 773_640_000,
+        "a layer with its supports",
+    );
     let (bare, _) = supported_layer(rt.alloc(), &INFILL, &[]).expect(&rt, "memory");
-    assert!(rt; bare.as_slice() == &SUPPORTED_LAYER[..81]);
+    expect(
+        &rt,
+        bare.as_slice() == &SUPPORTED_LAYER[..81],
+        "the layer without supports",
+    );
 }

@@ -13,7 +13,7 @@ use std::alloc::{AllocError, Global};
 use std::process::Abort;
 use std::thread::Threads;
 
-#[derive(Clone, Copy, Debug, PartialEq, Eq)]
+#[derive(Clone, Copy, PartialEq, Eq)]
 struct Numbers {
     rows: i64,
     covers: i64,
@@ -152,9 +152,8 @@ const EXPECTED: Numbers = Numbers {
 #[test]
 fn random_stacks_have_these_supports(rt: HostRuntime) {
     for &workers in &[1, 2, 3] {
-        assert_eq!(rt;
-            stacks(&rt, rt.alloc(), workers),
-            EXPECTED,
+        assert!(rt;
+            stacks(&rt, rt.alloc(), workers) == EXPECTED,
             "{workers} workers"
         );
     }

@@ -1,5 +1,6 @@
 //! Random outlines, whose walls an independent program has found too.
 
+use crate::cases::expect;
 use plan_walls::walls;
 use sample_dice::{Dice, roll_outlines};
 use scad_geom::Loop;
@@ -43,5 +44,5 @@ fn number_of_seeds(alloc: Global, seeds: u64) -> Result<i64, BoolFault> {
 #[test]
 fn random_outlines_have_these_walls(rt: HostRuntime) {
     let number = number_of_seeds(rt.alloc(), 40).expect(&rt, "memory");
-    assert_eq!(rt; number, 967_136_488);
+    expect(&rt, number == 967_136_488, "the number of all walls");
 }

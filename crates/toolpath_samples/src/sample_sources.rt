@@ -1,6 +1,7 @@
 //! A whole sample, and the radii of others. The expected texts are those of a program that was written apart from this
 //! one.
 
+use crate::cases::expect;
 use scad_sample::sample_source;
 use std::alloc::{AllocError, Global};
 use std::str;
@@ -47,7 +48,7 @@ const SEVEN: &[u8] = b"difference(){cube([100,100,2]);\n\
 #[test]
 fn sample_of_seven(rt: HostRuntime) {
     let text = sample_source(rt.alloc(), 7).expect(&rt, "memory for a text");
-    assert!(rt; text.as_slice() == SEVEN);
+    expect(&rt, text.as_slice() == SEVEN, "the sample of 7");
 }
 
 // The radii of a sample's holes, each after a blank.

@@ -1,4 +1,5 @@
 //! Rows of outlines, with the values of an independent program.
+use crate::cases::expect;
 use crate::rectangles::outlines;
 use crate::row_numbers::with_rows;
 use plan_infill::Run;
@@ -34,7 +35,11 @@ fn are_those_of_the_rectangle(rows: &Rows) -> bool {
 fn rows_have_their_left_and_lower_borders(rt: HostRuntime) {
     let outlines = outlines(rt.alloc(), LOW, HIGH).expect(&rt, "memory");
     let rows = spans(rt.alloc(), &outlines, 500).expect(&rt, "memory");
-    assert!(rt; are_those_of_the_rectangle(&rows));
+    expect(
+        &rt,
+        are_those_of_the_rectangle(&rows),
+        "the rows of a rectangle",
+    );
 }
 
 fn with_seed(alloc: Global, before: i64, seed: u64) -> Result<i64, AllocError> {
@@ -50,5 +55,5 @@ fn random_outlines_have_these_rows(rt: HostRuntime) {
     'seeds: for seed in 0..100 {
         number = with_seed(rt.alloc(), number, seed).expect(&rt, "memory");
     }
-    assert_eq!(rt; number, 317_276_628);
+    expect(&rt, number == 317_276_628, "the number of all rows");
 }

@@ -4,6 +4,7 @@ ghost use Rattle.std.specs.Prelude.{◌≤◌, IfOk, All};
 ghost use Rattle.scad_geom.specs.Limits.{point_limit};
 ghost use Rattle.scad_geom.specs.Within.{IsWithin};
 
+use crate::cases::expect;
 use crate::points::are_at;
 use plan_walls::walls;
 use scad_geom::{Loop, Pt};
@@ -99,8 +100,24 @@ const FRAME_WALLS: [&[(i32, i32)]; 2] = [
 #[test]
 fn walls_go_along_squares_and_round_holes(rt: HostRuntime) {
     let alloc = rt.alloc();
-    assert!(rt; have_walls(alloc, &SQUARE, 225, &[FIRST_WALL]));
-    assert!(rt; have_walls(alloc, &SQUARE, 675, &[SECOND_WALL]));
-    assert!(rt; have_walls(alloc, &SQUARE, 1500, &[]));
-    assert!(rt; have_walls(alloc, &FRAME, 225, &FRAME_WALLS));
+    expect(
+        &rt,
+        have_walls(alloc, &SQUARE, 225, &[FIRST_WALL]),
+        "the first wall of a square",
+    );
+    expect(
+        &rt,
+        have_walls(alloc, &SQUARE, 675, &[SECOND_WALL]),
+        "the second wall of a square",
+    );
+    expect(
+        &rt,
+        have_walls(alloc, &SQUARE, 1500, &[]),
+        "no wall in the middle of a square",
+    );
+    expect(
+        &rt,
+        have_walls(alloc, &FRAME, 225, &FRAME_WALLS),
+        "the walls of a square with a hole",
+    );
 }

@@ -1,5 +1,6 @@
 //! Command lines and settings texts with the answers that the rules give.
 
+use crate::cases::expect;
 use scad_fault::SetKind;
 use scad_words::{Command, Job, SetError, WordFault, read_settings, read_words};
 use std::alloc::{AllocError, Global};
@@ -118,7 +119,7 @@ const JOBS: [(&str, &str); 35] = [
 #[test]
 fn words_of_the_form_give_a_job(rt: HostRuntime) {
     for &(line, wanted) in &JOBS {
-        assert!(rt; is_answered(rt.alloc(), line, wanted), "{line}");
+        expect(&rt, is_answered(rt.alloc(), line, wanted), line);
     }
 }
 
@@ -205,7 +206,7 @@ const OTHERS: [&str; 77] = [
 #[test]
 fn other_words_are_a_usage_fault(rt: HostRuntime) {
     for line in &OTHERS {
-        assert!(rt; is_answered(rt.alloc(), line, "usage"), "{line}");
+        expect(&rt, is_answered(rt.alloc(), line, "usage"), line);
     }
 }
 
@@ -249,7 +250,7 @@ fn a_text_gives_the_keys_that_it_has(rt: HostRuntime) {
         ),
     ] {
         let wanted = [walls, layer_height, spacing, gap, 2_405_282];
-        assert!(rt; given(rt.alloc(), text) == Some(wanted), "{text}");
+        expect(&rt, given(rt.alloc(), text) == Some(wanted), text);
     }
 }
 
@@ -309,7 +310,11 @@ fn the_first_fault_of_a_text_is_told(rt: HostRuntime) {
             100_001,
         ),
     ] {
-        assert!(rt; is_refused(rt.alloc(), text, kind, key, value), "{text}");
+        expect(&rt, is_refused(rt.alloc(), text, kind, key, value), text);
     }
-    assert!(rt; read_settings(rt.alloc(), &[0xff]).is_err());
+    expect(
+        &rt,
+        read_settings(rt.alloc(), &[0xff]).is_err(),
+        "a byte that is no text",
+    );
 }
