@@ -3,6 +3,7 @@ ghost use Rattle.std.specs.Prelude.{OnOk, IfOk, All};
 ghost use Rattle.scad_geom.specs.Limits.{coordinate_limit};
 ghost use Rattle.scad_geom.specs.Within.{IsWithin, IsEdgeWithin};
 
+use crate::cases::expect;
 use scad_geom::{Edge, LeafEdge, Pt};
 use slice_events::{EventFault, levels};
 use std::alloc::{AllocError, Global};
@@ -49,9 +50,17 @@ fn push_pair(edges: &mut Vec<LeafEdge>) -> Result<(), AllocError>
 fn two_million_crossings_are_taken_and_one_more_is_refused(rt: HostRuntime) {
     let mut edges = across(rt.alloc()).expect(&rt, "memory");
     assert!(rt; edges.len() == 3000);
-    assert!(rt; matches!(levels(rt.alloc(), &edges), Ok(taken) if taken.len() == 3));
+    expect(
+        &rt,
+        matches!(levels(rt.alloc(), &edges), Ok(taken) if taken.len() == 3),
+        "2,000,000 crossings are taken",
+    );
     push_pair(&mut edges).expect(&rt, "memory");
     assert!(rt; edges.len() == 3002);
     let refused = levels(rt.alloc(), &edges);
-    assert!(rt; matches!(refused, Err(EventFault::Crossings(2_000_001))));
+    expect(
+        &rt,
+        matches!(refused, Err(EventFault::Crossings(2_000_001))),
+        "one more is refused",
+    );
 }

@@ -1,5 +1,6 @@
 //! Outlines of small trees, worked out by another program.
 
+use crate::cases::expect;
 use scad_geom::{Loop, Pt3};
 use scad_solid::{Face, Triangles};
 use scad_tree::{Tree, subtract, unite};
@@ -171,9 +172,21 @@ const PARTED: [&[(i32, i32)]; 2] = [
 #[test]
 fn a_hole_comes_to_the_border_and_parts_it(rt: HostRuntime) {
     let hollow = hollow(rt.alloc()).expect(&rt, "a tree");
-    assert!(rt; has_outlines(rt.alloc(), &hollow, 0, &APART));
-    assert!(rt; has_outlines(rt.alloc(), &hollow, 1, &OPEN));
-    assert!(rt; has_outlines(rt.alloc(), &hollow, 2, &PARTED));
+    expect(
+        &rt,
+        has_outlines(rt.alloc(), &hollow, 0, &APART),
+        "a hole apart from the border",
+    );
+    expect(
+        &rt,
+        has_outlines(rt.alloc(), &hollow, 1, &OPEN),
+        "a hole at the border",
+    );
+    expect(
+        &rt,
+        has_outlines(rt.alloc(), &hollow, 2, &PARTED),
+        "a border in two parts",
+    );
 }
 
 fn block_and_corner(alloc: Global) -> Option<Tree> {
@@ -199,15 +212,31 @@ const TOP: [&[(i32, i32)]; 1] = [&[(0, 0), (99, 0), (0, 99)]];
 #[test]
 fn a_union_has_no_inner_edges(rt: HostRuntime) {
     let union = block_and_corner(rt.alloc()).expect(&rt, "a tree");
-    assert!(rt; has_outlines(rt.alloc(), &union, 0, &UNITED));
-    assert!(rt; has_outlines(rt.alloc(), &union, 4, &TOP));
+    expect(
+        &rt,
+        has_outlines(rt.alloc(), &union, 0, &UNITED),
+        "one outline of both",
+    );
+    expect(
+        &rt,
+        has_outlines(rt.alloc(), &union, 4, &TOP),
+        "the corner above the block",
+    );
 }
 
 #[test]
 fn there_is_nothing_above_the_top(rt: HostRuntime) {
     let plate = plate(rt.alloc()).expect(&rt, "a tree");
-    assert!(rt; has_outlines(rt.alloc(), &plate, 5, &[]));
-    assert!(rt; has_outlines(rt.alloc(), &Tree::empty(), 0, &[]));
+    expect(
+        &rt,
+        has_outlines(rt.alloc(), &plate, 5, &[]),
+        "above the plate",
+    );
+    expect(
+        &rt,
+        has_outlines(rt.alloc(), &Tree::empty(), 0, &[]),
+        "the empty tree",
+    );
 }
 
 // The plate has 16 edges at each layer, two for each of its upright faces.
@@ -215,7 +244,15 @@ fn there_is_nothing_above_the_top(rt: HostRuntime) {
 fn edges_past_the_limit_are_refused(rt: HostRuntime) {
     let plate = plate(rt.alloc()).expect(&rt, "a tree");
     let taken = layer_outlines(rt.alloc(), &plate, 0, 200, 16);
-    assert!(rt; matches!(&taken, Ok(outlines) if outlines.len() == 2));
+    expect(
+        &rt,
+        matches!(&taken, Ok(outlines) if outlines.len() == 2),
+        "as many edges as the limit",
+    );
     let refused = layer_outlines(rt.alloc(), &plate, 0, 200, 15);
-    assert!(rt; matches!(&refused, Err(BoolFault::Edges(16))));
+    expect(
+        &rt,
+        matches!(&refused, Err(BoolFault::Edges(16))),
+        "one edge past the limit",
+    );
 }

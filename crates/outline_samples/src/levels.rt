@@ -3,6 +3,7 @@ ghost use Rattle.std.specs.Prelude.{◌<◌, ◌≤◌, OnOk, IfOk, All};
 ghost use Rattle.scad_geom.specs.Limits.{coordinate_limit};
 ghost use Rattle.scad_geom.specs.Within.{IsWithin, IsEdgeWithin};
 
+use crate::cases::expect;
 use crate::crossings::push_copies;
 use scad_geom::{Edge, LeafEdge, Level, Pt, cmp_level};
 use slice_events::{levels, levels_counted};
@@ -45,10 +46,26 @@ const EDGES: [LeafEdge; 4] = [
 fn a_crossing_between_whole_heights_is_a_level(rt: HostRuntime) {
     let found = levels(rt.alloc(), &EDGES).expect(&rt, "levels");
     assert!(rt; found.len() == 4);
-    assert!(rt; cmp_level(&found[0], &Level { n: 0, d: 1 }) == Ordering::Equal);
-    assert!(rt; cmp_level(&found[1], &Level { n: 2001, d: 2 }) == Ordering::Equal);
-    assert!(rt; cmp_level(&found[2], &Level { n: 2000, d: 1 }) == Ordering::Equal);
-    assert!(rt; cmp_level(&found[3], &Level { n: 2001, d: 1 }) == Ordering::Equal);
+    expect(
+        &rt,
+        cmp_level(&found[0], &Level { n: 0, d: 1 }) == Ordering::Equal,
+        "the flat edge",
+    );
+    expect(
+        &rt,
+        cmp_level(&found[1], &Level { n: 2001, d: 2 }) == Ordering::Equal,
+        "the crossing",
+    );
+    expect(
+        &rt,
+        cmp_level(&found[2], &Level { n: 2000, d: 1 }) == Ordering::Equal,
+        "the upper end of the doubled edge",
+    );
+    expect(
+        &rt,
+        cmp_level(&found[3], &Level { n: 2001, d: 1 }) == Ordering::Equal,
+        "the upper end of the other",
+    );
 }
 
 // So many to the right on this square, and so many above its lower side: the squares stand 500 apart.
@@ -94,5 +111,9 @@ fn edges_of_squares_apart_are_hardly_compared(rt: HostRuntime) {
     assert!(rt; edges.len() == 8000);
     let mut tests = 0;
     let found = levels_counted(rt.alloc(), &edges, &mut tests).expect(&rt, "levels");
-    assert!(rt; found.len() == 4000 && tests <= 1_000_000);
+    expect(
+        &rt,
+        found.len() == 4000 && tests <= 1_000_000,
+        "4,000 heights by few comparisons",
+    );
 }

@@ -3,6 +3,7 @@ ghost use Rattle.std.specs.Prelude.{◌≡◌, [], ◌∷◌, ◌++◌, OnOk, If
 ghost use Rattle.scad_geom.specs.Segment.{segments};
 ghost use Rattle.scad_geom.specs.Balance.{IsBalanced};
 
+use crate::cases::expect;
 use scad_geom::{Edge, Loop, Pt};
 use slice_loops::join;
 use std::alloc::{AllocError, Global};
@@ -159,7 +160,7 @@ fn coordinates_have_any_size(rt: HostRuntime) {
         },
         _ => false,
     };
-    assert!(rt; is_same);
+    expect(&rt, is_same, "an outline of coordinates of any size");
 }
 
 // Random outlines, and what the other program made of their sides.
@@ -240,7 +241,7 @@ fn is_joined(alloc: Global, text: &str, wanted: &str) -> bool {
 fn outlines_are_joined_from_sides(rt: HostRuntime) {
     for rows in &TABLES {
         for (text, wanted) in *rows {
-            assert!(rt; is_joined(rt.alloc(), text, wanted), "{text}");
+            expect(&rt, is_joined(rt.alloc(), text, wanted), text);
         }
     }
 }

@@ -4,6 +4,7 @@ ghost use Rattle.scad_geom.specs.Limits.{coordinate_limit};
 ghost use Rattle.slice_snap.specs.Spots.{IsSpotWithin};
 ghost use Rattle.slice_snap.specs.Pieces.{IsPieceWithin, HaveOneLevel};
 
+use crate::cases::expect;
 use scad_geom::{Edge, Level, Pt};
 use slice_snap::{Piece, Spot, cancel, merge, round};
 use std::alloc::{AllocError, Global};
@@ -114,7 +115,7 @@ fn is_merged(alloc: Global, text: &str, wanted: &str) -> bool {
 #[test]
 fn pieces_of_one_name_are_merged(rt: HostRuntime) {
     for &(text, wanted) in &MERGED {
-        assert!(rt; is_merged(rt.alloc(), text, wanted), "{text}");
+        expect(&rt, is_merged(rt.alloc(), text, wanted), text);
     }
 }
 
@@ -153,7 +154,11 @@ fn ends_are_rounded_halves_down(rt: HostRuntime) {
         a: Pt { x: 1, y: 0 },
         b: Pt { x: 2, y: 3 },
     }];
-    assert!(rt; edges.as_slice() == expected.as_slice());
+    expect(
+        &rt,
+        edges.as_slice() == expected.as_slice(),
+        "one rounded edge",
+    );
 }
 
 const fn edge(ends: [i32; 4]) -> Edge {
@@ -174,11 +179,23 @@ fn leaves(alloc: Global, edges: &[Edge], wanted: &[Edge]) -> bool {
 #[test]
 fn opposite_edges_cancel_one_for_one(rt: HostRuntime) {
     let (there, back, aside) = (edge([0, 0, 3, 1]), edge([3, 1, 0, 0]), edge([0, 3, 1, 0]));
-    assert!(rt; leaves(rt.alloc(), &[there, back], &[]));
+    expect(
+        &rt,
+        leaves(rt.alloc(), &[there, back], &[]),
+        "an edge there and back",
+    );
     // Equal edges stay, and of three in one direction against one two are left.
     let many = [there, aside, there, back, there, aside];
-    assert!(rt; leaves(rt.alloc(), &many, &[there, there, aside, aside]));
+    expect(
+        &rt,
+        leaves(rt.alloc(), &many, &[there, there, aside, aside]),
+        "two of three are left",
+    );
     // An edge of no length is its own opposite.
     let point = edge([2, 2, 2, 2]);
-    assert!(rt; leaves(rt.alloc(), &[point, point, point], &[point]));
+    expect(
+        &rt,
+        leaves(rt.alloc(), &[point, point, point], &[point]),
+        "edges of no length",
+    );
 }

@@ -12,7 +12,8 @@ use scad_geom::{Edge, LeafEdge, Level, Pt};
 use slice_events::levels;
 use slice_slab::{Bundle, slab};
 use slice_sweep::Front;
-use std::alloc::{AllocError, Global};
+use std::alloc::{AllocError, AllocGlobal, Global};
+use std::process::Abort;
 
 // The points of a grid: so many a side, near to one another or far apart.
 #[derive(Clone, Copy)]
@@ -136,19 +137,23 @@ fn is_seed_like_slabs(alloc: Global, seed: u64, least: u32, more: u32) -> Option
     are_like_slabs(alloc, &edges, &heights).ok()
 }
 
+fn compare(rt: &(impl Abort + AllocGlobal), seed: u64, least: u32, more: u32)
+    requires some { 0 < more }
+    requires few { least + more ≤ 1000 }
+{
+    assert!(rt;
+        is_seed_like_slabs(rt.alloc(), seed, least, more) == Some(true),
+        "seed {seed}"
+    );
+}
+
 #[test]
 fn bundles_are_those_made_from_all_edges(rt: HostRuntime) {
     for seed in 1..1501u64 {
-        assert!(rt;
-            is_seed_like_slabs(rt.alloc(), seed, 2, 14) == Some(true),
-            "seed {seed}"
-        );
+        compare(&rt, seed, 2, 14);
     }
     // fronts of up to 178, 178, 200 and 194 bundles
     for &seed in &[1506, 1514, 1530, 1538] {
-        assert!(rt;
-            is_seed_like_slabs(rt.alloc(), seed, 400, 100) == Some(true),
-            "seed {seed}"
-        );
+        compare(&rt, seed, 400, 100);
     }
 }

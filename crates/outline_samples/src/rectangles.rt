@@ -3,6 +3,7 @@ ghost use Rattle.std.specs.Prelude.{OnOk, IfOk, All};
 ghost use Rattle.scad_geom.specs.Limits.{coordinate_limit};
 ghost use Rattle.scad_geom.specs.Within.{IsWithin, IsEdgeWithin};
 
+use crate::cases::expect;
 use scad_geom::{Edge, LeafEdge, Pt, Shape};
 use slice_bool::{BoolFault, pieces};
 use slice_snap::{Piece, Spot};
@@ -247,7 +248,7 @@ fn has_border(alloc: Global, case: &Case) -> bool {
 #[test]
 fn borders_of_two_rectangles(rt: HostRuntime) {
     for case in &CASES {
-        assert!(rt; has_border(rt.alloc(), case), "{}", case.name);
+        expect(&rt, has_border(rt.alloc(), case), case.name);
     }
 }
 
@@ -255,5 +256,9 @@ fn borders_of_two_rectangles(rt: HostRuntime) {
 fn more_edges_than_the_limit_are_refused(rt: HostRuntime) {
     let edges = two_leaves(rt.alloc(), [0, 0, 2, 2], [1, 1, 3, 3]).expect(&rt, "edges");
     let refused = pieces(rt.alloc(), &edges, &Shape::Leaf(0), 7);
-    assert!(rt; matches!(&refused, Err(BoolFault::Edges(8))));
+    expect(
+        &rt,
+        matches!(&refused, Err(BoolFault::Edges(8))),
+        "eight edges are refused",
+    );
 }

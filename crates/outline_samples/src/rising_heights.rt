@@ -7,6 +7,7 @@ ghost use Rattle.slice_events.specs.Levels.{AreLevels};
 ghost use Rattle.slice_slab.specs.Active.{IsReadyFor, StandsAt};
 ghost use Rattle.slice_bool.specs.Parts.{level_at};
 
+use crate::cases::expect;
 use crate::random_borders::roll_edges;
 use sample_dice::Dice;
 use scad_geom::{Edge, LeafEdge, Level, Pt};
@@ -81,19 +82,31 @@ fn is_live(alloc: Global, first: &Level, at: &Level, wanted: &[u32]) -> bool
 #[test]
 fn an_edge_is_live_from_its_lower_end_on(rt: HostRuntime) {
     let (below, lowest) = (Level { n: -1, d: 2 }, Level { n: 0, d: 1 });
-    assert!(rt; is_live(rt.alloc(), &below, &lowest, &[1, 3]));
+    expect(
+        &rt,
+        is_live(rt.alloc(), &below, &lowest, &[1, 3]),
+        "the edges that start at the lowest height",
+    );
 }
 
 #[test]
 fn edges_that_meet_at_a_height_are_live_there(rt: HostRuntime) {
     let (lowest, middle) = (Level { n: 0, d: 1 }, Level { n: 8, d: 2 });
-    assert!(rt; is_live(rt.alloc(), &lowest, &middle, &[0, 1, 2, 3]));
+    expect(
+        &rt,
+        is_live(rt.alloc(), &lowest, &middle, &[0, 1, 2, 3]),
+        "all edges at the middle height",
+    );
 }
 
 #[test]
 fn an_edge_is_live_up_to_its_upper_end(rt: HostRuntime) {
     let (middle, above) = (Level { n: 8, d: 2 }, Level { n: 9, d: 2 });
-    assert!(rt; is_live(rt.alloc(), &middle, &above, &[0, 3]));
+    expect(
+        &rt,
+        is_live(rt.alloc(), &middle, &above, &[0, 3]),
+        "the edges above the middle height",
+    );
 }
 
 // Whether two lists have the same bundles in the same order.

@@ -1,5 +1,6 @@
 //! The order of edges between two heights.
 
+use crate::cases::expect;
 use scad_geom::{Edge, LeafEdge, Level, Pt};
 use slice_slab::{Bundle, slab};
 
@@ -72,12 +73,20 @@ fn bundles_go_by_x_and_then_by_slope(rt: HostRuntime) {
         &Level { n: 2, d: 1 },
     )
     .expect(&rt, "bundles");
-    assert!(rt; are_bundles(&bundles, &BUNDLES));
+    expect(&rt, are_bundles(&bundles, &BUNDLES), "the bundles in order");
 }
 
 #[test]
 fn bundles_lend_their_numbers(rt: HostRuntime) {
     let numbers = Vec::from_slice(rt.alloc(), &[1, 3]).expect(&rt, "memory");
-    assert!(rt; Bundle::from_vec(numbers).as_slice() == [1, 3].as_slice());
-    assert!(rt; Bundle::of_one(7).as_slice() == [7].as_slice());
+    expect(
+        &rt,
+        Bundle::from_vec(numbers).as_slice() == [1, 3].as_slice(),
+        "two numbers",
+    );
+    expect(
+        &rt,
+        Bundle::of_one(7).as_slice() == [7].as_slice(),
+        "one number",
+    );
 }

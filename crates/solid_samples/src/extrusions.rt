@@ -1,5 +1,6 @@
 //! Prisms over outlines, and outlines turned round an axis.
 
+use crate::cases::expect;
 use crate::corners::have_corners;
 use scad_extrude::{FlatForm, circle_ring, linear, square_ring, triangles_of, turned};
 use scad_matrix::{Matrix, translate};
@@ -45,11 +46,19 @@ const SQUARE: [[i64; 2]; 4] = [
 #[test]
 fn makes_the_outlines_of_flat_shapes(rt: HostRuntime) {
     let circle = circle_ring(rt.alloc(), number(2_000_000), 5).expect(&rt, "a circle");
-    assert!(rt; is_outline(circle.as_slice(), &CIRCLE));
+    expect(
+        &rt,
+        is_outline(circle.as_slice(), &CIRCLE),
+        "a circle of five sides",
+    );
     let square = square_ring(rt.alloc(), number(3_000_000), number(5_000_001), true).expect(
         &rt, "a square",
     );
-    assert!(rt; is_outline(square.as_slice(), &SQUARE));
+    expect(
+        &rt,
+        is_outline(square.as_slice(), &SQUARE),
+        "a square in the middle",
+    );
 }
 
 const PRISM: [[i32; 3]; 6] = [
@@ -83,10 +92,22 @@ fn stands_a_prism_on_both_sides_of_the_plane(rt: HostRuntime) {
     let solid = linear(rt.alloc(), &ring, height, true, &moved(1_000_000, 0)).expect(
         &rt, "a prism",
     );
-    assert!(rt; have_corners(solid.as_slice(), &PRISM, &PRISM_FACES));
-    assert!(rt; triangles_of(&FlatForm::Linear(3)) == 8);
+    expect(
+        &rt,
+        have_corners(solid.as_slice(), &PRISM, &PRISM_FACES),
+        "the corners of a prism",
+    );
+    expect(
+        &rt,
+        triangles_of(&FlatForm::Linear(3)) == 8,
+        "the triangles of a prism",
+    );
     let far = linear(rt.alloc(), &ring, height, false, &moved(998_000_500, 0));
-    assert!(rt; matches!(far, Err(ShapeFault::CoordinateRange)));
+    expect(
+        &rt,
+        matches!(far, Err(ShapeFault::CoordinateRange)),
+        "a prism out of range",
+    );
 }
 
 const TURNED: [[i32; 3]; 9] = [
@@ -130,8 +151,20 @@ fn turns_a_triangle(rt: HostRuntime) {
         (number(1_000_000), number(1_000_000)),
     ];
     let solid = turned(rt.alloc(), &ring, 3, &moved(0, 1_000_000)).expect(&rt, "a turned triangle");
-    assert!(rt; have_corners(solid.as_slice(), &TURNED, &TURNED_FACES));
-    assert!(rt; triangles_of(&FlatForm::Turned(3, 3)) == 18);
+    expect(
+        &rt,
+        have_corners(solid.as_slice(), &TURNED, &TURNED_FACES),
+        "the corners of a turned triangle",
+    );
+    expect(
+        &rt,
+        triangles_of(&FlatForm::Turned(3, 3)) == 18,
+        "the triangles of a turned triangle",
+    );
     let far = turned(rt.alloc(), &ring, 3, &moved(998_000_500, 0));
-    assert!(rt; matches!(far, Err(ShapeFault::CoordinateRange)));
+    expect(
+        &rt,
+        matches!(far, Err(ShapeFault::CoordinateRange)),
+        "a turned triangle out of range",
+    );
 }

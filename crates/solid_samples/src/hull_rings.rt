@@ -1,5 +1,6 @@
 //! Rings round points of the plane.
 
+use crate::cases::expect;
 use sample_dice::Dice;
 use scad_hull::{HullFault, Ring2, ring_hull};
 use scad_num::Num;
@@ -43,7 +44,7 @@ fn rolled_points_have_the_rings_of_the_definition(rt: HostRuntime) {
             Err(_) => sum = 0,
         }
     }
-    assert_eq!(rt; sum, SUM);
+    expect(&rt, sum == SUM, "the sum of all rings");
 }
 
 /// What another program makes of the same sets, 82 of which have no ring.
@@ -66,7 +67,11 @@ fn corners_at_the_limit_are_exact(rt: HostRuntime) {
         .expect(&rt, "a hull")
         .expect(&rt, "a ring");
     let wanted = [(low, low), (high, high), (inner, high), (low, inner)];
-    assert!(rt; ring.as_slice() == wanted.as_slice());
+    expect(
+        &rt,
+        ring.as_slice() == wanted.as_slice(),
+        "the outer points",
+    );
 }
 
 /// So many points of a grid of 1,000 columns, and the first of them once more.
@@ -87,10 +92,16 @@ fn more_than_20000_distinct_points_are_refused(rt: HostRuntime) {
         .expect(&rt, "a hull")
         .expect(&rt, "a ring");
     let wanted = [pair(0, 0), pair(999, 0), pair(999, 19), pair(0, 19)];
-    assert!(rt; ring.as_slice() == wanted.as_slice());
+    expect(
+        &rt,
+        ring.as_slice() == wanted.as_slice(),
+        "20,000 points are taken",
+    );
     let more = grid(rt.alloc(), 20_001).expect(&rt, "points");
-    match ring_hull(rt.alloc(), more.as_slice()) {
-        Err(HullFault::Points(count)) => assert_eq!(rt; count, 20_001),
-        _ => assert!(rt; false, "a refusal"),
-    }
+    let refused = ring_hull(rt.alloc(), more.as_slice());
+    expect(
+        &rt,
+        matches!(&refused, Err(HullFault::Points(20_001))),
+        "20,001 points are refused",
+    );
 }

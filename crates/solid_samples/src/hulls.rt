@@ -3,6 +3,7 @@ ghost use Rattle.std.specs.Prelude.{◌≡◌};
 ghost use Rattle.std.specs.List.{list_all};
 ghost use Rattle.scad_geom.specs.PointRange.{is_in_range};
 
+use crate::cases::expect;
 use sample_dice::Dice;
 use scad_geom::{Pt3, is_in_range};
 use scad_hull::{HullFault, hull};
@@ -71,7 +72,7 @@ fn rolled_points_have_the_hulls_of_the_definition(rt: HostRuntime) {
             Err(_) => sum = 0,
         }
     }
-    assert_eq!(rt; sum, SUM);
+    expect(&rt, sum == SUM, "the sum of all hulls");
 }
 
 /// What another program makes of the same sets, 96 of which lie in one plane.
@@ -98,8 +99,12 @@ fn two_cubes_apart_lie_in_one_box(rt: HostRuntime) {
     let solid = hull_of(rt.alloc(), points.as_slice())
         .expect(&rt, "a hull")
         .expect(&rt, "a solid");
-    assert_eq!(rt; solid.count(), 12);
-    assert_eq!(rt; with_solid(0, &solid), BOX_SUM);
+    expect(&rt, solid.count() == 12, "the triangles of a box");
+    expect(
+        &rt,
+        with_solid(0, &solid) == BOX_SUM,
+        "the faces of the box",
+    );
 }
 
 /// What another program makes of the six faces of the box.
@@ -110,7 +115,7 @@ fn a_square_has_no_hull_in_space(rt: HostRuntime) {
     let mut points = Vec::new(rt.alloc());
     push_box(&mut points, at(0, 0, 0), at(1000, 1000, 0)).expect(&rt, "room");
     let solid = hull_of(rt.alloc(), points.as_slice()).expect(&rt, "a hull");
-    assert!(rt; solid.is_none());
+    expect(&rt, solid.is_none(), "no solid of a square");
 }
 
 /// A pyramid of the greatest size, with a point just below its top and one just above the middle of its base.
@@ -129,8 +134,12 @@ fn corners_at_the_limit_are_exact(rt: HostRuntime) {
     let solid = hull_of(rt.alloc(), &points)
         .expect(&rt, "a hull")
         .expect(&rt, "a solid");
-    assert_eq!(rt; solid.count(), 6);
-    assert_eq!(rt; with_solid(0, &solid), PYRAMID_SUM);
+    expect(&rt, solid.count() == 6, "the triangles of a pyramid");
+    expect(
+        &rt,
+        with_solid(0, &solid) == PYRAMID_SUM,
+        "the faces of the pyramid",
+    );
 }
 
 /// What another program makes of the five faces of the pyramid.
@@ -152,10 +161,12 @@ fn more_than_20000_distinct_points_are_refused(rt: HostRuntime) {
     let solid = hull_of(rt.alloc(), some.as_slice())
         .expect(&rt, "a hull")
         .expect(&rt, "a solid");
-    assert_eq!(rt; solid.count(), 12);
+    expect(&rt, solid.count() == 12, "20,000 points are taken");
     let more = grid(rt.alloc(), 20_001).expect(&rt, "points");
-    match hull_of(rt.alloc(), more.as_slice()) {
-        Err(HullFault::Points(count)) => assert_eq!(rt; count, 20_001),
-        _ => assert!(rt; false, "a refusal"),
-    }
+    let refused = hull_of(rt.alloc(), more.as_slice());
+    expect(
+        &rt,
+        matches!(&refused, Err(HullFault::Points(20_001))),
+        "20,001 points are refused",
+    );
 }

@@ -1,5 +1,6 @@
 //! The matrices of transformations, composed and applied to points.
 
+use crate::cases::expect;
 use scad_geom::Pt3;
 use scad_matrix::{Axis, Matrix, MatrixFault, Row, mirror, of_rows, scale, translate, turn};
 use scad_num::Num;
@@ -32,13 +33,29 @@ fn numbers(row: Row) -> [i64; 4] {
 fn makes_the_matrices_of_shifts_scales_and_turns(rt: HostRuntime) {
     let (one, two, three) = (number(1_000_000), number(2_000_000), number(3_000_000));
     let shift = entries(&translate(one, two, three));
-    assert!(rt; shift == [M, 0, 0, M, 0, M, 0, 2_000_000, 0, 0, M, 3_000_000]);
+    expect(
+        &rt,
+        shift == [M, 0, 0, M, 0, M, 0, 2_000_000, 0, 0, M, 3_000_000],
+        "a shift",
+    );
     let wide = entries(&scale(one, two, three));
-    assert!(rt; wide == [M, 0, 0, 0, 0, 2_000_000, 0, 0, 0, 0, 3_000_000, 0]);
+    expect(
+        &rt,
+        wide == [M, 0, 0, 0, 0, 2_000_000, 0, 0, 0, 0, 3_000_000, 0],
+        "a scale",
+    );
     let about_x = entries(&turn(Axis::X, 30500));
-    assert!(rt; about_x == [M, 0, 0, 0, 0, 861596, -507519, 0, 0, 507519, 861596, 0]);
+    expect(
+        &rt,
+        about_x == [M, 0, 0, 0, 0, 861596, -507519, 0, 0, 507519, 861596, 0],
+        "a turn about x",
+    );
     let about_y = entries(&turn(Axis::Y, -90000));
-    assert!(rt; about_y == [0, 0, -M, 0, 0, M, 0, 0, M, 0, 0, 0]);
+    expect(
+        &rt,
+        about_y == [0, 0, -M, 0, 0, M, 0, 0, M, 0, 0, 0],
+        "a turn about y",
+    );
 }
 
 const SLANTED_MIRROR: [i64; 12] = [
@@ -54,17 +71,29 @@ fn makes_the_matrices_of_mirrors_and_rows(rt: HostRuntime) {
         number(3_000_000),
     );
     let across = entries(&mirror(one, one, zero));
-    assert!(rt; across == [0, -M, 0, 0, -M, 0, 0, 0, 0, 0, M, 0]);
-    assert!(rt; entries(&mirror(one, two, three)) == SLANTED_MIRROR);
+    expect(
+        &rt,
+        across == [0, -M, 0, 0, -M, 0, 0, 0, 0, 0, M, 0],
+        "a mirror across x and y",
+    );
+    expect(
+        &rt,
+        entries(&mirror(one, two, three)) == SLANTED_MIRROR,
+        "a slanted mirror",
+    );
     let none = entries(&mirror(zero, zero, zero));
-    assert!(rt; none == [M, 0, 0, 0, 0, M, 0, 0, 0, 0, M, 0]);
+    expect(
+        &rt,
+        none == [M, 0, 0, 0, 0, M, 0, 0, 0, 0, M, 0],
+        "a mirror of no direction",
+    );
     let rows = entries(&of_rows(&[
         one, two, three, zero, two, three, zero, one, three, zero, one, two,
     ]));
     let wanted = [
         M, 2_000_000, 3_000_000, 0, 2_000_000, 3_000_000, 0, M, 3_000_000, 0, M, 2_000_000,
     ];
-    assert!(rt; rows == wanted);
+    expect(&rt, rows == wanted, "rows");
 }
 
 const TURNED_TWICE: [i64; 12] = [
@@ -76,10 +105,14 @@ fn composes_and_rounds_once(rt: HostRuntime) {
     let turned = turn(Axis::Z, 30000)
         .compose(&turn(Axis::X, 45000))
         .expect(&rt, "a matrix");
-    assert!(rt; entries(&turned) == TURNED_TWICE);
+    expect(&rt, entries(&turned) == TURNED_TWICE, "two turns");
     let large = Num::within(1_000_000_000_000_000);
     let wide = scale(large, large, large);
-    assert!(rt; matches!(wide.compose(&wide), Err(MatrixFault::Range)));
+    expect(
+        &rt,
+        matches!(wide.compose(&wide), Err(MatrixFault::Range)),
+        "a product out of range",
+    );
 }
 
 fn is_placed(m: &Matrix, x: i32, y: i32, z: i32, wanted: Pt3) -> bool {
@@ -108,12 +141,18 @@ fn places_the_corners_of_a_turned_cube(rt: HostRuntime) {
             y: want_y,
             z: 1000,
         };
-        assert!(rt; is_placed(&m, x, y, 0, low), "({x}, {y})");
-        assert!(rt; is_placed(&m, x, y, 1_000_000, high), "({x}, {y})");
+        assert!(rt;
+            is_placed(&m, x, y, 0, low) && is_placed(&m, x, y, 1_000_000, high),
+            "({x}, {y})"
+        );
     }
     let zero = number(0);
     let far = translate(number(1_000_001_000), zero, zero).place(zero, zero, zero);
-    assert!(rt; matches!(far, Err(MatrixFault::Range)));
+    expect(
+        &rt,
+        matches!(far, Err(MatrixFault::Range)),
+        "a point out of range",
+    );
 }
 
 const TILTED: [i64; 12] = [
@@ -127,14 +166,22 @@ fn places_profiles_inside_extrusions(rt: HostRuntime) {
         .compose(&translate(half, two, three))
         .expect(&rt, "a matrix");
     let tilted = turn(Axis::X, 30000).compose(&m).expect(&rt, "a matrix");
-    assert!(rt; entries(&tilted.flat()) == TILTED);
+    expect(
+        &rt,
+        entries(&tilted.flat()) == TILTED,
+        "a tilted matrix made flat",
+    );
     let (x, y) = tilted.profile(half, number(-3)).expect(&rt, "a point");
-    assert!(rt; x == number(-133974) && y == number(433009));
+    expect(
+        &rt,
+        x == number(-133974) && y == number(433009),
+        "a tilted profile",
+    );
     let large = Num::within(500_000_001_000_000);
-    assert!(rt;
-        matches!(
-            scale(two, two, two).profile(half, large),
-            Err(MatrixFault::Range)
-        )
+    let far = scale(two, two, two).profile(half, large);
+    expect(
+        &rt,
+        matches!(far, Err(MatrixFault::Range)),
+        "a profile out of range",
     );
 }

@@ -1,5 +1,6 @@
 //! The modules of the language by name, and what their arguments say.
 
+use crate::cases::expect;
 use scad_ast::{Arg, Expr, Node};
 use scad_fault::{Place, Text};
 use scad_matrix::{Axis, Matrix, translate, turn};
@@ -61,7 +62,7 @@ const NAMES: [(&str, Name); 8] = [
 #[test]
 fn names_have_meanings(rt: HostRuntime) {
     for &(name, meaning) in &NAMES {
-        assert!(rt; meaning_of(name.as_bytes()) == meaning, "{name}");
+        expect(&rt, meaning_of(name.as_bytes()) == meaning, name);
     }
 }
 
@@ -73,9 +74,21 @@ fn is_number(found: Option<&Value>, wanted: Num) -> bool {
 fn later_arguments_win_and_undef_is_none(rt: HostRuntime) {
     let args = args(rt.alloc(), ",size,").expect(&rt, "memory");
     let values = [value(1), value(2), Value::Undef];
-    assert!(rt; is_number(taken(Some(0), b"size", &args, &values), number(2)));
-    assert!(rt; taken(Some(1), b"center", &args, &values).is_none());
-    assert!(rt; taken(None, b"r", &args, &values).is_none());
+    expect(
+        &rt,
+        is_number(taken(Some(0), b"size", &args, &values), number(2)),
+        "the later argument",
+    );
+    expect(
+        &rt,
+        taken(Some(1), b"center", &args, &values).is_none(),
+        "undef at a place",
+    );
+    expect(
+        &rt,
+        taken(None, b"r", &args, &values).is_none(),
+        "a name that isn't there",
+    );
 }
 
 // What a transformation by one value is.
@@ -97,9 +110,21 @@ fn transformations_give_matrices(rt: HostRuntime) {
     let alloc = rt.alloc();
     let shift = pair(alloc).expect(&rt, "memory");
     let shifted = translate(number(1), number(2), number(0));
-    assert!(rt; matrix_by(alloc, Transform::Rotate, value(90)) == Ok(turn(Axis::Z, 90_000)));
-    assert!(rt; matrix_by(alloc, Transform::Translate, shift) == Ok(shifted));
-    assert!(rt; matrix_by(alloc, Transform::Mirror, value(1)) == Err(ArgumentFault::BadArgument));
+    expect(
+        &rt,
+        matrix_by(alloc, Transform::Rotate, value(90)) == Ok(turn(Axis::Z, 90_000)),
+        "a turn",
+    );
+    expect(
+        &rt,
+        matrix_by(alloc, Transform::Translate, shift) == Ok(shifted),
+        "a shift",
+    );
+    expect(
+        &rt,
+        matrix_by(alloc, Transform::Mirror, value(1)) == Err(ArgumentFault::BadArgument),
+        "no mirror",
+    );
 }
 
 fn fineness(sides: u8) -> Fineness {
@@ -125,7 +150,11 @@ fn has_twelve_triangles(rt: &impl Abort, alloc: Global, shape: Shape) -> bool {
 #[test]
 fn arguments_give_primitives_and_these_solids(rt: HostRuntime) {
     for &shape in &[Shape::Cube, Shape::Sphere, Shape::Cylinder] {
-        assert!(rt; has_twelve_triangles(&rt, rt.alloc(), shape));
+        expect(
+            &rt,
+            has_twelve_triangles(&rt, rt.alloc(), shape),
+            "twelve triangles",
+        );
     }
     let args = args(rt.alloc(), "").expect(&rt, "memory");
     let none = primitive_of(
@@ -135,7 +164,11 @@ fn arguments_give_primitives_and_these_solids(rt: HostRuntime) {
         &args,
         &[value(3)],
     );
-    assert!(rt; matches!(&none, Err(ArgumentFault::BadArgument)));
+    expect(
+        &rt,
+        matches!(&none, Err(ArgumentFault::BadArgument)),
+        "no polyhedron",
+    );
 }
 
 /// The outline is told to have so many points, and has them.
@@ -155,11 +188,23 @@ fn has_points(rt: &impl Abort, alloc: Global, flat: Flat, points: usize) -> bool
 
 #[test]
 fn arguments_give_outlines_and_their_points(rt: HostRuntime) {
-    assert!(rt; has_points(&rt, rt.alloc(), Flat::Square, 4));
-    assert!(rt; has_points(&rt, rt.alloc(), Flat::Circle, 5));
+    expect(
+        &rt,
+        has_points(&rt, rt.alloc(), Flat::Square, 4),
+        "a square",
+    );
+    expect(
+        &rt,
+        has_points(&rt, rt.alloc(), Flat::Circle, 5),
+        "a circle",
+    );
     let args = args(rt.alloc(), "").expect(&rt, "memory");
     let none = outlines_of(rt.alloc(), Flat::Polygon, &fineness(5), &args, &[value(3)]);
-    assert!(rt; matches!(&none, Err(ArgumentFault::BadArgument)));
+    expect(
+        &rt,
+        matches!(&none, Err(ArgumentFault::BadArgument)),
+        "no polygon",
+    );
 }
 
 fn resolution() -> Resolution {
@@ -174,9 +219,21 @@ fn resolution() -> Resolution {
 fn arguments_give_heights_and_turns(rt: HostRuntime) {
     let args = args(rt.alloc(), "height,twist").expect(&rt, "memory");
     let (plain, twisted) = ([value(3), value(0)], [value(3), value(1)]);
-    assert!(rt; linear_by(&args, &plain) == Ok((number(3), false)));
-    assert!(rt; linear_by(&args, &twisted) == Err(ArgumentFault::LeftOut));
-    assert!(rt; turned_by(&fineness(7), &args, &twisted) == Ok(resolution()));
+    expect(
+        &rt,
+        linear_by(&args, &plain) == Ok((number(3), false)),
+        "a height",
+    );
+    expect(
+        &rt,
+        linear_by(&args, &twisted) == Err(ArgumentFault::LeftOut),
+        "a twist is left out",
+    );
+    expect(
+        &rt,
+        turned_by(&fineness(7), &args, &twisted) == Ok(resolution()),
+        "a resolution",
+    );
 }
 
 /// The outline moved by 1 is this one; it stays on one side of the axis, and is turned in seven parts.
@@ -192,5 +249,9 @@ fn outlines_are_placed_beside_the_axis(rt: HostRuntime) {
     let (zero, one, two, three) = (number(0), number(1), number(2), number(3));
     let ring = [(one, zero), (two, one), (zero, three)];
     let wanted = [(two, zero), (three, one), (one, three)];
-    assert!(rt; is_moved_to(&rt, rt.alloc(), &ring, &wanted));
+    expect(
+        &rt,
+        is_moved_to(&rt, rt.alloc(), &ring, &wanted),
+        "an outline moved by 1",
+    );
 }

@@ -1,5 +1,6 @@
 //! Cubes, round solids and polyhedra, placed by matrices.
 
+use crate::cases::expect;
 use crate::corners::have_corners;
 use crate::tetrahedron::faces;
 use scad_matrix::{Axis, Matrix, translate, turn};
@@ -35,7 +36,11 @@ fn takes_a_metre_and_refuses_what_rounds_to_more(rt: HostRuntime) {
         false,
         &straight(),
     );
-    assert!(rt; matches!(far, Err(ShapeFault::CoordinateRange)));
+    expect(
+        &rt,
+        matches!(far, Err(ShapeFault::CoordinateRange)),
+        "a length out of range",
+    );
 }
 
 const CUBE: [[i32; 3]; 8] = [
@@ -69,7 +74,11 @@ fn places_a_turned_cube(rt: HostRuntime) {
     let (long, high) = (number(10_000_000), number(1_000_000));
     let m = turn(Axis::Z, 45_000);
     let solid = cube(rt.alloc(), long, long, high, false, &m).expect(&rt, "a cube");
-    assert!(rt; have_corners(solid.as_slice(), &CUBE, &CUBE_FACES));
+    expect(
+        &rt,
+        have_corners(solid.as_slice(), &CUBE, &CUBE_FACES),
+        "the corners of a turned cube",
+    );
 }
 
 #[test]
@@ -78,11 +87,23 @@ fn makes_round_and_flat_solids_of_so_many_triangles(rt: HostRuntime) {
     let m = straight();
     let (no, one, five) = (number(0), number(1_000_000), number(5_000_000));
     let ball = sphere(alloc, number(2_500_000), 5, &m).expect(&rt, "a ball");
-    assert!(rt; ball.count() == 26 && ball.highest() == Some(2165));
+    expect(
+        &rt,
+        ball.count() == 26 && ball.highest() == Some(2165),
+        "a ball",
+    );
     let point = sphere(alloc, no, 3, &m).expect(&rt, "a point");
-    assert!(rt; point.count() == 8 && point.highest() == Some(0));
+    expect(
+        &rt,
+        point.count() == 8 && point.highest() == Some(0),
+        "a point",
+    );
     let cone = cylinder(alloc, number(2_001_000), five, no, 6, true, &m).expect(&rt, "a cone");
-    assert!(rt; cone.count() == 20 && cone.highest() == Some(1001));
+    expect(
+        &rt,
+        cone.count() == 20 && cone.highest() == Some(1001),
+        "a cone",
+    );
 }
 
 #[test]
@@ -90,7 +111,7 @@ fn sheets_have_the_triangles_of_cubes(rt: HostRuntime) {
     let (no, one) = (number(0), number(1_000_000));
     for &(x, y, z) in &[(no, one, one), (one, no, one), (one, one, no)] {
         let sheet = cube(rt.alloc(), x, y, z, true, &straight()).expect(&rt, "a sheet");
-        assert!(rt; sheet.count() == 12);
+        expect(&rt, sheet.count() == 12, "the triangles of a sheet");
     }
     let counts = [
         triangles_of(&Form::Cube),
@@ -98,7 +119,7 @@ fn sheets_have_the_triangles_of_cubes(rt: HostRuntime) {
         triangles_of(&Form::Cylinder(6)),
         triangles_of(&Form::Polyhedron(4)),
     ];
-    assert!(rt; counts == [12, 252, 20, 4]);
+    expect(&rt, counts == [12, 252, 20, 4], "the counts of the forms");
 }
 
 const CORNERS: [[i32; 3]; 4] = [[0, 0, 0], [1000, 0, 0], [0, 1000, 0], [0, 0, 1000]];
@@ -112,7 +133,11 @@ fn bounds_polyhedra_by_faces(rt: HostRuntime) {
     let faces = faces(alloc, &[[0, 1, 2], [0, 3, 1], [1, 3, 2], [0, 2, 3]]).expect(&rt, "faces");
     let solid = polyhedron(alloc, &corners, faces.as_slice(), &m).expect(&rt, "a polyhedron");
     let wanted = [[0, 1, 2], [0, 3, 1], [1, 3, 2], [0, 2, 3]];
-    assert!(rt; have_corners(solid.as_slice(), &CORNERS, &wanted));
+    expect(
+        &rt,
+        have_corners(solid.as_slice(), &CORNERS, &wanted),
+        "the corners of a polyhedron",
+    );
 }
 
 #[test]
@@ -124,7 +149,15 @@ fn refuses_polyhedra_by_range_then_surface(rt: HostRuntime) {
     let spread = [(o, o, o), (i, o, o), (o, i, o), (o, o, far)];
     let faces = faces(alloc, &[[0, 1, 2], [0, 3, 1], [1, 3, 2], [0, 3, 2]]).expect(&rt, "faces");
     let open = polyhedron(alloc, &near, faces.as_slice(), &m);
-    assert!(rt; matches!(open, Err(ShapeFault::NotClosed)));
+    expect(
+        &rt,
+        matches!(open, Err(ShapeFault::NotClosed)),
+        "an open surface",
+    );
     let wide = polyhedron(alloc, &spread, faces.as_slice(), &m);
-    assert!(rt; matches!(wide, Err(ShapeFault::CoordinateRange)));
+    expect(
+        &rt,
+        matches!(wide, Err(ShapeFault::CoordinateRange)),
+        "a corner out of range",
+    );
 }

@@ -1,5 +1,6 @@
 //! Closed surfaces of triangles, and what isn't one.
 
+use crate::cases::expect;
 use crate::tetrahedron::{SIDES, TETRAHEDRON, faces};
 use scad_geom::Pt3;
 use scad_solid::{Face, SolidFault, Triangles};
@@ -31,14 +32,22 @@ fn is_corner(p: Pt3, number: usize) -> bool {
 fn takes_a_tetrahedron(rt: HostRuntime) {
     let faces = faces(rt.alloc(), &SIDES).expect(&rt, "faces");
     let solid = Triangles::from_faces(rt.alloc(), &TETRAHEDRON, &faces).expect(&rt, "a solid");
-    assert!(rt; has_triangles(&solid, &[[0, 1, 2], [0, 3, 1], [1, 3, 2], [0, 2, 3]]));
-    assert!(rt; solid.highest() == Some(1000));
+    expect(
+        &rt,
+        has_triangles(&solid, &[[0, 1, 2], [0, 3, 1], [1, 3, 2], [0, 2, 3]]),
+        "the four sides",
+    );
+    expect(&rt, solid.highest() == Some(1000), "its highest corner");
 }
 
 #[test]
 fn takes_no_faces(rt: HostRuntime) {
     let none = Triangles::from_faces(rt.alloc(), &TETRAHEDRON, &[]).expect(&rt, "no triangles");
-    assert!(rt; none.count() == 0 && none.highest().is_none());
+    expect(
+        &rt,
+        none.count() == 0 && none.highest().is_none(),
+        "nothing of no faces",
+    );
 }
 
 /// Two faces of four corners, which are the sides of one sheet.
@@ -53,7 +62,11 @@ fn sheet(alloc: Global) -> Result<Vec<Face>, AllocError> {
 fn splits_a_face_into_a_fan(rt: HostRuntime) {
     let faces = sheet(rt.alloc()).expect(&rt, "faces");
     let solid = Triangles::from_faces(rt.alloc(), &TETRAHEDRON, &faces).expect(&rt, "a solid");
-    assert!(rt; has_triangles(&solid, &[[0, 1, 2], [0, 2, 3], [1, 0, 3], [1, 3, 2]]));
+    expect(
+        &rt,
+        has_triangles(&solid, &[[0, 1, 2], [0, 2, 3], [1, 0, 3], [1, 3, 2]]),
+        "two fans",
+    );
 }
 
 /// Why the triangles over the points bound no solid.
@@ -75,10 +88,26 @@ fn refuses_by_range_then_index_then_surface(rt: HostRuntime) {
     let alloc = rt.alloc();
     let mut far = TETRAHEDRON;
     far[3].z = -1_000_001;
-    assert!(rt; refusal(alloc, &TETRAHEDRON, &OPEN) == Some(SolidFault::NotClosed));
-    assert!(rt; refusal(alloc, &TETRAHEDRON, &TURNED) == Some(SolidFault::NotClosed));
-    assert!(rt; refusal(alloc, &TETRAHEDRON, &UNKNOWN) == Some(SolidFault::BadIndex(7)));
-    assert!(rt; refusal(alloc, &far, &UNKNOWN) == Some(SolidFault::CoordinateRange));
+    expect(
+        &rt,
+        refusal(alloc, &TETRAHEDRON, &OPEN) == Some(SolidFault::NotClosed),
+        "an open surface",
+    );
+    expect(
+        &rt,
+        refusal(alloc, &TETRAHEDRON, &TURNED) == Some(SolidFault::NotClosed),
+        "a turned side",
+    );
+    expect(
+        &rt,
+        refusal(alloc, &TETRAHEDRON, &UNKNOWN) == Some(SolidFault::BadIndex(7)),
+        "an unknown point",
+    );
+    expect(
+        &rt,
+        refusal(alloc, &far, &UNKNOWN) == Some(SolidFault::CoordinateRange),
+        "a point out of range",
+    );
 }
 
 #[test]

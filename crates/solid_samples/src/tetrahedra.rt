@@ -1,5 +1,6 @@
 //! A tetrahedron with others carved out of it, asked everything that a tree tells.
 
+use crate::cases::expect;
 use crate::trees::trees;
 use scad_geom::{Half, LeafEdge, Pt, Pt3, Shape, holds};
 use scad_tree::{Tree, intersect, subtract, unite};
@@ -38,15 +39,23 @@ fn prints(alloc: Global, tree: &Tree, wanted: &[u8]) -> bool {
 #[test]
 fn prints_what_it_is_made_of(rt: HostRuntime) {
     let tree = beside_carved(rt.alloc()).expect(&rt, "a tree");
-    assert!(rt; tree.nesting() == 4 && tree.leaves() == 5 && tree.triangles() == 20);
-    assert!(rt; prints(rt.alloc(), &tree, PRINTED));
-    assert!(rt; prints(rt.alloc(), &Tree::empty(), b"empty\n"));
+    expect(
+        &rt,
+        tree.nesting() == 4 && tree.leaves() == 5 && tree.triangles() == 20,
+        "the sizes of the tree",
+    );
+    expect(&rt, prints(rt.alloc(), &tree, PRINTED), "the tree's text");
+    expect(
+        &rt,
+        prints(rt.alloc(), &Tree::empty(), b"empty\n"),
+        "the empty tree's text",
+    );
 }
 
 #[test]
 fn has_the_layers_below_its_top(rt: HostRuntime) {
     let carved = carved(rt.alloc()).expect(&rt, "a tree");
-    assert!(rt; carved.top() == Some(1000));
+    expect(&rt, carved.top() == Some(1000), "the top");
     for &(h, layers) in &[(200, 5), (1, 1000), (1999, 1), (2000, 0), (u32::MAX, 0)] {
         assert!(rt; carved.layers(h) == layers, "of {h}");
     }
@@ -55,10 +64,18 @@ fn has_the_layers_below_its_top(rt: HostRuntime) {
 #[test]
 fn has_the_layers_below_the_lowest_of_its_members(rt: HostRuntime) {
     let shared = shared(rt.alloc()).expect(&rt, "a tree");
-    assert!(rt; shared.top() == Some(300));
-    assert!(rt; shared.layers(599) == 1 && shared.layers(600) == 0);
+    expect(&rt, shared.top() == Some(300), "the lowest top");
+    expect(
+        &rt,
+        shared.layers(599) == 1 && shared.layers(600) == 0,
+        "one layer or none",
+    );
     let none = Tree::empty();
-    assert!(rt; none.top().is_none() && none.layers(1) == 0);
+    expect(
+        &rt,
+        none.top().is_none() && none.layers(1) == 0,
+        "the empty tree has no top",
+    );
 }
 
 #[test]
@@ -112,17 +129,37 @@ fn has_edges(alloc: Global, tree: &Tree) -> bool {
 #[test]
 fn numbers_its_leaves(rt: HostRuntime) {
     let carved = carved(rt.alloc()).expect(&rt, "a tree");
-    assert!(rt; has_edges(rt.alloc(), &carved));
+    expect(
+        &rt,
+        has_edges(rt.alloc(), &carved),
+        "the edges by their leaves",
+    );
 }
 
 #[test]
 fn has_the_shape_of_its_leaves(rt: HostRuntime) {
     let carved = carved(rt.alloc()).expect(&rt, "a tree");
     let shape = carved.shape(rt.alloc()).expect(&rt, "a shape");
-    assert!(rt; holds(&shape, &[true, false, true, false]));
-    assert!(rt; !holds(&shape, &[true, false, true, true]));
-    assert!(rt; !holds(&shape, &[true, true, false, false]));
-    assert!(rt; matches!(Tree::empty().shape(rt.alloc()), Ok(Shape::Empty)));
+    expect(
+        &rt,
+        holds(&shape, &[true, false, true, false]),
+        "inside of what isn't shared",
+    );
+    expect(
+        &rt,
+        !holds(&shape, &[true, false, true, true]),
+        "outside in what is shared",
+    );
+    expect(
+        &rt,
+        !holds(&shape, &[true, true, false, false]),
+        "outside in what is carved out",
+    );
+    expect(
+        &rt,
+        matches!(Tree::empty().shape(rt.alloc()), Ok(Shape::Empty)),
+        "the empty tree's shape",
+    );
 }
 
 const FIRST_POINTS: [Pt3; 6] = [
@@ -160,8 +197,16 @@ fn has_points(alloc: Global, tree: &Tree, count: usize, first: &[Pt3]) -> bool {
 #[test]
 fn tells_its_points(rt: HostRuntime) {
     let carved = carved(rt.alloc()).expect(&rt, "a tree");
-    assert!(rt; has_points(rt.alloc(), &carved, 48, &FIRST_POINTS));
-    assert!(rt; has_points(rt.alloc(), &Tree::empty(), 0, &[]));
+    expect(
+        &rt,
+        has_points(rt.alloc(), &carved, 48, &FIRST_POINTS),
+        "the corners of all triangles",
+    );
+    expect(
+        &rt,
+        has_points(rt.alloc(), &Tree::empty(), 0, &[]),
+        "no points of the empty tree",
+    );
 }
 
 fn both(alloc: Global) -> Option<Tree> {
@@ -174,8 +219,20 @@ fn is_told(tree: &Tree, united: bool, empty: bool) -> bool {
 
 #[test]
 fn tells_whether_it_is_united(rt: HostRuntime) {
-    assert!(rt; is_told(&carved(rt.alloc()).expect(&rt, "a tree"), false, false));
-    assert!(rt; is_told(&both(rt.alloc()).expect(&rt, "a tree"), true, false));
-    assert!(rt; is_told(&shared(rt.alloc()).expect(&rt, "a tree"), false, false));
-    assert!(rt; is_told(&Tree::empty(), true, true));
+    expect(
+        &rt,
+        is_told(&carved(rt.alloc()).expect(&rt, "a tree"), false, false),
+        "a difference",
+    );
+    expect(
+        &rt,
+        is_told(&both(rt.alloc()).expect(&rt, "a tree"), true, false),
+        "a union",
+    );
+    expect(
+        &rt,
+        is_told(&shared(rt.alloc()).expect(&rt, "a tree"), false, false),
+        "an intersection",
+    );
+    expect(&rt, is_told(&Tree::empty(), true, true), "the empty tree");
 }

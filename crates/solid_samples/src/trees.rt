@@ -1,5 +1,6 @@
 //! Operations of trees: what stands at the top of them.
 
+use crate::cases::expect;
 use crate::tetrahedron::{SIDES, TETRAHEDRON, faces};
 use scad_solid::Triangles;
 use scad_tree::{Node, Tree, intersect, subtract, unite};
@@ -109,12 +110,16 @@ fn before_union(alloc: Global, sizes: &[i32]) -> Option<Vec<Tree>> {
 fn unions_take_in_the_members_of_unions(rt: HostRuntime) {
     let members = before_union(rt.alloc(), &[9, 0]).expect(&rt, "members");
     let tree = unite(rt.alloc(), members).expect(&rt, "a union");
-    assert!(rt; is_top(tree, ("union", 3)));
+    expect(&rt, is_top(tree, ("union", 3)), "a union of three");
 }
 
 #[test]
 fn intersections_do_not(rt: HostRuntime) {
     let members = before_union(rt.alloc(), &[9]).expect(&rt, "members");
     let tree = intersect(rt.alloc(), members).expect(&rt, "an intersection");
-    assert!(rt; is_top(tree, ("intersection", 2)));
+    expect(
+        &rt,
+        is_top(tree, ("intersection", 2)),
+        "an intersection of two",
+    );
 }

@@ -3,6 +3,7 @@
 ghost use Rattle.std.specs.Prelude.{◌≡◌, ◌≢◌, ◌<◌, Some, [], true, false, length};
 ghost use Rattle.scad_io.specs.Desk.{side, unused, failed_count};
 
+use crate::cases::expect;
 use scad_fault::Text;
 use scad_io::{Desk, MemoryDesk, NullDesk, Out, ReadEnd, RealDesk, read_all, write_all};
 use std::alloc::{AllocError, Global};
@@ -67,7 +68,7 @@ fn read(rt: &impl Abort, desk: &mut MemoryDesk, want: &[u8])
 {
     let mut into = [0; 5];
     let n = desk.read(&mut into).expect(rt, "bytes");
-    assert_eq!(rt; &into[..n], want);
+    expect(rt, &into[..n] == want, "the bytes of a read");
 }
 
 fn create(rt: &impl Abort, desk: &mut MemoryDesk, out: Out, name: &str)
@@ -89,7 +90,7 @@ fn write(rt: &impl Abort, desk: &mut MemoryDesk, out: Out, piece: &[u8], want: u
     ensures made { (side out desk.new.view).created ≡ (side out desk.old.view).created }
 {
     let n = desk.write(out, piece).expect(rt, "a write");
-    assert_eq!(rt; n, want);
+    expect(rt, n == want, "how many bytes a write takes");
 }
 
 #[test]
@@ -102,14 +103,14 @@ fn the_first_file_of_a_name_is_read_to_its_end(rt: HostRuntime) {
     read(&rt, &mut desk, b"");
     open(&rt, &mut desk, "a.scad");
     read(&rt, &mut desk, b"cube(");
-    assert_eq!(rt; desk.faults(), 0);
+    expect(&rt, desk.faults() == 0, "no call failed");
 }
 
 #[test]
 fn unknown_names_fail(rt: HostRuntime) {
     let mut desk = desk(&rt, rt.alloc(), &[], 0);
-    assert!(rt; desk.open("b.scad").is_err());
-    assert!(rt; desk.faults() == 1);
+    expect(&rt, desk.open("b.scad").is_err(), "an unknown name");
+    expect(&rt, desk.faults() == 1, "one call failed");
 }
 
 #[test]
@@ -118,8 +119,8 @@ fn listed_calls_fail(rt: HostRuntime) {
     create(&rt, &mut desk, Out::Cli, "o.cli");
     open(&rt, &mut desk, "a.scad");
     write(&rt, &mut desk, Out::Report, b"ok", 2);
-    assert!(rt; desk.read(&mut [0; 5]).is_err());
-    assert!(rt; desk.faults() == 1);
+    expect(&rt, desk.read(&mut [0; 5]).is_err(), "the listed call");
+    expect(&rt, desk.faults() == 1, "one call failed");
 }
 
 #[test]
@@ -128,10 +129,22 @@ fn a_write_takes_what_there_is_room_for(rt: HostRuntime) {
     create(&rt, &mut desk, Out::Gcode, "o.gcode");
     write(&rt, &mut desk, Out::Gcode, b"ab", 2);
     write(&rt, &mut desk, Out::Gcode, b"cd", 1);
-    assert!(rt; desk.write(Out::Gcode, b"e").is_err());
-    assert_eq!(rt; desk.written(Out::Gcode), b"abc".as_slice());
-    assert_eq!(rt; desk.written(Out::Cli), b"".as_slice());
-    assert_eq!(rt; desk.faults(), 1);
+    expect(
+        &rt,
+        desk.write(Out::Gcode, b"e").is_err(),
+        "a write without room",
+    );
+    expect(
+        &rt,
+        desk.written(Out::Gcode) == b"abc".as_slice(),
+        "what was written",
+    );
+    expect(
+        &rt,
+        desk.written(Out::Cli).is_empty(),
+        "nothing in the other output",
+    );
+    expect(&rt, desk.faults() == 1, "one call failed");
 }
 
 fn opened(rt: &impl Abort, alloc: Global, fails: &[u64], name: &str) -> MemoryDesk
@@ -173,11 +186,19 @@ fn is_created(rt: &impl Abort, alloc: Global, name_len: usize) -> bool {
 
 #[test]
 fn a_name_past_its_room_opens_and_is_not_created(rt: HostRuntime) {
-    assert!(rt; is_created(&rt, rt.alloc(), 4_096));
-    assert!(rt; !is_created(&rt, rt.alloc(), 4_097));
+    expect(&rt, is_created(&rt, rt.alloc(), 4_096), "a name that fits");
+    expect(
+        &rt,
+        !is_created(&rt, rt.alloc(), 4_097),
+        "a name past its room",
+    );
     let name = long_name(rt.alloc(), 5_000).expect(&rt, "a name");
     let (read, _) = read_whole(&rt, rt.alloc(), &[], name.as_str(), None);
-    assert!(rt; told(&read) == b"cube(3);".as_slice());
+    expect(
+        &rt,
+        told(&read) == b"cube(3);".as_slice(),
+        "a file with a long name",
+    );
 }
 
 /// A file, the calls that fail, the limit, what is told of the read, and how many calls failed.
@@ -194,7 +215,7 @@ const READS: [(&str, &[u64], Option<usize>, &[u8], u64); 6] = [
 fn an_input_is_read_to_its_end_its_limit_or_a_fault(rt: HostRuntime) {
     for &(name, fails, limit, wanted, faults) in &READS {
         let (read, failed) = read_whole(&rt, rt.alloc(), fails, name, limit);
-        assert!(rt; told(&read) == wanted && failed == faults, "{name}");
+        expect(&rt, told(&read) == wanted && failed == faults, name);
     }
 }
 
@@ -208,23 +229,32 @@ const PIECES: [(&[u64], &[u8], &[u8], &[u8]); 2] = [
 fn a_piece_is_written_whole_or_in_part(rt: HostRuntime) {
     for &(fails, whole, cut, written) in &PIECES {
         let mut desk = desk(&rt, rt.alloc(), fails, 5);
-        assert!(rt; write_all(&mut desk, Out::Report, whole).is_ok());
-        assert!(rt; write_all(&mut desk, Out::Report, cut).is_err());
-        assert!(rt; desk.written(Out::Report) == written && desk.faults() == 1);
+        write_all(&mut desk, Out::Report, whole).expect(&rt, "a whole write");
+        let failed = write_all(&mut desk, Out::Report, cut).is_err();
+        expect(&rt, failed && desk.faults() == 1, "a write in part");
+        expect(
+            &rt,
+            desk.written(Out::Report) == written,
+            "what was written",
+        );
     }
 }
 
 #[test]
 fn a_desk_that_keeps_nothing_reads_nothing_and_takes_all(rt: HostRuntime) {
     let mut desk = NullDesk::new();
-    assert!(rt; desk.create(Out::Gcode, "o.gcode").is_ok());
-    assert!(rt; desk.create(Out::Cli, "o.cli").is_ok());
-    assert!(rt; matches!(desk.write(Out::Report, &[b'x'; LONG]), Ok(LONG)));
-    assert!(rt; matches!(desk.write(Out::Gcode, &[b'x'; LONG]), Ok(LONG)));
-    assert!(rt; write_all(&mut desk, Out::Cli, b"$$HEADERSTART\n").is_ok());
-    assert!(rt; desk.open("a.scad").is_ok());
+    desk.create(Out::Gcode, "o.gcode").expect(&rt, "an output");
+    desk.create(Out::Cli, "o.cli").expect(&rt, "an output");
+    let n = desk
+        .write(Out::Report, &[b'x'; LONG])
+        .expect(&rt, "a write");
+    expect(&rt, n == LONG, "all of a report");
+    let n = desk.write(Out::Gcode, &[b'x'; LONG]).expect(&rt, "a write");
+    expect(&rt, n == LONG, "all of an output");
+    write_all(&mut desk, Out::Cli, b"$$HEADERSTART\n").expect(&rt, "a whole write");
+    desk.open("a.scad").expect(&rt, "an open file");
     let read = read_all(rt.alloc(), &mut desk, None);
-    assert!(rt; told(&read).is_empty());
+    expect(&rt, told(&read).is_empty(), "an empty file");
 }
 
 fn write_file<R: Files + Print + Abort>(rt: &R, name: &str) {
@@ -250,6 +280,8 @@ fn a_real_file_is_written_and_read_again(rt: HostRuntime) {
     write_file(&rt, name.as_str());
     let text = read_file(&rt, alloc, name.as_str()).expect(&rt, "the file");
     fs::remove_file(&rt, name.as_str()).expect(&rt, "no file");
-    assert_eq!(rt; text.as_slice(), b"$$HEADERSTART\n".as_slice());
-    assert!(rt; read_file(&rt, alloc, name.as_str()).is_none());
+    let is_same = text.as_slice() == b"$$HEADERSTART\n".as_slice();
+    expect(&rt, is_same, "what was written");
+    let is_gone = read_file(&rt, alloc, name.as_str()).is_none();
+    expect(&rt, is_gone, "the removed file");
 }

@@ -1,5 +1,6 @@
 //! Edges at heights, beside one another and near points.
 
+use crate::cases::expect;
 use scad_geom::line::{ends_from, starts_by};
 use scad_geom::{Edge, Half, Level, Pt, box_meets, cmp_level, cmp_slope, cmp_x_at, side};
 use std::cmp::Ordering;
@@ -41,8 +42,10 @@ fn an_edge_reaches_the_heights_of_its_ends(rt: HostRuntime) {
         (7, true, false),
     ] {
         let height = Level { n, d: 2 };
-        assert!(rt; starts_by(&FALLING, &height) == starts, "at {n} / 2");
-        assert!(rt; ends_from(&FALLING, &height) == ends, "at {n} / 2");
+        assert!(rt;
+            starts_by(&FALLING, &height) == starts && ends_from(&FALLING, &height) == ends,
+            "at {n} / 2"
+        );
     }
 }
 
@@ -73,13 +76,13 @@ fn heights_and_edges_compare(rt: HostRuntime) {
         Ordering::Equal,
         Ordering::Less,
     ];
-    assert!(rt; found == wanted);
+    expect(&rt, found == wanted, "orders of heights and edges");
     let sides = [
         side(&E, Pt { x: 0, y: 1 }),
         side(&E, Pt { x: 1, y: 0 }),
         side(&E, Pt { x: 2, y: 6 }),
     ];
-    assert!(rt; sides == [1, -1, 0]);
+    expect(&rt, sides == [1, -1, 0], "sides of points");
 }
 
 #[test]

@@ -1,5 +1,6 @@
 //! Sums, differences and products of wide integers, and what is rounded.
 
+use crate::cases::expect;
 use scad_geom::{round_half_down, whole, wide};
 
 #[test]
@@ -18,7 +19,7 @@ fn values_past_32_bits_are_exact(rt: HostRuntime) {
         -1_000_003_000_000_000,
         -2_420_000_000_000,
     ];
-    assert!(rt; found == wanted);
+    expect(&rt, found == wanted, "whole past 32 bits");
 }
 
 #[test]
@@ -37,7 +38,7 @@ fn values_past_64_bits_are_exact(rt: HostRuntime) {
         -10_000_000_070_000_000_000,
         -110_000_000_000_000_000_000_000_000_000_000,
     ];
-    assert!(rt; found == wanted);
+    expect(&rt, found == wanted, "wide past 64 bits");
 }
 
 #[test]

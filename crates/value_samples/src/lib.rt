@@ -5,6 +5,8 @@
 #[cfg(test)]
 mod builtin_calls;
 #[cfg(test)]
+mod cases;
+#[cfg(test)]
 mod circles;
 #[cfg(test)]
 mod desks;

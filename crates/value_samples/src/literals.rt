@@ -1,5 +1,6 @@
 //! Literals of numbers, and the texts of numbers.
 
+use crate::cases::expect;
 use scad_num::{Num, is_literal, literal_len, parse_decimal};
 use std::alloc::Global;
 
@@ -84,7 +85,7 @@ fn the_longest_literal_is_read(rt: HostRuntime) {
         ("a1", 0),
         ("..", 0),
     ] {
-        assert!(rt; literal_len(text.as_bytes()) == wanted, "at {text}");
+        expect(&rt, literal_len(text.as_bytes()) == wanted, text);
     }
 }
 
@@ -118,9 +119,10 @@ fn texts_have_no_ending_zeros(rt: HostRuntime) {
         (1_000_000_000_000_000, "1000000000"),
         (-999_999_999_999_999, "-999999999.999999"),
     ] {
-        assert!(rt;
+        expect(
+            &rt,
             has_text(rt.alloc(), millionths, wanted.as_bytes()),
-            "{wanted}"
+            wanted,
         );
     }
 }

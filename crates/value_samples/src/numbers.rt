@@ -1,5 +1,6 @@
 //! Arithmetic of numbers.
 
+use crate::cases::expect;
 use scad_num::{Num, NumFault};
 
 /// What stands for a number out of range, and for one divided by 0: no number has so many millionths.
@@ -91,7 +92,7 @@ const RESULTS: [(char, i64, i64, i64); 56] = [
 
 #[test]
 fn results_are_rounded_once(rt: HostRuntime) {
-    assert!(rt; Num::within(-1) < Num::within(0));
+    expect(&rt, Num::within(-1) < Num::within(0), "-1 is below 0");
     for &(operator, a, b, wanted) in &RESULTS {
         assert!(rt;
             millionths(applied(operator, a, b)) == wanted,

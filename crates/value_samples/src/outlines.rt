@@ -1,5 +1,6 @@
 //! Outlines and paths, their areas, what winds round a point, what set operations hold.
 
+use crate::cases::expect;
 use scad_geom::{Edge, Half, Loop, Path, Pt, Pt3, Shape, holds, is_in_range, twice_area, winding};
 use std::alloc::{AllocError, Global};
 
@@ -63,8 +64,8 @@ fn path_comes_back(alloc: Global, points: &[Pt]) -> bool {
 
 #[test]
 fn points_of_outlines_and_paths_come_back(rt: HostRuntime) {
-    assert!(rt; outline_comes_back(rt.alloc(), &POINTS));
-    assert!(rt; path_comes_back(rt.alloc(), &POINTS));
+    expect(&rt, outline_comes_back(rt.alloc(), &POINTS), "an outline");
+    expect(&rt, path_comes_back(rt.alloc(), &POINTS), "a path");
 }
 
 /// Points, and how often the star winds round them.
@@ -85,7 +86,11 @@ fn a_star_winds_twice_round_its_middle(rt: HostRuntime) {
     for &(x, y, half, turns) in &TURNS {
         assert!(rt; winding(&STAR, Pt { x, y }, half) == turns, "at {x}, {y}");
     }
-    assert!(rt; winding(&[], Pt { x: 0, y: 0 }, Half::Cell) == 0);
+    expect(
+        &rt,
+        winding(&[], Pt { x: 0, y: 0 }, Half::Cell) == 0,
+        "no edges",
+    );
 }
 
 #[test]
@@ -219,9 +224,17 @@ fn operations_hold_by_their_members(rt: HostRuntime) {
             holds(&inter, &inside),
             holds(&diff, &inside),
         ];
-        assert!(rt; found == wanted);
+        expect(
+            &rt,
+            found == wanted,
+            "a union, an intersection and a difference",
+        );
     }
-    assert!(rt; !holds(&Shape::Empty, &[true]));
-    assert!(rt; !holds(&Shape::Inter(Vec::new(rt.alloc())), &[true]));
-    assert!(rt; !holds(&Shape::Leaf(7), &[true]));
+    expect(&rt, !holds(&Shape::Empty, &[true]), "the empty shape");
+    expect(
+        &rt,
+        !holds(&Shape::Inter(Vec::new(rt.alloc())), &[true]),
+        "an intersection of nothing",
+    );
+    expect(&rt, !holds(&Shape::Leaf(7), &[true]), "an unknown leaf");
 }

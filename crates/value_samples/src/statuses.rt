@@ -2,6 +2,7 @@
 
 ghost use Rattle.std.specs.Prelude.{◌≢◌};
 
+use crate::cases::expect;
 use scad_fault::{
     BadKind, Budget, BudgetKind as Limit, Fault, FaultKind as Kind, OUT_OF_MEMORY, Place,
     READ_FAULT, SetFault, SetKind, Status, Text, WRITE_FAULT, constant_lines,
@@ -65,15 +66,14 @@ fn fault_ends_with(alloc: Global, kind: Kind, name: &str, line: &str) -> bool {
 #[test]
 fn faults_end_with_their_lines(rt: HostRuntime) {
     for &(kind, name, line) in &FAULTS {
-        assert!(rt; fault_ends_with(rt.alloc(), kind, name, line), "{line}");
+        expect(&rt, fault_ends_with(rt.alloc(), kind, name, line), line);
     }
     let unnamed = Fault::unnamed(rt.alloc(), Kind::MixedDimensions, Place::START);
-    assert!(rt;
-        ends_with(
-            rt.alloc(),
-            &Status::Source(unnamed),
-            "fault 11 MixedDimensions at 1:1\n"
-        )
+    let line = "fault 11 MixedDimensions at 1:1\n";
+    expect(
+        &rt,
+        ends_with(rt.alloc(), &Status::Source(unnamed), line),
+        line,
     );
 }
 
@@ -122,9 +122,10 @@ fn budgets_end_with_their_lines(rt: HostRuntime) {
         ),
         (Budget::file_long(), "budget 12 FileLong\n"),
     ] {
-        assert!(rt;
+        expect(
+            &rt,
             ends_with(rt.alloc(), &Status::Over(budget), line),
-            "{line}"
+            line,
         );
     }
 }
@@ -174,9 +175,10 @@ fn settings_end_with(alloc: Global, kind: SetKind, key: &str, value: i64, line: 
 #[test]
 fn settings_faults_end_with_their_lines(rt: HostRuntime) {
     for &(kind, key, value, line) in &SETTINGS {
-        assert!(rt;
+        expect(
+            &rt,
             settings_end_with(rt.alloc(), kind, key, value, line),
-            "{line}"
+            line,
         );
     }
 }
@@ -188,28 +190,56 @@ fn judged_files_end_with_their_lines(rt: HostRuntime) {
         number: 1,
         line: 15,
     };
-    assert!(rt; ends_with(alloc, &outside, "outside: move 1 line 15\n"));
+    expect(
+        &rt,
+        ends_with(alloc, &outside, "outside: move 1 line 15\n"),
+        "a move outside",
+    );
     for &(kind, first, second, line) in &BAD_FILES {
         let bad = Status::BadFile {
             kind,
             first,
             second,
         };
-        assert!(rt; ends_with(alloc, &bad, line), "{line}");
+        expect(&rt, ends_with(alloc, &bad, line), line);
     }
 }
 
 #[test]
 fn other_statuses_end_with_their_lines(rt: HostRuntime) {
     let alloc = rt.alloc();
-    assert!(rt; ends_with(alloc, &Status::Usage, "usage: scadslice COMMAND\n"));
-    assert!(rt; ends_with(alloc, &Status::Read, "read fault\n"));
-    assert!(rt; ends_with(alloc, &Status::Write, "write fault\n"));
-    assert!(rt; ends_with(alloc, &Status::Memory, "out of memory\n"));
+    expect(
+        &rt,
+        ends_with(alloc, &Status::Usage, "usage: scadslice COMMAND\n"),
+        "usage",
+    );
+    expect(
+        &rt,
+        ends_with(alloc, &Status::Read, "read fault\n"),
+        "a read fault",
+    );
+    expect(
+        &rt,
+        ends_with(alloc, &Status::Write, "write fault\n"),
+        "a write fault",
+    );
+    expect(
+        &rt,
+        ends_with(alloc, &Status::Memory, "out of memory\n"),
+        "out of memory",
+    );
     constant_lines();
-    assert!(rt; READ_FAULT == b"read fault\n".as_slice());
-    assert!(rt; WRITE_FAULT == b"write fault\n".as_slice());
-    assert!(rt; OUT_OF_MEMORY == b"out of memory\n".as_slice());
+    expect(&rt, READ_FAULT == b"read fault\n".as_slice(), "READ_FAULT");
+    expect(
+        &rt,
+        WRITE_FAULT == b"write fault\n".as_slice(),
+        "WRITE_FAULT",
+    );
+    expect(
+        &rt,
+        OUT_OF_MEMORY == b"out of memory\n".as_slice(),
+        "OUT_OF_MEMORY",
+    );
 }
 
 #[test]
@@ -238,5 +268,9 @@ fn each_status_has_its_number(rt: HostRuntime) {
         }
         .code(),
     ];
-    assert!(rt; codes == [0, 1, 2, 3, 4, 5, 6, 7, 8, 9]);
+    expect(
+        &rt,
+        codes == [0, 1, 2, 3, 4, 5, 6, 7, 8, 9],
+        "the numbers of all statuses",
+    );
 }

@@ -3,6 +3,7 @@
 ghost use Rattle.std.specs.Prelude.{◌≡◌, IsTrue};
 ghost use Rattle.scad_table.specs.Table.{entries, ascends};
 
+use crate::cases::expect;
 use scad_fault::{Chars, FileName, Text};
 use scad_table::{Row, find};
 use std::alloc::Global;
@@ -73,11 +74,19 @@ fn chars_come_back(alloc: Global) -> bool {
 #[test]
 fn what_a_text_is_made_of_is_lent_and_given_back(rt: HostRuntime) {
     let alloc = rt.alloc();
-    assert!(rt; text_comes_back(alloc));
-    assert!(rt; file_name_comes_back(alloc));
-    assert!(rt; chars_come_back(alloc));
-    assert!(rt; Text::empty(alloc).as_slice().is_empty());
-    assert!(rt; Chars::empty(alloc).as_slice().is_empty());
+    expect(&rt, text_comes_back(alloc), "a text");
+    expect(&rt, file_name_comes_back(alloc), "a file name");
+    expect(&rt, chars_come_back(alloc), "characters");
+    expect(
+        &rt,
+        Text::empty(alloc).as_slice().is_empty(),
+        "an empty text",
+    );
+    expect(
+        &rt,
+        Chars::empty(alloc).as_slice().is_empty(),
+        "no characters",
+    );
 }
 
 const CASES: [(&str, Option<u16>); 12] = [
@@ -98,8 +107,12 @@ const CASES: [(&str, Option<u16>); 12] = [
 #[test]
 fn listed_names_are_found_and_no_others(rt: HostRuntime) {
     for &(name, id) in &CASES {
-        assert!(rt; find(keys(), name.as_bytes()) == id, "{name}");
+        expect(&rt, find(keys(), name.as_bytes()) == id, name);
     }
-    assert!(rt; find(keys(), b"\xff").is_none());
-    assert!(rt; find(&[], b"for").is_none());
+    expect(
+        &rt,
+        find(keys(), b"\xff").is_none(),
+        "a name that isn't UTF-8",
+    );
+    expect(&rt, find(&[], b"for").is_none(), "an empty table");
 }

@@ -1,6 +1,7 @@
 //! Values, their operators, parts, texts and sizes, and the functions of the language.
 
 use crate::builtin_calls::CALLS;
+use crate::cases::expect;
 use crate::operand_kinds::{KINDS, PREFIXED, SIGNS};
 use crate::operations::{OPERATIONS, PARTS, TEXTS};
 use crate::rows::{answer, cell, holds, is_told};
@@ -11,7 +12,7 @@ use std::process::Abort;
 
 fn all_hold(rt: &(impl Abort + AllocGlobal), rows: &str) {
     for row in rows.lines() {
-        assert!(rt; holds(rt.alloc(), row), "{row}");
+        expect(rt, holds(rt.alloc(), row), row);
     }
 }
 
@@ -49,7 +50,7 @@ fn are_between(alloc: Global, row: &str) -> bool {
 #[test]
 fn operators_judge_every_pair_of_kinds(rt: HostRuntime) {
     for row in KINDS.lines() {
-        assert!(rt; are_between(rt.alloc(), row), "{row}");
+        expect(&rt, are_between(rt.alloc(), row), row);
     }
 }
 
@@ -93,8 +94,8 @@ fn values_have_sizes(rt: HostRuntime) {
     for &(form, number, size, depth) in &SIZES {
         let all = values(rt.alloc(), form).expect(&rt, "values");
         for v in &all {
-            assert!(rt; is_sized(v, number, size, depth), "{form}");
+            expect(&rt, is_sized(v, number, size, depth), form);
         }
-        assert!(rt; all.len() == 1, "{form}");
+        expect(&rt, all.len() == 1, form);
     }
 }
