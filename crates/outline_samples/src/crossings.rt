@@ -50,17 +50,12 @@ fn push_pair(edges: &mut Vec<LeafEdge>) -> Result<(), AllocError>
 fn two_million_crossings_are_taken_and_one_more_is_refused(rt: HostRuntime) {
     let mut edges = across(rt.alloc()).expect(&rt, "memory");
     assert!(rt; edges.len() == 3000);
-    expect(
-        &rt,
-        matches!(levels(rt.alloc(), &edges), Ok(taken) if taken.len() == 3),
-        "2,000,000 crossings are taken",
-    );
+    let taken = levels(rt.alloc(), &edges);
+    let are_three = matches!(&taken, Ok(levels) if levels.len() == 3);
+    expect(&rt, are_three, "2,000,000 crossings are taken");
     push_pair(&mut edges).expect(&rt, "memory");
     assert!(rt; edges.len() == 3002);
     let refused = levels(rt.alloc(), &edges);
-    expect(
-        &rt,
-        matches!(refused, Err(EventFault::Crossings(2_000_001))),
-        "one more is refused",
-    );
+    let is_refused = matches!(&refused, Err(EventFault::Crossings(2_000_001)));
+    expect(&rt, is_refused, "one more is refused");
 }
