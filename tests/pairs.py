@@ -1,6 +1,7 @@
-"""Pairs of outlines and a printing program, made by dice: small ones, with what may be wrong with such files.
+"""Pairs of outlines and a printing program, made by dice: small ones, with what may be wrong with such files, and single moves
+by outlines that cross.
 
-The pair of a number is always the same. What `verify` says of each stands in `verdicts/pairs`.
+The pair of a number is always the same. What `verify` says of each stands in `verdicts/pairs` and `verdicts/moves`.
 """
 
 import random
@@ -40,6 +41,21 @@ def pair(number):
     layers = layers_of(dice, is_calm)
     outlines, program = outlines_of(dice, layers), program_of(dice, layers, width // 2, is_calm)
     return written(dice, outlines), written(dice, program), width
+
+
+def move_pair(number):
+    """Outlines that cross themselves and one another, a short move by chance, and the thinnest line's width."""
+    dice = Dice(number)
+    loops = [crossing_loop(dice) for _ in range(dice.within(3, 5))]
+    x, y = dice.within(-4000, 4000), dice.within(-4000, 4000)
+    writer = Writer(dice)
+    writer.go(Z=200)
+    writer.path([(x, y), (x + dice.within(-400, 400), y + dice.within(-400, 400))])
+    return written(dice, outlines_of(dice, [(200, loops)])), written(dice, writer.lines), 100
+
+
+def crossing_loop(dice):
+    return [(dice.within(-4000, 4000), dice.within(-4000, 4000)) for _ in range(dice.within(3, 6))]
 
 
 def written(dice, lines):

@@ -6,7 +6,9 @@
                program is another one, a coordinate that is 1, 2, 10 or 1000 micrometres greater or less
     cuts       FILE LINES STATUS REPORT: of two files, one ends after so many lines; with `-` behind their number
                without the last one's end
+    hatches    LINES LINE STATUS REPORT: of outlines of two layers with another line behind so many lines, as escapes have it
     pairs      NUMBER STATUS REPORT: of the pair of files of `pairs.py` with this number
+    moves      NUMBER STATUS REPORT: of its outlines that cross, and a single move, with this number; of half of them it is inside
 """
 
 import os
@@ -14,7 +16,7 @@ import sys
 
 from cases import FOLDER, TESTS, content, lines_of
 from check import Check, Each, run
-from pairs import pair
+from pairs import move_pair, pair
 from streams import FULL_REPORT, READ_FAULT, UNREAD_PIPE, USAGE, MemoryCheck
 
 sys.path.insert(0, os.path.join(os.path.dirname(TESTS), "explain"))
@@ -25,12 +27,15 @@ NAMES = ("given.cli", "given.gcode")
 WORDS = [b"verify", *map(str.encode, NAMES)]
 # The case of which both files are cut, and the pairs of a check.
 CUT, PAIRS_EACH = "plan_of_children_by_number", 24
+# Outlines of two layers, with hatches in the lower one.
+HATCHED = ["$$HEADERSTART", "$$ASCII", "$$UNITS/0.001", "$$VERSION/200", "$$LAYERS/2", "$$HEADEREND", "$$GEOMETRYSTART",
+           "$$LAYER/200", "$$HATCHES/1,1,1,2,3,4", "$$POLYLINE/1,1,4,0,0,9,0,0,9,0,0", "$$LAYER/400", "$$GEOMETRYEND"]
 FILE_LIMIT = 268_435_456
 FILE_LONG = b"budget 12 FileLong\n"
 
 
 def verdict_checks():
-    return [*of_plans(), *cuts(), *random_pairs(), *streams(), *names(), *long(), memory()]
+    return [*of_plans(), *cuts(), lines_of_hatches(), *by_dice(), *streams(), *names(), *long(), memory()]
 
 
 def judged(name, files, status=0, report=b"", settings=None, words=WORDS, **more):
@@ -126,15 +131,29 @@ def cuts():
     return [Each(f"verify_{name.replace('.', '_')}_cut_at_each_line", it) for name, it in checks.items()]
 
 
-def random_pairs():
+def lines_of_hatches():
+    """Outlines with one more line of hatches, which may be faulty, or out of its place."""
+    checks = {}
+    for (before, line), status, report in rows_of("hatches", 2):
+        told = line.encode().decode("unicode_escape")
+        lines = [*HATCHED[:int(before)], told, *HATCHED[int(before):]]
+        checks[f"{line} behind {before} lines"] = judged("", ("".join(f"{it}\n" for it in lines).encode(), b""), status, report)
+    return Each("verify_lines_of_hatches", checks)
+
+
+def by_dice():
     """Pairs of files by chance, some of them in each check."""
-    rows, checks = list(rows_of("pairs", 1)), []
+    return [*random_pairs("pairs", pair), *random_pairs("moves", move_pair)]
+
+
+def random_pairs(table, made):
+    rows, checks = list(rows_of(table, 1)), []
     for start in range(0, len(rows), PAIRS_EACH):
         some = {}
         for (number,), status, report in rows[start:start + PAIRS_EACH]:
-            *files, width = pair(int(number))
+            *files, width = made(int(number))
             some[f"pair {number}"] = judged("", files, status, report, b"line_width = %d\n" % width)
-        checks.append(Each(f"verify_pairs_from_{start + 1}", some))
+        checks.append(Each(f"verify_{table}_from_{start + 1}", some))
     return checks
 
 

@@ -1,0 +1,2 @@
+echo(1);
+linear_extrude(2) square(1);

@@ -1,0 +1,1 @@
+translate([0, 0, -5]) cube(1);

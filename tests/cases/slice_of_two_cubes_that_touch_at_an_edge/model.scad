@@ -1,0 +1,2 @@
+cube(1);
+translate([1, 1, 0]) cube(1);
