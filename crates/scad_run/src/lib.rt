@@ -15,6 +15,4 @@ mod settings;
 mod whole_run;
 mod work;
 
-pub use evaluation::evaluate;
-pub use sample::sampled;
 pub use whole_run::run;
