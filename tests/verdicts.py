@@ -6,7 +6,11 @@
                program is another one, a coordinate that is 1, 2, 10 or 1000 micrometres greater or less
     cuts       FILE LINES STATUS REPORT: of two files, one ends after so many lines; with `-` behind their number
                without the last one's end
-    hatches    LINES LINE STATUS REPORT: of outlines of two layers with another line behind so many lines, as escapes have it
+    outlines   LINE TEXT STATUS REPORT: of outlines with this text, as escapes have it, in place of the line of this number,
+               or with `+` behind it
+    lines      LINE BOX PROBE STATUS REPORT: of a line of a printing program, behind one that sets the place to 1, 2 and 3 mm and
+               the amount to 4, and before one that shows where it led, for lines of 100 micrometres. The outlines are a box: its
+               height, and its least and its greatest corner
     pairs      NUMBER STATUS REPORT: of the pair of files of `pairs.py` with this number
     moves      NUMBER STATUS REPORT: of its outlines that cross, and a single move, with this number; of half of them it is inside
 """
@@ -27,15 +31,16 @@ NAMES = ("given.cli", "given.gcode")
 WORDS = [b"verify", *map(str.encode, NAMES)]
 # The case of which both files are cut, and the pairs of a check.
 CUT, PAIRS_EACH = "plan_of_children_by_number", 24
-# Outlines of two layers, with hatches in the lower one.
-HATCHED = ["$$HEADERSTART", "$$ASCII", "$$UNITS/0.001", "$$VERSION/200", "$$LAYERS/2", "$$HEADEREND", "$$GEOMETRYSTART",
-           "$$LAYER/200", "$$HATCHES/1,1,1,2,3,4", "$$POLYLINE/1,1,4,0,0,9,0,0,9,0,0", "$$LAYER/400", "$$GEOMETRYEND"]
+# Outlines of two layers, the lower one with two loops.
+OUTLINES = ["$$HEADERSTART", "$$ASCII", "$$UNITS/0.001", "$$VERSION/200", "$$LAYERS/2", "$$HEADEREND", "$$GEOMETRYSTART",
+            "$$LAYER/200", "$$POLYLINE/1,1,5,0,0,1000,0,1000,1000,0,1000,0,0", "$$POLYLINE/1,0,4,10,10,20,20,20,10,10,10",
+            "$$LAYER/400", "$$POLYLINE/1,1,4,-5,-5,5,-5,0,5,-5,-5", "$$GEOMETRYEND"]
 FILE_LIMIT = 268_435_456
 FILE_LONG = b"budget 12 FileLong\n"
 
 
 def verdict_checks():
-    return [*of_plans(), *cuts(), lines_of_hatches(), *by_dice(), *streams(), *names(), *long(), memory()]
+    return [*of_plans(), *cuts(), other_outlines(), lines_of_programs(), *by_dice(), *streams(), *names(), *long(), memory()]
 
 
 def judged(name, files, status=0, report=b"", settings=None, words=WORDS, **more):
@@ -131,14 +136,37 @@ def cuts():
     return [Each(f"verify_{name.replace('.', '_')}_cut_at_each_line", it) for name, it in checks.items()]
 
 
-def lines_of_hatches():
-    """Outlines with one more line of hatches, which may be faulty, or out of its place."""
+def other_outlines():
+    """Outlines in which one line is another one, or more lines, or none."""
     checks = {}
-    for (before, line), status, report in rows_of("hatches", 2):
-        told = line.encode().decode("unicode_escape")
-        lines = [*HATCHED[:int(before)], told, *HATCHED[int(before):]]
-        checks[f"{line} behind {before} lines"] = judged("", ("".join(f"{it}\n" for it in lines).encode(), b""), status, report)
-    return Each("verify_lines_of_hatches", checks)
+    for (number, text), status, report in rows_of("outlines", 2):
+        lines = [f"{it}\n".encode() for it in OUTLINES]
+        at = int(number.rstrip("+"))
+        lines[at - ("+" not in number):at] = [told(text)]
+        checks[f"line {number} {text}"] = judged("", (b"".join(lines), b""), status, report)
+    return Each("verify_outlines_of_other_lines", checks)
+
+
+def told(text):
+    """The bytes of a text with escapes."""
+    told = text.encode().decode("unicode_escape")
+    return told.encode("utf-8" if "\\u" in text else "latin-1")
+
+
+def lines_of_programs():
+    """A line of a program: whether it is of the form, and where it leaves the head and the amount."""
+    checks = {}
+    for (line, box, probe), status, report in rows_of("lines", 3):
+        program = b"G92 X1 Y2 Z3 E4\n%s\n%s\n" % (told(line), told(probe))
+        checks[f"{line} before {probe}"] = judged("", (outlines_of(box), program), status, report, b"line_width = 100\n")
+    return Each("verify_lines_of_a_program", checks)
+
+
+def outlines_of(box):
+    z, left, low, right, high = box.split(",")
+    loop = f"$$POLYLINE/1,1,5,{left},{low},{right},{low},{right},{high},{left},{high},{left},{low}"
+    lines = [*OUTLINES[:4], "$$LAYERS/1", *OUTLINES[5:7], f"$$LAYER/{z}", loop, OUTLINES[-1]]
+    return "".join(f"{it}\n" for it in lines).encode()
 
 
 def by_dice():
