@@ -1,9 +1,10 @@
-"""Checks of command lines and of texts of settings, a line of a table each.
+"""Checks of command lines, of texts of settings and of short sources, a line of a table each.
 
 `lines/` has what must come of them, by a plain program that shares nothing with this one:
 
     words       LINE STATUS REPORT: of these words, parted by `_`, over files of short and of odd names
     settings    TEXT STATUS REPORT: of a plan by settings of this text, as escapes have it
+    sources     TEXT STATUS REPORT: of `check` over a source that is refused
 """
 
 import os
@@ -30,7 +31,8 @@ SETTINGS = dict.fromkeys(("s", "t", "s=t", "1", "verify"), QUICK)
 def line_checks():
     words = {line: run_of(line.split("_"), status, report) for line, status, report in rows_of("words")}
     settings = {text: planned_by(text, status, report) for text, status, report in rows_of("settings")}
-    return [Each("words_of_each_line", words), Each("settings_of_each_text", settings)]
+    sources = {text: checked(text, status, report) for text, status, report in rows_of("sources")}
+    return [Each("words_of_each_line", words), Each("settings_of_each_text", settings), Each("refusals_of_each_source", sources)]
 
 
 def rows_of(table):
@@ -58,4 +60,8 @@ def planned_by(text, status, report):
     """A plan by settings, of which nothing is kept but the report."""
     words = [b"plan", b"m.scad", b"/dev/null", b"/dev/./null", b"--settings", b"s.toml"]
     return Check("", words, status, report, {"m.scad": SHELF, "s.toml": told(text)})
+
+
+def checked(text, status, report):
+    return Check("", [b"check", b"m.scad"], status, report, {"m.scad": told(text)})
 

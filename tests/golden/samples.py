@@ -1,4 +1,4 @@
-# the numbers of toolpath_samples' random tests, by scadref: square first (to compare), then the octagon
+# the numbers of the random toolpaths of outline_samples, by scadref: square first (to compare), then the octagon
 import sys
 sys.path.insert(0, __import__("os").environ["SCADREF"])
 from collections import namedtuple

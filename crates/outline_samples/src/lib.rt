@@ -1,5 +1,5 @@
-//! Worked examples of outlines: heights, slabs, fronts of sweeps, pieces of borders, loops and whole layers. It promises
-//! nothing: it is a crate of tests, so that the crates that it tries are proved once.
+//! Worked examples of outlines: heights, slabs, fronts of sweeps, pieces of borders, loops, whole layers, and the toolpaths of
+//! such as cross. It promises nothing: it is a crate of tests, so that the crates that it tries are proved once.
 #![tactic(auto, using(scad_geom::proofs::Casts::casts))]
 
 #[cfg(test)]
@@ -13,6 +13,8 @@ mod levels;
 #[cfg(test)]
 mod loops;
 #[cfg(test)]
+mod meetings;
+#[cfg(test)]
 mod pieces;
 #[cfg(test)]
 mod random_borders;
@@ -20,6 +22,8 @@ mod random_borders;
 mod random_fronts;
 #[cfg(test)]
 mod random_outlines;
+#[cfg(test)]
+mod random_toolpaths;
 #[cfg(test)]
 mod rectangles;
 #[cfg(test)]

@@ -1,0 +1,130 @@
+//! Edges that touch squares and octagons or just miss them, and outlines that wind round points.
+use crate::cases::expect;
+use scad_geom::{Edge, Half, Pt, box_meets, winding};
+use scad_ring::octagon_meets;
+
+const FALLING: Edge = Edge {
+    a: Pt { x: 0, y: 10 },
+    b: Pt { x: 10, y: 0 },
+};
+
+const RISING: Edge = Edge {
+    a: Pt { x: 0, y: 0 },
+    b: Pt { x: 40, y: 10 },
+};
+
+const STEEP_LEFT: Edge = Edge {
+    a: Pt { x: 0, y: 0 },
+    b: Pt { x: -10, y: 40 },
+};
+
+/// Points, how wide the square round them is, and whether it meets the falling edge.
+const SQUARES: [(i32, i32, Half, u32, bool); 7] = [
+    (0, 0, Half::Whole, 5, true),
+    (0, 0, Half::Whole, 4, false),
+    (0, 0, Half::Cell, 4, false),
+    (0, 1, Half::Cell, 4, true),
+    (-1, 14, Half::Whole, 4, true),
+    (-1, 14, Half::Whole, 3, false),
+    (4, 6, Half::Whole, 0, true),
+];
+
+/// The same of edges and octagons. Each row stands at a border: a neighbouring point has the other answer.
+const OCTAGONS: [(Edge, i32, i32, Half, u32, u32, bool); 18] = [
+    (FALLING, -3, 8, Half::Cell, 3, 4, true),
+    (FALLING, 2, 12, Half::Cell, 3, 4, false),
+    (FALLING, 6, -4, Half::Cell, 5, 7, true),
+    (FALLING, 12, 5, Half::Cell, 5, 7, false),
+    (FALLING, -1, 9, Half::Whole, 4, 2, true),
+    (FALLING, 9, -3, Half::Cell, 4, 2, false),
+    (RISING, -3, -2, Half::Cell, 3, 4, true),
+    (RISING, 0, 3, Half::Cell, 3, 4, false),
+    (RISING, -4, 3, Half::Whole, 5, 7, true),
+    (RISING, -5, -4, Half::Cell, 5, 7, false),
+    (RISING, 9, 4, Half::Whole, 4, 2, true),
+    (RISING, -3, 0, Half::Whole, 4, 2, false),
+    (STEEP_LEFT, 1, 7, Half::Whole, 3, 4, true),
+    (STEEP_LEFT, 2, 6, Half::Whole, 3, 4, false),
+    (STEEP_LEFT, -6, 1, Half::Cell, 5, 7, true),
+    (STEEP_LEFT, 6, -2, Half::Whole, 5, 7, false),
+    (STEEP_LEFT, -5, 13, Half::Whole, 4, 2, true),
+    (STEEP_LEFT, -3, 0, Half::Cell, 4, 2, false),
+];
+
+#[test]
+fn squares_and_octagons_meet_edges_that_touch_them(rt: HostRuntime) {
+    for &(x, y, half, width, meets) in &SQUARES {
+        let found = box_meets(&FALLING, Pt { x, y }, half, width);
+        expect(&rt, found == meets, "a square and an edge");
+    }
+    for &(edge, x, y, half, s, u, meets) in &OCTAGONS {
+        let found = octagon_meets(&edge, Pt { x, y }, half, s, u);
+        expect(&rt, found == meets, "an octagon and an edge");
+    }
+}
+
+/// A five-pointed star.
+const STAR: [Edge; 5] = [
+    Edge {
+        a: Pt { x: 0, y: 10 },
+        b: Pt { x: -6, y: -8 },
+    },
+    Edge {
+        a: Pt { x: -6, y: -8 },
+        b: Pt { x: 9, y: 3 },
+    },
+    Edge {
+        a: Pt { x: 9, y: 3 },
+        b: Pt { x: -9, y: 3 },
+    },
+    Edge {
+        a: Pt { x: -9, y: 3 },
+        b: Pt { x: 6, y: -8 },
+    },
+    Edge {
+        a: Pt { x: 6, y: -8 },
+        b: Pt { x: 0, y: 10 },
+    },
+];
+
+const FAR: i32 = 1_100_000;
+
+const DIAGONAL: [Edge; 1] = [Edge {
+    a: Pt { x: -FAR, y: -FAR },
+    b: Pt { x: FAR, y: FAR },
+}];
+
+/// Points, and how often the star winds round them.
+const TURNS: [(i32, i32, Half, i64); 9] = [
+    (0, 0, Half::Whole, 2),
+    (0, 0, Half::Cell, 2),
+    (0, 9, Half::Whole, 1),
+    (0, 9, Half::Cell, 0),
+    (-6, -8, Half::Whole, 0),
+    (-6, -8, Half::Cell, 1),
+    (2, 3, Half::Whole, 1),
+    (2, 3, Half::Cell, 0),
+    (9, 3, Half::Whole, 0),
+];
+
+/// The same of the widest edge.
+const PASSES: [(i32, i32, Half, i64); 6] = [
+    (FAR - 1, FAR - 1, Half::Whole, 0),
+    (FAR - 2, FAR - 1, Half::Cell, 1),
+    (FAR - 1, FAR - 1, Half::Cell, 0),
+    (-FAR, -FAR, Half::Whole, 0),
+    (-FAR, 1 - FAR, Half::Whole, 1),
+    (-FAR, FAR, Half::Whole, 0),
+];
+
+#[test]
+fn a_star_winds_twice_round_its_middle(rt: HostRuntime) {
+    for &(x, y, half, turns) in &TURNS {
+        let found = winding(&STAR, Pt { x, y }, half);
+        expect(&rt, found == turns, "a star");
+    }
+    for &(x, y, half, turns) in &PASSES {
+        let found = winding(&DIAGONAL, Pt { x, y }, half);
+        expect(&rt, found == turns, "the widest edge");
+    }
+}

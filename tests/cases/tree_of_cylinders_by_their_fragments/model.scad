@@ -1,0 +1,12 @@
+cylinder(h = 1, r = 5, $fn = 0, $fa = 12, $fs = 2);
+cylinder(h = 1, r = 0.0005, $fn = 0, $fa = 12, $fs = 2);
+cylinder(h = 1, r = 0.001, $fn = 0, $fa = 12, $fs = 2);
+cylinder(h = 1, r = 5, $fn = 24, $fa = 12, $fs = 2);
+cylinder(h = 1, r = 5, $fn = 2.9, $fa = 12, $fs = 2);
+cylinder(h = 1, r = 5, $fn = 10001, $fa = 12, $fs = 2);
+cylinder(h = 1, r = 100, $fn = 0, $fa = 12, $fs = 2);
+cylinder(h = 1, r = 100, $fn = 0, $fa = 1, $fs = 0.5);
+cylinder(h = 1, r = 1, $fn = 0, $fa = 12, $fs = 2);
+cylinder(h = 1, r = 3, $fn = 0, $fa = 12, $fs = 0.005);
+cylinder(h = 1, r = 7.5, $fn = -3, $fa = 12, $fs = 2);
+cylinder(h = 1, r = 7.5, $fn = 0, $fa = -12, $fs = 2);
