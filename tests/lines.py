@@ -1,20 +1,23 @@
-"""Checks of command lines, of texts of settings and of short sources, a line of a table each.
+"""Checks of command lines, of texts of settings and of sources, a line of a table each.
 
-`lines/` has what must come of them, by a plain program that shares nothing with this one:
+`lines/` has what must come of them, by a plain program that shares nothing with this one. Texts are told with escapes:
 
     words       LINE STATUS REPORT: of these words, parted by `_`, over files of short and of odd names
-    settings    TEXT STATUS REPORT: of a plan by settings of this text, as escapes have it
-    sources     TEXT STATUS REPORT: of `check` over a source that is refused
+    settings    TEXT STATUS REPORT: of a plan by settings of this text
+    sources     TEXT STATUS REPORT: of `check` over this source
+    nested      FRONT OPENING MIDDLE CLOSING BACK TIMES STATUS REPORT: of a source in which a construct stands in itself so
+                many times, as often as it may and once more
+    fronts      LENGTH STATUS REPORT: of so many bytes of the phone stand
 """
 
 import os
 import sys
 
-from cases import TESTS
+from cases import EXAMPLES, TESTS, content
 from check import Check, Each, Exactly
 from plans import QUICK, printed
 from streams import CUBE, outlines
-from verdicts import files, told
+from verdicts import files, rows_of, told
 
 sys.path.insert(0, os.path.join(os.path.dirname(TESTS), "explain"))
 
@@ -29,23 +32,26 @@ SETTINGS = dict.fromkeys(("s", "t", "s=t", "1", "verify"), QUICK)
 
 
 def line_checks():
-    words = {line: run_of(line.split("_"), status, report) for line, status, report in rows_of("words")}
-    settings = {text: planned_by(text, status, report) for text, status, report in rows_of("settings")}
-    sources = {text: checked(text, status, report) for text, status, report in rows_of("sources")}
-    return [Each("words_of_each_line", words), Each("settings_of_each_text", settings), Each("refusals_of_each_source", sources)]
+    stand = content(os.path.join(EXAMPLES, "stand.scad"))
+    return [
+        of_rows("words", 1, run_of),
+        of_rows("settings", 1, planned_by),
+        of_rows("sources", 1, lambda text, *end: checked(told(text), *end)),
+        of_rows("nested", 6, lambda *row: checked(nested(*row[:6]), *row[6:])),
+        of_rows("fronts", 1, lambda length, *end: checked(stand[:int(length)], *end)),
+    ]
 
 
-def rows_of(table):
-    """The rows of a table: a word, the status, and the report."""
-    with open(os.path.join(TESTS, "lines", table), encoding="utf-8") as file:
-        for row in file:
-            line, status, report = row.rstrip("\n").split(" ", 2)
-            yield line, int(status), report.encode() + b"\n"
+def of_rows(table, width, check_of):
+    """The checks of a table, each by its words."""
+    rows = rows_of(table, width, "lines")
+    return Each(f"lines_of_{table}", {" ".join(words): check_of(*words, status, report) for words, status, report in rows})
 
 
-def run_of(words, status, report):
+def run_of(line, status, report):
     """A run of these words. Where it is done, its outputs are those of a cube, in thick layers by settings."""
-    given = (JUDGED if words[:1] == ["verify"] else MODELS) | SETTINGS
+    words = line.split("_")
+    given = (JUDGED if words[0] == "verify" else MODELS) | SETTINGS
     left = written(job_of(words)) if report.startswith(b"done: ") else {}
     return Check("", [it.encode() for it in words], status, report, given, left=left)
 
@@ -62,6 +68,10 @@ def planned_by(text, status, report):
     return Check("", words, status, report, {"m.scad": SHELF, "s.toml": told(text)})
 
 
-def checked(text, status, report):
-    return Check("", [b"check", b"m.scad"], status, report, {"m.scad": told(text)})
+def checked(source, status, report):
+    return Check("", [b"check", b"m.scad"], status, report, {"m.scad": source})
 
+
+def nested(front, opening, middle, closing, back, times):
+    parts = [front, *[opening] * int(times), middle, *[closing] * int(times), back]
+    return told("".join(parts))

@@ -1,6 +1,6 @@
 """Checks of the commands that only report, `check` and `tree`: statuses, streams, lines of `echo`."""
 
-from check import Each, FrontOf
+from check import FrontOf
 from streams import CUBE, FULL_REPORT, LINES, MANY_LINES, READ_FAULT, SLOW_PIPE, SOURCE_LIMIT, SOURCE_LONG
 from streams import UNREAD_PIPE, USAGE, MemoryCheck, of_bytes, refused, told
 
@@ -12,7 +12,7 @@ STDIN = b"/dev/stdin"
 
 def report_checks():
     of_both = (well, badly, usage, read, write)
-    return [it for command in TOLD for checks in of_both for it in checks(command)] + [fronts()] + long() + memory()
+    return [it for command in TOLD for checks in of_both for it in checks(command)] + long() + memory()
 
 
 def asked(command, name, status, report, model=b"m.scad", source=None, **more):
@@ -101,13 +101,6 @@ def write(command):
         asked(command, "usage_on_a_full_device", 5, b"", words=[command.encode()], shell=FULL_REPORT),
         asked(command, "lines_past_a_limit_on_files", 5, b"", source=MANY_LINES, shell=room, left=some),
     ]
-
-
-def fronts():
-    """Each front of a source ends early: the fault stands behind its last byte."""
-    source = b"difference(){cube(10); translate([2,2,-1]) cube([6,6,12]);}"
-    at = lambda length: asked("check", "", 1, b"fault 2 Syntax at 1:%d\n" % (length + 1), source=source[:length])
-    return Each("check_of_each_front_of_a_source", {f"{it} bytes": at(it) for it in range(1, len(source))})
 
 
 def filled(piece):

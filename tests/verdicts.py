@@ -50,9 +50,9 @@ def judged(name, files, status=0, report=b"", settings=None, words=WORDS, **more
     return Check(f"verify_{name}", [*words, *options], status, report, **{"given": given, **more})
 
 
-def rows_of(table, width):
+def rows_of(table, width, folder="verdicts"):
     """The rows of a table: so many words, the status, and the report."""
-    with open(os.path.join(TESTS, "verdicts", table), encoding="utf-8") as file:
+    with open(os.path.join(TESTS, folder, table), encoding="utf-8") as file:
         for line in file:
             *words, status, report = line.rstrip("\n").split(" ", width + 1)
             yield words, int(status), report.encode() + b"\n"
@@ -148,9 +148,12 @@ def other_outlines():
 
 
 def told(text):
-    """The bytes of a text with escapes."""
+    """The bytes of a text with escapes, of which those of one byte stand for it."""
     told = text.encode().decode("unicode_escape")
-    return told.encode("utf-8" if "\\u" in text else "latin-1")
+    try:
+        return told.encode("latin-1")
+    except UnicodeEncodeError:
+        return told.encode()
 
 
 def lines_of_programs():
