@@ -2,7 +2,7 @@
 
 use crate::cases::expect;
 use sample_dice::Dice;
-use scad_hull::{HullFault, Ring2, ring_hull};
+use scad_hull::{Ring2, ring_hull};
 use scad_num::Num;
 use std::alloc::{AllocError, Global};
 
@@ -71,37 +71,5 @@ fn corners_at_the_limit_are_exact(rt: HostRuntime) {
         &rt,
         ring.as_slice() == wanted.as_slice(),
         "the outer points",
-    );
-}
-
-/// So many points of a grid of 1,000 columns, and the first of them once more.
-fn grid(alloc: Global, count: i32) -> Result<Vec<(Num, Num)>, AllocError> {
-    let mut points = Vec::new(alloc);
-    points.push(pair(0, 0))?;
-    for i in 0..count {
-        let x = i64::from(i);
-        points.push((Num::within(x % 1000), Num::within(x / 1000)))?;
-    }
-    Ok(points)
-}
-
-#[test]
-fn more_than_20000_distinct_points_are_refused(rt: HostRuntime) {
-    let some = grid(rt.alloc(), 20_000).expect(&rt, "points");
-    let ring = ring_hull(rt.alloc(), some.as_slice())
-        .expect(&rt, "a hull")
-        .expect(&rt, "a ring");
-    let wanted = [pair(0, 0), pair(999, 0), pair(999, 19), pair(0, 19)];
-    expect(
-        &rt,
-        ring.as_slice() == wanted.as_slice(),
-        "20,000 points are taken",
-    );
-    let more = grid(rt.alloc(), 20_001).expect(&rt, "points");
-    let refused = ring_hull(rt.alloc(), more.as_slice());
-    expect(
-        &rt,
-        matches!(&refused, Err(HullFault::Points(20_001))),
-        "20,001 points are refused",
     );
 }

@@ -78,46 +78,6 @@ fn rolled_points_have_the_hulls_of_the_definition(rt: HostRuntime) {
 /// What another program makes of the same sets, 96 of which lie in one plane.
 const SUM: u64 = 2789694500840320306;
 
-/// Puts the corners of a box to other points.
-fn push_box(points: &mut Vec<Pt3>, least: Pt3, most: Pt3) -> Result<(), AllocError> {
-    points.push(at(least.x, least.y, least.z))?;
-    points.push(at(most.x, least.y, least.z))?;
-    points.push(at(least.x, most.y, least.z))?;
-    points.push(at(most.x, most.y, least.z))?;
-    points.push(at(least.x, least.y, most.z))?;
-    points.push(at(most.x, least.y, most.z))?;
-    points.push(at(least.x, most.y, most.z))?;
-    points.push(at(most.x, most.y, most.z))?;
-    Ok(())
-}
-
-#[test]
-fn two_cubes_apart_lie_in_one_box(rt: HostRuntime) {
-    let mut points = Vec::new(rt.alloc());
-    push_box(&mut points, at(0, 0, 0), at(1000, 1000, 1000)).expect(&rt, "room");
-    push_box(&mut points, at(2000, 0, 0), at(3000, 1000, 1000)).expect(&rt, "room");
-    let solid = hull_of(rt.alloc(), points.as_slice())
-        .expect(&rt, "a hull")
-        .expect(&rt, "a solid");
-    expect(&rt, solid.count() == 12, "the triangles of a box");
-    expect(
-        &rt,
-        with_solid(0, &solid) == BOX_SUM,
-        "the faces of the box",
-    );
-}
-
-/// What another program makes of the six faces of the box.
-const BOX_SUM: u64 = 1900959114043614560;
-
-#[test]
-fn a_square_has_no_hull_in_space(rt: HostRuntime) {
-    let mut points = Vec::new(rt.alloc());
-    push_box(&mut points, at(0, 0, 0), at(1000, 1000, 0)).expect(&rt, "room");
-    let solid = hull_of(rt.alloc(), points.as_slice()).expect(&rt, "a hull");
-    expect(&rt, solid.is_none(), "no solid of a square");
-}
-
 /// A pyramid of the greatest size, with a point just below its top and one just above the middle of its base.
 #[test]
 fn corners_at_the_limit_are_exact(rt: HostRuntime) {
@@ -144,29 +104,3 @@ fn corners_at_the_limit_are_exact(rt: HostRuntime) {
 
 /// What another program makes of the five faces of the pyramid.
 const PYRAMID_SUM: u64 = 1107245066618153248;
-
-/// So many points of a grid of 100 by 100 columns, and the first of them once more.
-fn grid(alloc: Global, count: i32) -> Result<Vec<Pt3>, AllocError> {
-    let mut points = Vec::new(alloc);
-    points.push(at(0, 0, 0))?;
-    for i in 0..count {
-        points.push(at(i % 100, i / 100 % 100, i / 10_000))?;
-    }
-    Ok(points)
-}
-
-#[test]
-fn more_than_20000_distinct_points_are_refused(rt: HostRuntime) {
-    let some = grid(rt.alloc(), 20_000).expect(&rt, "points");
-    let solid = hull_of(rt.alloc(), some.as_slice())
-        .expect(&rt, "a hull")
-        .expect(&rt, "a solid");
-    expect(&rt, solid.count() == 12, "20,000 points are taken");
-    let more = grid(rt.alloc(), 20_001).expect(&rt, "points");
-    let refused = hull_of(rt.alloc(), more.as_slice());
-    expect(
-        &rt,
-        matches!(&refused, Err(HullFault::Points(20_001))),
-        "20,001 points are refused",
-    );
-}
