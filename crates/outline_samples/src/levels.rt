@@ -4,7 +4,6 @@ ghost use Rattle.scad_geom.specs.Limits.{coordinate_limit};
 ghost use Rattle.scad_geom.specs.Within.{IsWithin, IsEdgeWithin};
 
 use crate::cases::expect;
-use crate::crossings::push_copies;
 use scad_geom::{Edge, LeafEdge, Level, Pt, cmp_level};
 use slice_events::{levels, levels_counted};
 use std::alloc::{AllocError, Global};
@@ -80,6 +79,17 @@ fn corner(right: u16, square: u16, above: u16) -> Pt
     }
 }
 
+fn push_edge(edges: &mut Vec<LeafEdge>, a: Pt, b: Pt) -> Result<(), AllocError>
+    requires edges { All (λ e. IsEdgeWithin coordinate_limit e.edge) edges.old.items }
+    requires a { IsWithin coordinate_limit a }
+    requires b { IsWithin coordinate_limit b }
+    ensures { OnOk result (All (λ e. IsEdgeWithin coordinate_limit e.edge) edges.new.items) }
+{
+    let edge = Edge { a, b };
+    edges.push(LeafEdge { leaf: 0, edge })?;
+    Ok(())
+}
+
 fn push_square(edges: &mut Vec<LeafEdge>, square: u16) -> Result<(), AllocError>
     requires edges { All (λ e. IsEdgeWithin coordinate_limit e.edge) edges.old.items }
     requires square { square < 2000 }
@@ -87,10 +97,10 @@ fn push_square(edges: &mut Vec<LeafEdge>, square: u16) -> Result<(), AllocError>
 {
     let (left, right) = (corner(0, square, 0), corner(400, square, 0));
     let (upper_left, upper_right) = (corner(0, square, 400), corner(400, square, 400));
-    push_copies(edges, 1, left, right)?;
-    push_copies(edges, 1, right, upper_right)?;
-    push_copies(edges, 1, upper_right, upper_left)?;
-    push_copies(edges, 1, upper_left, left)
+    push_edge(edges, left, right)?;
+    push_edge(edges, right, upper_right)?;
+    push_edge(edges, upper_right, upper_left)?;
+    push_edge(edges, upper_left, left)
 }
 
 // Two thousand squares of 400 a side, one above another.

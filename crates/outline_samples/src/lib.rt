@@ -1,13 +1,9 @@
-//! Worked examples of outlines: heights, slabs, fronts of sweeps, pieces of borders, loops, whole layers, and the toolpaths of
-//! such as cross. It promises nothing: it is a crate of tests, so that the crates that it tries are proved once.
+//! Worked examples of outlines: heights, slabs, fronts of sweeps, pieces of borders, loops, and the toolpaths of such as cross.
+//! It promises nothing: it is a crate of tests, so that the crates that it tries are proved once.
 #![tactic(auto, using(scad_geom::proofs::Casts::casts))]
 
 #[cfg(test)]
 mod cases;
-#[cfg(test)]
-mod crossings;
-#[cfg(test)]
-mod layers;
 #[cfg(test)]
 mod levels;
 #[cfg(test)]
@@ -24,8 +20,6 @@ mod random_fronts;
 mod random_outlines;
 #[cfg(test)]
 mod random_toolpaths;
-#[cfg(test)]
-mod rectangles;
 #[cfg(test)]
 mod rising_heights;
 #[cfg(test)]

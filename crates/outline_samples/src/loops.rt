@@ -122,47 +122,6 @@ const STRAIGHT: [(&str, &str); 5] = [
 // A spike that vanishes, a loop of two edges, one of one edge.
 const FLAT: [(&str, &str); 3] = [("00204020", ""), ("1131", ""), ("33", "")];
 
-const LEAST: Pt = Pt {
-    x: i32::MIN,
-    y: i32::MIN,
-};
-
-const OTHERS: [Pt; 4] = [
-    Pt {
-        x: i32::MAX,
-        y: i32::MIN,
-    },
-    Pt {
-        x: i32::MAX,
-        y: i32::MAX,
-    },
-    Pt {
-        x: i32::MIN,
-        y: i32::MAX,
-    },
-    Pt { x: 0, y: 0 },
-];
-
-/// The outlines of one with these vertices.
-fn joined_of(alloc: Global, first: Pt, rest: &[Pt]) -> Result<Vec<Loop>, AllocError> {
-    let mut edges = sides(alloc, "")?;
-    push_sides(&mut edges, first, rest)?;
-    join(alloc, &edges)
-}
-
-#[test]
-fn coordinates_have_any_size(rt: HostRuntime) {
-    let outlines = joined_of(rt.alloc(), LEAST, &OTHERS).expect(&rt, "outlines");
-    let is_same = match outlines.as_slice() {
-        [outline] => match outline.as_slice() {
-            [first, rest @ ..] => *first == LEAST && rest == OTHERS.as_slice(),
-            [] => false,
-        },
-        _ => false,
-    };
-    expect(&rt, is_same, "an outline of coordinates of any size");
-}
-
 // Random outlines, and what the other program made of their sides.
 const RANDOM: [(&str, &str); 30] = [
     ("02410330 1121", "30024103"),

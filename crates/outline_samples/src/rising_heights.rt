@@ -2,112 +2,17 @@
 ghost use Rattle.std.specs.Prelude.{◌+◌, ◌<◌, ◌^◌, length, OnOk, All};
 ghost use Rattle.scad_geom.specs.Limits.{coordinate_limit};
 ghost use Rattle.scad_geom.specs.Within.{IsEdgeWithin};
-ghost use Rattle.scad_geom.specs.Level.{IsAtMost, IsLevelWithin};
+ghost use Rattle.scad_geom.specs.Level.{IsLevelWithin};
 ghost use Rattle.slice_events.specs.Levels.{AreLevels};
 ghost use Rattle.slice_slab.specs.Active.{IsReadyFor, StandsAt};
 ghost use Rattle.slice_bool.specs.Parts.{level_at};
 
-use crate::cases::expect;
 use crate::random_borders::roll_edges;
 use sample_dice::Dice;
-use scad_geom::{Edge, LeafEdge, Level, Pt};
+use scad_geom::{LeafEdge, Level};
 use slice_events::levels;
 use slice_slab::{Active, Bundle, slab};
 use std::alloc::{AllocError, Global};
-
-// One edge after another on one line, a flat one where they meet, and one beside both.
-const EDGES: [LeafEdge; 4] = [
-    LeafEdge {
-        leaf: 0,
-        edge: Edge {
-            a: Pt { x: 0, y: 4 },
-            b: Pt { x: 0, y: 8 },
-        },
-    },
-    LeafEdge {
-        leaf: 0,
-        edge: Edge {
-            a: Pt { x: 0, y: 4 },
-            b: Pt { x: 0, y: 0 },
-        },
-    },
-    LeafEdge {
-        leaf: 1,
-        edge: Edge {
-            a: Pt { x: 3, y: 4 },
-            b: Pt { x: 0, y: 4 },
-        },
-    },
-    LeafEdge {
-        leaf: 1,
-        edge: Edge {
-            a: Pt { x: 9, y: 0 },
-            b: Pt { x: 8, y: 8 },
-        },
-    },
-];
-
-// The numbers of the edges that meet a height, after one that isn't above it, as they ascend.
-fn live_after(
-    alloc: Global,
-    edges: &[LeafEdge],
-    first: &Level,
-    at: &Level,
-) -> Result<Vec<u32>, AllocError>
-    requires edges { All (λ e. IsEdgeWithin coordinate_limit e.edge) edges.now }
-    requires few { length edges.now < 2 ^ 32 }
-    requires first { IsLevelWithin coordinate_limit first.now }
-    requires at { IsLevelWithin coordinate_limit at.now }
-    requires rises { IsAtMost first.now at.now }
-{
-    let mut active = Active::new(alloc, edges)?;
-    active.lift(edges, first)?;
-    active.lift(edges, at)?;
-    let mut live = Vec::from_slice(alloc, active.touching())?;
-    live.sort_unstable();
-    Ok(live)
-}
-
-fn is_live(alloc: Global, first: &Level, at: &Level, wanted: &[u32]) -> bool
-    requires first { IsLevelWithin coordinate_limit first.now }
-    requires at { IsLevelWithin coordinate_limit at.now }
-    requires rises { IsAtMost first.now at.now }
-{
-    match live_after(alloc, &EDGES, first, at) {
-        Ok(live) => live.as_slice() == wanted,
-        Err(_) => false,
-    }
-}
-
-#[test]
-fn an_edge_is_live_from_its_lower_end_on(rt: HostRuntime) {
-    let (below, lowest) = (Level { n: -1, d: 2 }, Level { n: 0, d: 1 });
-    expect(
-        &rt,
-        is_live(rt.alloc(), &below, &lowest, &[1, 3]),
-        "the edges that start at the lowest height",
-    );
-}
-
-#[test]
-fn edges_that_meet_at_a_height_are_live_there(rt: HostRuntime) {
-    let (lowest, middle) = (Level { n: 0, d: 1 }, Level { n: 8, d: 2 });
-    expect(
-        &rt,
-        is_live(rt.alloc(), &lowest, &middle, &[0, 1, 2, 3]),
-        "all edges at the middle height",
-    );
-}
-
-#[test]
-fn an_edge_is_live_up_to_its_upper_end(rt: HostRuntime) {
-    let (middle, above) = (Level { n: 8, d: 2 }, Level { n: 9, d: 2 });
-    expect(
-        &rt,
-        is_live(rt.alloc(), &middle, &above, &[0, 3]),
-        "the edges above the middle height",
-    );
-}
 
 // Whether two lists have the same bundles in the same order.
 fn are_same(some: &[Bundle], others: &[Bundle]) -> bool {

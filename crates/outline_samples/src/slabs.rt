@@ -75,18 +75,3 @@ fn bundles_go_by_x_and_then_by_slope(rt: HostRuntime) {
     .expect(&rt, "bundles");
     expect(&rt, are_bundles(&bundles, &BUNDLES), "the bundles in order");
 }
-
-#[test]
-fn bundles_lend_their_numbers(rt: HostRuntime) {
-    let numbers = Vec::from_slice(rt.alloc(), &[1, 3]).expect(&rt, "memory");
-    expect(
-        &rt,
-        Bundle::from_vec(numbers).as_slice() == [1, 3].as_slice(),
-        "two numbers",
-    );
-    expect(
-        &rt,
-        Bundle::of_one(7).as_slice() == [7].as_slice(),
-        "one number",
-    );
-}
