@@ -8,10 +8,12 @@ use std::process::Abort;
 use std::thread::Threads;
 
 /// The words of a run, its status where no call fails, the number of the call that writes its line of `echo`, which is also
-/// how many calls before it read, the first call that is to fail, and the one that writes the last line. `verify` and
-/// `sample` have no such line. A file that fails comes before the budget of a later layer, by however many workers it was
-/// met.
-const RUNS: [(&str, u8, u64, u64, u64); 15] = [
+/// how many calls before it read, the first call that is to fail, and the one that writes the last line.
+type Run = (&'static str, u8, u64, u64, u64);
+
+/// `verify` and `sample` have no line of `echo`. A file that fails comes before the budget of a later layer, by however many
+/// workers this was met.
+const RUNS: [Run; 15] = [
     ("check m.scad", 0, 3, 0, 4),
     ("check m.scad --settings s.toml", 0, 6, 0, 7),
     ("tree m.scad", 0, 3, 0, 4),
@@ -52,6 +54,8 @@ const SETTINGS: &[u8] = b"layer_height = 1000\nwalls = 1\ninfill_spacing = 0\n";
 const NO_LAYERS: &[u8] =
     b"$$HEADERSTART\n$$ASCII\n$$UNITS/0.001\n$$VERSION/200\n$$LAYERS/0\n$$HEADEREND\n$$GEOMETRYSTART\n$$GEOMETRYEND\n";
 
+const PROGRAM: &[u8] = b"G28\n";
+
 /// Runs the words over the source of this status, where the calls of these numbers fail.
 fn answer_to<R: Threads + Sync + Abort>(
     rt: &R,
@@ -66,7 +70,7 @@ fn answer_to<R: Threads + Sync + Abort>(
             ("m.scad", source),
             ("s.toml", SETTINGS),
             ("v.cli", NO_LAYERS),
-            ("v.gcode", b"G28\n"),
+            ("v.gcode", PROGRAM),
         ],
         fails,
         room: ROOM,
@@ -109,12 +113,12 @@ fn is_stopped(whole: &Answer, answer: &Answer, code: u8, report: &str) -> bool {
 fn left_by<R: Threads + Sync + Abort>(
     rt: &R,
     alloc: Global,
-    run: (&str, u8, u64, u64, u64),
+    run: Run,
     whole: &Answer,
     fails: &[u64],
     end: (u8, &str),
 ) -> (u64, usize, usize) {
-    let (words, status, ..) = run;
+    let (words, status, _, _, _) = run;
     let (code, report) = end;
     let answer = answer_to(rt, alloc, words, status, fails);
     holds(rt, is_stopped(whole, &answer, code, report), words);
@@ -127,7 +131,7 @@ fn left_by<R: Threads + Sync + Abort>(
 fn expect_stop<R: Threads + Sync + Abort>(
     rt: &R,
     alloc: Global,
-    run: (&str, u8, u64, u64, u64),
+    run: Run,
     whole: &Answer,
     call: u64,
 ) {

@@ -232,8 +232,14 @@ fn written(alloc: Global, cli: &Cli) -> Result<Vec<u8>, AllocError> {
 #[test]
 fn each_front_of_outlines_and_of_a_program(rt: HostRuntime) {
     let alloc = rt.alloc();
-    let outlines = whole_by_fronts(&rt, alloc, "o.cli", &OUTLINES, ("o.gcode", b""));
-    whole_by_fronts(&rt, alloc, "o.gcode", &PROGRAM, ("o.cli", &outlines));
+    let outlines = whole_by_fronts(&rt, alloc, "o.cli", &OUTLINES, ("o.gcode", b"".as_slice()));
+    whole_by_fronts(
+        &rt,
+        alloc,
+        "o.gcode",
+        &PROGRAM,
+        ("o.cli", outlines.as_slice()),
+    );
     let cli = read(alloc, &outlines).expect(&rt, "outlines");
     let text = written(alloc, &cli).expect(&rt, "memory");
     holds(

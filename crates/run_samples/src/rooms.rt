@@ -36,7 +36,7 @@ fn is_cut(whole: &Answer, answer: &Answer, room: usize) -> bool {
     let report = if room < longest {
         FAILED
     } else {
-        &whole.report
+        whole.report.as_slice()
     };
     answer.code == 5
         && answer.report.len() == room.min(report.len())
