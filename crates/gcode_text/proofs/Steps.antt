@@ -23,6 +23,16 @@ begins_more {a} x p e = record {
 pub begins_on : {a b c : List ℕ} → BeginsWith a b → BeginsWith b c → BeginsWith a c
 begins_on p q = begins_more q.rest p q.is
 
+pub begins_still : {a b c : List ℕ} → BeginsWith a b → c ≡ b → BeginsWith a c
+begins_still p e = record { rest = p.rest; is = e ∙ p.is }
+
+pub begins : {a b : List ℕ} (x : List ℕ) → b ≡ a ++ x → BeginsWith a b
+begins x e = record { rest = x; is = e }
+
+-- what is appended to an appended text
+pub behind : {b c : List ℕ} (a x y : List ℕ) → b ≡ a ++ x → c ≡ b ++ y → c ≡ a ++ (x ++ y)
+behind a x y p q = q ∙ ap (λ (zs : List ℕ). zs ++ y) p ∙ append_assoc a x y
+
 -- where an error is answered it holds what holds
 pub on_err : {T E : Type 0} (r : Result T E) (P : Type 0) → P → OnErr r P
 on_err (Ok x) P p = tt

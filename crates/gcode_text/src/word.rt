@@ -9,7 +9,6 @@ use scad_geom::Pt;
 use std::alloc::AllocError;
 
 // `G1 Xx Yy`
-#[tactic(auto, unfolding(crate::specs::Gcode::target))]
 fn push_target(out: &mut Vec<u8>, to: Pt) -> Result<(), AllocError>
     ensures ok { OnOk result (out.new.items ≡ out.old.items ++ target to) }
     ensures err { OnErr result (BeginsWith out.old.items out.new.items) }
@@ -21,7 +20,6 @@ fn push_target(out: &mut Vec<u8>, to: Pt) -> Result<(), AllocError>
 }
 
 // ` Ff` and the line's end
-#[tactic(auto, unfolding(crate::specs::Gcode::feed_end))]
 fn push_feed(out: &mut Vec<u8>, feed: u32) -> Result<(), AllocError>
     ensures ok { OnOk result (out.new.items ≡ out.old.items ++ feed_end feed) }
     ensures err { OnErr result (BeginsWith out.old.items out.new.items) }
@@ -43,7 +41,6 @@ pub fn push_travel(out: &mut Vec<u8>, rates: &Rates, to: Pt) -> Result<(), Alloc
 }
 
 // ` Ee`
-#[tactic(auto, unfolding(crate::specs::Gcode::amount))]
 fn push_amount(out: &mut Vec<u8>, e: u128) -> Result<(), AllocError>
     ensures ok { OnOk result (out.new.items ≡ out.old.items ++ amount e) }
     ensures err { OnErr result (BeginsWith out.old.items out.new.items) }
@@ -53,7 +50,6 @@ fn push_amount(out: &mut Vec<u8>, e: u128) -> Result<(), AllocError>
 }
 
 /// Appends the line of a move that extrudes up to the amount `e`, in hundred-thousandths of a millimetre.
-#[tactic(auto, unfolding(crate::specs::Gcode::print_line))]
 pub fn push_print(out: &mut Vec<u8>, rates: &Rates, to: Pt, e: u128) -> Result<(), AllocError>
     ensures ok { OnOk result (out.new.items ≡ out.old.items ++ print_line rates.now to e) }
     ensures err { OnErr result (BeginsWith out.old.items out.new.items) }
@@ -64,7 +60,6 @@ pub fn push_print(out: &mut Vec<u8>, rates: &Rates, to: Pt, e: u128) -> Result<(
 }
 
 /// Appends the line that goes to a height in micrometres.
-#[tactic(auto, unfolding(crate::specs::Gcode::height_line))]
 pub fn push_height(out: &mut Vec<u8>, rates: &Rates, z: u64) -> Result<(), AllocError>
     ensures ok { OnOk result (out.new.items ≡ out.old.items ++ height_line rates.now z) }
     ensures err { OnErr result (BeginsWith out.old.items out.new.items) }
@@ -75,7 +70,6 @@ pub fn push_height(out: &mut Vec<u8>, rates: &Rates, z: u64) -> Result<(), Alloc
 }
 
 /// Appends a command of a temperature in degrees Celsius.
-#[tactic(auto, unfolding(crate::specs::Gcode::heat_line))]
 pub fn push_heat(out: &mut Vec<u8>, command: &[u8], degrees: u32) -> Result<(), AllocError>
     ensures ok { OnOk result (out.new.items ≡ out.old.items ++ heat_line command.now degrees) }
     ensures err { OnErr result (BeginsWith out.old.items out.new.items) }
@@ -89,7 +83,6 @@ pub fn push_heat(out: &mut Vec<u8>, command: &[u8], degrees: u32) -> Result<(), 
 
 // The comment in front of a layer.
 /// Appends the comment with a layer's number.
-#[tactic(auto, unfolding(crate::specs::Gcode::number_line))]
 pub fn push_layer_number(out: &mut Vec<u8>, layer: u32) -> Result<(), AllocError>
     ensures ok { OnOk result (out.new.items ≡ out.old.items ++ number_line layer) }
     ensures err { OnErr result (BeginsWith out.old.items out.new.items) }

@@ -1,3 +1,4 @@
+pub mod CommandNames
 pub mod Subcommands
 pub mod Documents
 pub mod Ranges
