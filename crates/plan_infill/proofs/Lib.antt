@@ -15,4 +15,3 @@ pub mod Deciding
 pub mod StretchSearch
 pub mod SomeRuns
 pub mod Lengths
-pub mod Sizes

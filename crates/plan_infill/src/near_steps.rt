@@ -192,7 +192,6 @@ fn line_reach(e: &Edge, c: u32) -> i128
 
 // How far the corners of the octagon with the corner (s, t) reach to the sides of a way that doesn't fall, times its
 // length.
-#[tactic(auto, using(scad_geom::proofs::Casts::casts), unfolding(scad_ring::specs::Tests::breadth))]
 fn breadth(s: i128, t: i128, x: i128, y: i128) -> i128
     requires s { unsigned_abs s ≤ 2 ^ 32 }
     requires t { unsigned_abs t ≤ 2 ^ 32 }

@@ -1,6 +1,6 @@
--- The sizes of what is handed on.
-use Rattle.std.proofs.Common.{arith}
-use Rattle.plan_infill.proofs.Sizes.{sizes}
+-- The sizes of what is handed on, and what comes out.
+use Rattle.std.proofs.Common.{arith, rules}
+use Rattle.scad_geom.proofs.Casts.{casts, sizes}
 use Rattle.plan_infill.proofs.near_steps.around.Goals as goal
 
 pub lesser-requires-clause-a : goal.lesser-requires-clause-a
@@ -29,3 +29,9 @@ plus-requires-2 c = record { fits = omega (arith, sizes) }
 
 pub minus-requires-3 : goal.minus-requires-3
 minus-requires-3 c = record { fits = omega (arith, sizes) }
+
+pub returns-clause-from : goal.returns-clause-from
+returns-clause-from c = search (rules, casts)
+
+pub returns-clause-until : goal.returns-clause-until
+returns-clause-until c = search (rules, casts)

@@ -1,6 +1,9 @@
--- The sizes of what is handed on and of what comes out.
-use Rattle.std.proofs.Common.{arith}
-use Rattle.plan_infill.proofs.Sizes.{sizes}
+-- The sizes of what is handed on, and what comes out by the heading of the way.
+use Rattle.std.proofs.Common.{◌≡◌, ℤ, pos, ◌+ℤ◌, ◌-ℤ◌, ◌*ℤ◌, true, false, sym, ◌∙◌, refl, arith, rules, to_z, of_z}
+use Rattle.std.specs.Prelude.{int_le}
+use Rattle.std.specs.Int.{w128}
+use Rattle.scad_geom.proofs.Casts.{casts, sizes}
+use Rattle.plan_infill.proofs.Nearer.{by_direction}
 use Rattle.plan_infill.proofs.near_steps.breadth.Goals as goal
 
 pub times-requires-clause-left : goal.times-requires-clause-left
@@ -77,3 +80,48 @@ returns-then-x-ge0-clause-size c = omega (arith, sizes)
 
 pub returns-else-x-ge0-clause-size : goal.returns-else-x-ge0-clause-size
 returns-else-x-ge0-clause-size c = omega (arith, sizes)
+
+pub returns-then-y-x-clause-value : goal.returns-then-y-x-clause-value
+returns-then-y-x-clause-value c =
+    let s = c.args.s in
+    let t = c.args.t in
+    let x = c.args.x in
+    let y = c.args.y in
+    let p : int_le y x ≡ true = search (rules, casts) in
+    let e : to_z w128 (of_z w128 c.plus.result) ≡ s *ℤ x +ℤ t *ℤ y = search (rules, casts) in
+    e ∙ sym (by_direction s t x y true (int_le (x +ℤ y) (pos 0)) (int_le (pos 0) x) p refl refl)
+
+pub returns-then-plus-le0-clause-value : goal.returns-then-plus-le0-clause-value
+returns-then-plus-le0-clause-value c =
+    let s = c.args.s in
+    let t = c.args.t in
+    let x = c.args.x in
+    let y = c.args.y in
+    let p : int_le y x ≡ false = search (rules, casts) in
+    let q : int_le (x +ℤ y) (pos 0) ≡ true = search (rules, casts) in
+    let e : to_z w128 (of_z w128 c.minus.result) ≡ t *ℤ y -ℤ s *ℤ x = search (rules, casts) in
+    e ∙ sym (by_direction s t x y false true (int_le (pos 0) x) p q refl)
+
+pub returns-then-x-ge0-clause-value : goal.returns-then-x-ge0-clause-value
+returns-then-x-ge0-clause-value c =
+    let s = c.args.s in
+    let t = c.args.t in
+    let x = c.args.x in
+    let y = c.args.y in
+    let p : int_le y x ≡ false = search (rules, casts) in
+    let q : int_le (x +ℤ y) (pos 0) ≡ false = search (rules, casts) in
+    let r : int_le (pos 0) x ≡ true = search (rules, casts) in
+    let e : to_z w128 (of_z w128 c.plus-then-x-ge0.result) ≡ s *ℤ y +ℤ t *ℤ x = search (rules, casts) in
+    e ∙ sym (by_direction s t x y false false true p q r)
+
+pub returns-else-x-ge0-clause-value : goal.returns-else-x-ge0-clause-value
+returns-else-x-ge0-clause-value c =
+    let s = c.args.s in
+    let t = c.args.t in
+    let x = c.args.x in
+    let y = c.args.y in
+    let p : int_le y x ≡ false = search (rules, casts) in
+    let q : int_le (x +ℤ y) (pos 0) ≡ false = search (rules, casts) in
+    let r : int_le (pos 0) x ≡ false = search (rules, casts) in
+    let e : to_z w128 (of_z w128 c.minus-else-x-ge0.result) ≡ s *ℤ y -ℤ t *ℤ x = search (rules, casts) in
+    e ∙ sym (by_direction s t x y false false false p q r)

@@ -4,11 +4,10 @@ use Rattle.std.specs.Prelude.{◌↔◌}
 use Rattle.scad_geom.specs.Line.{rise, x_at}
 use Rattle.std.proofs.lemmas.Int.{to_z-of_z}
 use mir.Syntax.{w128}
-use Rattle.scad_geom.proofs.Casts.{casts}
+use Rattle.scad_geom.proofs.Casts.{casts, sizes}
 use Rattle.plan_infill.specs.Quotient.{IsFloor, IsCeiling}
 use Rattle.plan_infill.specs.Reach.{line_reach, IsBesideLine}
 use Rattle.plan_infill.proofs.RowReach.{line_those}
-use Rattle.plan_infill.proofs.Sizes.{sizes}
 use Rattle.plan_infill.proofs.near_steps.reached_by_line.Goals as goal
 
 pub minus-requires : goal.minus-requires
