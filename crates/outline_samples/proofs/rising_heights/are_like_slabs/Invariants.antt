@@ -1,4 +1,4 @@
-use Rattle.std.proofs.Common.{ℕ, ◌-◌, ◌≤◌, length}
+use Rattle.std.proofs.Common.{◌-◌}
 use Rattle.slice_slab.specs.Active.{IsReadyFor}
 use Rattle.slice_bool.specs.Parts.{level_at}
 use Rattle.outline_samples.proofs.rising_heights.are_like_slabs.Given as goal
