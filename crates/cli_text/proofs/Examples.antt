@@ -1,7 +1,6 @@
 -- Texts that the definition computes.
-use Rattle.std.proofs.Common.{◌≡◌, ℕ, List, [], ◌∷◌, ℤ, pos, negsuc, codes, refl}
+use Rattle.std.proofs.Common.{◌≡◌, [], ◌∷◌, ℤ, pos, negsuc, codes, refl}
 use Rattle.std.specs.Fmt.{digits}
-use Rattle.scad_geom.specs.declared.point.Pt.{Pt}
 use Rattle.scad_geom.specs.declared.point.Edge.{Edge}
 use Rattle.scad_geom.specs.Square.{square}
 use Rattle.cli_text.specs.Cli.{outlined as layer, cli, head_start, head_end, layer_text, layer_start, polyline_text, polyline_start, geometry_end}

@@ -14,7 +14,8 @@ pub returns-clause-ok : goal.returns-clause-ok
 unfolding height_line
 returns-clause-ok c =
     on_ok_weaker c.push_feed.result (λ feed. behind c.args.out.now.items (codes "G1 Z") _
-    c.in_ok-extend_from_slice.ensures.items (behind _ _ _ c.in_ok-push_thousandths.ensures.ok feed)) c.push_feed.ensures.ok
+    c.in_ok-extend_from_slice.ensures.items (behind _ _ _ c.in_ok-push_thousandths.ensures.ok feed))
+    c.push_feed.ensures.ok
 
 pub returns-clause-err : goal.returns-clause-err
 returns-clause-err c =
