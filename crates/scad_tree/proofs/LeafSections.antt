@@ -1,6 +1,6 @@
 -- The sections of surfaces, one after another, and the balance of each leaf's edges.
-use Rattle.std.proofs.Common.{◌≡◌, ℕ, ◌+◌, ◌<◌, Bool, true, false, cond, ◌==◌, List, [], ◌∷◌, ◌++◌, map, length, drop, get_or, arith, refl, ap, ap₂, sym, ◌∙◌, subst, append_assoc}
-use Rattle.std.proofs.lemmas.List.{map-append}
+use Rattle.std.proofs.Common.{◌≡◌, ℕ, ◌+◌, ◌<◌, ◌≤◌, Bool, true, false, cond, ◌==◌, List, [], ◌∷◌, ◌++◌, map, length, drop, get_or, arith, refl, ap, ap₂, sym, ◌∙◌, subst, append_assoc}
+use Rattle.std.proofs.lemmas.List.{append-nil, map-append}
 use Rattle.std.proofs.lemmas.List.Elements.{filter-append}
 use Rattle.std.proofs.lemmas.List.Sums.{sum_by-append}
 use Rattle.std.specs.Prelude.{filter}
@@ -17,7 +17,7 @@ use Rattle.scad_tree.specs.Order.{surfaces, all_surfaces, leaves}
 use Rattle.scad_tree.specs.Sections.{leaf_edge, leaf_section, sections_from}
 use Rattle.scad_tree.specs.Solid.{members}
 use Rattle.scad_tree.specs.View.{solid_of, solids}
-use Rattle.scad_tree.proofs.Rows.{left-more}
+use Rattle.scad_tree.proofs.Rows.{left-more, left-none}
 
 -- the surfaces behind others have higher numbers
 pub sections_append : (layer h leaf : ℕ) (us vs : List (List Triangle)) → sections_from layer h leaf (us ++ vs)
@@ -71,3 +71,9 @@ cut_more layer h leaf after old new whole nodes i n below is more next so_far =
     ∙ ap (λ es. old ++ es) (sym (sections_append layer h leaf (surfaces (solid_of n)) rest) ∙ ap
     (λ ms. sections_from layer h leaf (all_surfaces ms)) (sym (left-more nodes i n below is)))
     ∙ so_far
+
+pub cut_end : (layer h leaf : ℕ) (out whole : List LeafEdge) (nodes : List Node) (i : ℕ) → length nodes ≤ i
+    → out ++ sections_from layer h leaf (all_surfaces (members (solids (drop i nodes)))) ≡ whole → out ≡ whole
+cut_end layer h leaf out whole nodes i past so_far =
+    sym (append-nil out)
+    ∙ ap (λ ms. out ++ sections_from layer h leaf (all_surfaces ms)) (sym (left-none nodes i past)) ∙ so_far

@@ -1,11 +1,12 @@
 -- What a traversal adds for an operation, from what it adds for its parts.
-use Rattle.std.proofs.Common.{◌≡◌, ℕ, suc, ◌+◌, ◌-◌, ◌<◌, List, ◌++◌, length, drop, get_or, arith, refl, ap, sym, ◌∙◌, append_assoc, length-append, codes}
+use Rattle.std.proofs.Common.{◌≡◌, ℕ, suc, ◌+◌, ◌-◌, ◌<◌, ◌≤◌, List, ◌++◌, length, drop, get_or, arith, refl, ap, ap₂, sym, ◌∙◌, append_assoc, length-append, codes}
+use Rattle.std.proofs.lemmas.List.{append-nil}
 use Rattle.scad_tree.specs.declared.node.Node.{Node}
 use Rattle.scad_tree.specs.Solid.{Solid, Solids, difference, member, members}
 use Rattle.scad_tree.specs.Order.{surfaces, all_surfaces, leaves, all_leaves}
-use Rattle.scad_tree.specs.Text.{indent}
+use Rattle.scad_tree.specs.Text.{indent, lines, all_lines}
 use Rattle.scad_tree.specs.View.{solid_of, solids}
-use Rattle.scad_tree.proofs.Rows.{left-more}
+use Rattle.scad_tree.proofs.Rows.{left-more, left-none}
 
 pub indent_more : (level counter : ℕ) → counter < level → indent (level - counter) ≡ codes "  " ++ indent
     (level - (counter + 1))
@@ -47,3 +48,24 @@ numbered_more leaf after whole nodes i n below is next so_far =
     let here : all_leaves (members (solids (drop i nodes))) ≡ leaves (solid_of n) + length rest = ap all_leaves
     (left-more nodes i n below is) ∙ leaves_of_member (solid_of n) (members (solids (drop (i + 1) nodes))) in
     omega arith
+
+pub numbered_end : (leaf whole : ℕ) (nodes : List Node) (i : ℕ) → length nodes ≤ i
+    → leaf + all_leaves (members (solids (drop i nodes))) ≡ whole → leaf ≡ whole
+numbered_end leaf whole nodes i past so_far = let none = ap all_leaves (left-none nodes i past) in omega arith
+
+-- the lines of one more node
+pub written_more : (level leaf after : ℕ) (old new whole : List ℕ) (nodes : List Node) (i : ℕ) (n : Node)
+    → i < length nodes → n ≡ get_or nodes i n → new ≡ old ++ lines level leaf (solid_of n)
+    → after ≡ leaf + leaves (solid_of n)
+    → old ++ all_lines level leaf (members (solids (drop i nodes))) ≡ whole
+    → new ++ all_lines level after (members (solids (drop (i + 1) nodes))) ≡ whole
+written_more level leaf after old new whole nodes i n below is more next so_far =
+    let rest = members (solids (drop (i + 1) nodes)) in
+    ap₂ (λ (l : List ℕ) k. l ++ all_lines level k rest) more next
+    ∙ append_assoc old (lines level leaf (solid_of n)) (all_lines level (leaf + leaves (solid_of n)) rest)
+    ∙ ap (λ ms. old ++ all_lines level leaf ms) (sym (left-more nodes i n below is)) ∙ so_far
+
+pub written_end : (level leaf : ℕ) (out whole : List ℕ) (nodes : List Node) (i : ℕ) → length nodes ≤ i
+    → out ++ all_lines level leaf (members (solids (drop i nodes))) ≡ whole → out ≡ whole
+written_end level leaf out whole nodes i past so_far =
+    sym (append-nil out) ∙ ap (λ ms. out ++ all_lines level leaf ms) (sym (left-none nodes i past)) ∙ so_far

@@ -95,6 +95,16 @@ not_empty_skips [] n e = ap (λ b. cond (not b) (solid_of n ∷ []) []) e
 not_empty_skips (m ∷ ns) n e = ap (λ ss. cond (not (is_nothing (solid_of m))) (solid_of m ∷ ss) ss)
     (not_empty_skips ns n e)
 
+pub not_empty_keeps : (ns : List Node) (n : Node) → is_nothing (solid_of n) ≡ false
+    → not_empty (solids (ns ++ (n ∷ []))) ≡ not_empty (solids ns) ++ solid_of n ∷ []
+not_empty_keeps [] n e = ap (λ b. cond (not b) (solid_of n ∷ []) []) e
+not_empty_keeps (m ∷ ns) n e = behind_one (is_nothing (solid_of m)) (solid_of m) _ _ (not_empty_keeps ns n e)
+  where
+    behind_one : (b : Bool) (s : Solid) (new old : List Solid) → new ≡ old ++ solid_of n ∷ []
+        → cond (not b) (s ∷ new) new ≡ cond (not b) (s ∷ old) old ++ solid_of n ∷ []
+    behind_one true s new old is = is
+    behind_one false s new old is = ap (λ ss. s ∷ ss) is
+
 -- ---- the operations by cases
 pub intersected_empty : (ss : List Solid) → list_any is_nothing ss ≡ true → intersected ss ≡ nothing
 unfolding intersected

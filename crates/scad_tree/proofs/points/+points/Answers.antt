@@ -6,7 +6,7 @@ use Rattle.scad_tree.specs.Solid.{members}
 use Rattle.scad_tree.specs.View.{solid_of, solids}
 use Rattle.scad_tree.proofs.Lines.{pieces}
 use Rattle.scad_tree.proofs.Rows.{at_diff}
-use Rattle.scad_tree.proofs.TreePoints.{points-more, points-difference}
+use Rattle.scad_tree.proofs.TreePoints.{points-more, points-end, points-difference}
 use Rattle.scad_tree.proofs.points.+points.Goals as goal
 
 pub push_members-nodes-preserved : goal.push_members-nodes-preserved
@@ -34,3 +34,7 @@ push_node-returns-in_ok-push_node-in-Diff-clause-all t c =
     on_ok_weaker c.push_members-in-Diff.result
     (λ pushed. pieces old mid new head tail whole c.in_ok-push_node-in-Diff.ensures.all pushed parts)
     c.push_members-in-Diff.ensures.all
+
+pub push_members-returns-clause-all : goal.push_members-returns-clause-all
+push_members-returns-clause-all t c = points-end c.args.nodes.now c.nodes.node-index c.nodes.out.items _
+    c.nodes-test.false c.nodes.invariant.reached

@@ -4,8 +4,8 @@ use Rattle.scad_tree.specs.Order.{surfaces, all_surfaces, leaves, all_leaves}
 use Rattle.scad_tree.specs.Solid.{members}
 use Rattle.scad_tree.specs.Sections.{sections_from}
 use Rattle.scad_tree.specs.View.{solid_of, solids}
-use Rattle.scad_tree.proofs.LeafSections.{sections_append, cut_more}
-use Rattle.scad_tree.proofs.Lines.{pieces, behind, numbered_more}
+use Rattle.scad_tree.proofs.LeafSections.{sections_append, cut_more, cut_end}
+use Rattle.scad_tree.proofs.Lines.{pieces, behind, numbered_more, numbered_end}
 use Rattle.scad_tree.proofs.Rows.{at_union, at_inter, at_diff}
 use Rattle.scad_tree.proofs.sections.+edges.Goals as goal
 
@@ -85,3 +85,14 @@ push_node-returns-in_ok-after-in-Inter-clause-next t c =
     c.in_ok-after-in-Inter.ensures.next
     ∙ ap (λ ns. a.leaf + all_leaves (members (solids ns))) c.deref-in-Inter.ensures.value
     ∙ ap (λ s. a.leaf + leaves s) (sym (at_inter a.node.now c.in-Inter.members c.in-Inter.is))
+
+pub push_members-returns-clause-edges : goal.push_members-returns-clause-edges
+push_members-returns-clause-edges t c = cut_end c.args.at.number c.args.at.height c.loop-node.leaf
+    c.loop-node.out.items _ c.args.nodes.now c.loop-node.node-index c.loop-node-test.false c.loop-node.invariant.cut
+
+pub push_members-returns-clause-balanced : goal.push_members-returns-clause-balanced
+push_members-returns-clause-balanced t c = c.loop-node.invariant.balanced
+
+pub push_members-returns-clause-next : goal.push_members-returns-clause-next
+push_members-returns-clause-next t c = numbered_end c.loop-node.leaf _ c.args.nodes.now c.loop-node.node-index
+    c.loop-node-test.false c.loop-node.invariant.numbered

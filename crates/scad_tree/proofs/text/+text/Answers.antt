@@ -4,7 +4,7 @@ use Rattle.scad_tree.specs.Order.{leaves, all_leaves}
 use Rattle.scad_tree.specs.Solid.{members, difference}
 use Rattle.scad_tree.specs.Text.{line, lines, all_lines, union_name, intersection_name, difference_name}
 use Rattle.scad_tree.specs.View.{solid_of, solids}
-use Rattle.scad_tree.proofs.Lines.{pieces, three_pieces, behind}
+use Rattle.scad_tree.proofs.Lines.{pieces, three_pieces, behind, numbered_more, numbered_end, written_more, written_end}
 use Rattle.scad_tree.proofs.Rows.{at_union, at_inter, at_diff}
 use Rattle.scad_tree.proofs.text.+text.Goals as goal
 
@@ -70,3 +70,20 @@ push_node-returns-in_ok-after-in-Inter-clause-next t c =
     c.in_ok-after-in-Inter.ensures.next
     ∙ ap (λ ns. a.leaf + all_leaves (members (solids ns))) c.deref-in-Inter.ensures.value
     ∙ ap (λ s. a.leaf + leaves s) (sym (at_inter a.node.now c.in-Inter.members c.in-Inter.is))
+
+pub push_members-loop-node-preserved : goal.push_members-loop-node-preserved
+push_members-loop-node-preserved t c = record {
+  written = written_more c.args.level c.loop-node.leaf c.in_ok-leaf.leaf c.loop-node.out.items
+      c.push_node.new.out.items _ c.args.nodes.now c.loop-node.node-index c.node-item.result c.loop-node-test.true
+      c.node-item.is c.in_ok-leaf.ensures.text c.in_ok-leaf.ensures.next c.loop-node.invariant.written;
+  numbered = numbered_more c.loop-node.leaf c.in_ok-leaf.leaf _ c.args.nodes.now c.loop-node.node-index
+      c.node-item.result c.loop-node-test.true c.node-item.is c.in_ok-leaf.ensures.next c.loop-node.invariant.numbered;
+}
+
+pub push_members-returns-clause-text : goal.push_members-returns-clause-text
+push_members-returns-clause-text t c = written_end c.args.level c.loop-node.leaf c.loop-node.out.items _
+    c.args.nodes.now c.loop-node.node-index c.loop-node-test.false c.loop-node.invariant.written
+
+pub push_members-returns-clause-next : goal.push_members-returns-clause-next
+push_members-returns-clause-next t c = numbered_end c.loop-node.leaf _ c.args.nodes.now c.loop-node.node-index
+    c.loop-node-test.false c.loop-node.invariant.numbered
