@@ -6,7 +6,7 @@ use std::process::Abort;
 use std::thread::Threads;
 
 /// A source, the status of `check`, and its report.
-const CHECKED: [(&str, u8, &str); 28] = [
+const CHECKED: [(&str, u8, &str); 29] = [
     ("", 0, "ok: 0 leaves, 0 triangles, 0 layers\n"),
     (
         "b=a; a=1; echo(b);",
@@ -86,6 +86,11 @@ const CHECKED: [(&str, u8, &str); 28] = [
         "echo(1); linear_extrude(2) square(1);",
         0,
         "ECHO: 1\nok: 1 leaves, 12 triangles, 10 layers\n",
+    ),
+    (
+        "hull() { cube(1); translate([2, 0, 0]) cube(1); }",
+        0,
+        "ok: 1 leaves, 12 triangles, 5 layers\n",
     ),
 ];
 
