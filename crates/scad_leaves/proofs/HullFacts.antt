@@ -1,5 +1,5 @@
 -- What is known of hulls that there are.
-use Rattle.std.proofs.Common.{◌≡◌, ℕ, ◌<◌, ◌≤◌, List, length, Some, Ok}
+use Rattle.std.proofs.Common.{◌≡◌, ◌<◌, ◌≤◌, List, length, Some, Ok}
 use Rattle.std.specs.Prelude.{ℤ}
 use Rattle.scad_geom.specs.declared.point3.Pt3.{Pt3}
 use Rattle.scad_solid.specs.declared.triangle.Triangle.{Triangle}

@@ -5,7 +5,7 @@ use Rattle.scad_matrix.specs.declared.matrix.Matrix.{Matrix}
 use Rattle.scad_modules.specs.Outline.{Outline, Pair, ring_of}
 use Rattle.scad_modules.specs.Profile.{profile_of}
 use Rattle.scad_tree.specs.Solid.{Solid}
-use Rattle.scad_machine.specs.State.{Action, ◌>>=◌, ◌>>◌}
+use Rattle.scad_machine.specs.State.{Action, ◌>>◌}
 use Rattle.scad_leaves.specs.declared.space.Turning.{Turning}
 use Rattle.scad_leaves.specs.FlatLeaves.{judge_sides, swept}
 use Rattle.scad_leaves.specs.Products.{argued}
