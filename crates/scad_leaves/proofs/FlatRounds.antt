@@ -53,5 +53,3 @@ pub leaves-end : (at : Place) (name : List ℕ) (w : Where) (all : List Outline)
     → length all ≤ i → flat_leaves at name w (outlines (drop i all)) so_far s ≡ gives so_far s
 unfolding flat_leaves
 leaves-end at name w all i so_far s past = ap (λ l. flat_leaves at name w (outlines l) so_far s) (drop_all i all past)
-
-pub ruleset leaves = (outline-at, leaf-goes, leaf-stops, leaves-end)

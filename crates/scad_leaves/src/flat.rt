@@ -120,7 +120,7 @@ fn count_sweep<'p>(
 }
 
 /// A profile is turned: its triangles are counted, and then it is placed.
-#[tactic(auto, using(crate::proofs::Sweeps::bounds), unfolding(crate::specs::FlatLeaves::swept))]
+#[tactic(auto, unfolding(crate::specs::FlatLeaves::swept))]
 pub(crate) fn swept<'p>(
     alloc: Global,
     at: Place,
@@ -223,7 +223,6 @@ fn leaf_in<'p>(
 }
 
 /// The leaves of outlines.
-#[tactic(auto, using(crate::proofs::FlatRounds::leaves))]
 pub(crate) fn flat_leaves<'p>(
     alloc: Global,
     at: Place,
