@@ -12,7 +12,7 @@ use Rattle.scad_scope.specs.Env.{Env}
 use Rattle.scad_expr.specs.Arguments.{is_statement, statements}
 use Rattle.scad_expr.specs.Portions.{is_past, numbers_left}
 use Rattle.scad_expr.specs.Runs.{items}
-use Rattle.scad_expr.specs.State.{State, Outcome, gives, refuses, and_then}
+use Rattle.scad_expr.specs.State.{State, Outcome, gives, and_then}
 use Rattle.scad_expr.proofs.Loops.{nothing-left}
 use Rattle.scad_expr.proofs.RunsLeft.{items-range, left-past, left-next}
 use Rattle.scad_tree.specs.Solid.{Solid}

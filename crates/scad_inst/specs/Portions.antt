@@ -5,7 +5,7 @@ use Rattle.scad_fault.specs.declared.fault.FaultKind.{FaultKind}
 use Rattle.scad_ast.specs.Tree.{Arguments, Items}
 use Rattle.scad_value.specs.Datum.{Datum}
 use Rattle.scad_scope.specs.Env.{Env}
-use Rattle.scad_expr.specs.State.{Action, pure, ◌>>=◌, ◌>>◌, fault_of}
+use Rattle.scad_expr.specs.State.{Action, pure, ◌>>=◌, fault_of}
 use Rattle.scad_expr.specs.Meaning.{values, bound, Opened}
 use Rattle.scad_tree.specs.Solid.{Solid}
 use Rattle.scad_modules.specs.declared.module.Module.{Module}
