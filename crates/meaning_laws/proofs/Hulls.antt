@@ -25,11 +25,11 @@ use Rattle.scad_tree.specs.Order.{surfaces}
 use Rattle.scad_tree.specs.Points.{corners, points_of, is_united}
 use Rattle.scad_tree.specs.Solid.{Solid, nothing, surface}
 use Rattle.scad_tree.specs.Solids.{AreSolids}
-use Rattle.scad_inst.specs.declared.space.Space.{Space}
-use Rattle.scad_inst.specs.declared.space.Space.TheVariants.{Solid as Outside, Linear, Turned}
-use Rattle.scad_inst.specs.declared.space.Turning.{Turning}
-use Rattle.scad_inst.specs.declared.space.Where.{Where}
-use Rattle.scad_inst.specs.Hulls.{judge_united, hulled, hull_leaf, solid_hull, hull_profile, turned_hull, hull_in, hull_made}
+use Rattle.scad_leaves.specs.declared.space.Space.{Space}
+use Rattle.scad_leaves.specs.declared.space.Space.TheVariants.{Solid as Outside, Linear, Turned}
+use Rattle.scad_leaves.specs.declared.space.Turning.{Turning}
+use Rattle.scad_leaves.specs.declared.space.Where.{Where}
+use Rattle.scad_leaves.specs.Hulls.{judge_united, hulled, hull_leaf, solid_hull, hull_profile, turned_hull, hull_in, hull_made}
 use Rattle.meaning_laws.proofs.Keeping.{Any, Keeps, bind, either, keeps-pure, keeps-refuse, keeps-fault_of}
 use Rattle.meaning_laws.proofs.Keeping.{keeps-count_leaf, keeps-count_triangles}
 use Rattle.meaning_laws.proofs.Leaves.{keeps-judge_points, keeps-judge_sides, keeps-swept}

@@ -15,7 +15,7 @@ use Rattle.scad_expr.specs.State.{State, Outcome, gives, refuses, Action, pure, 
 use Rattle.scad_expr.specs.State.{fault_of, over}
 use Rattle.scad_expr.specs.State.{take, step, make, say, step_limit, nesting_limit}
 use Rattle.scad_shapes.specs.Limits.{triangle_limit}
-use Rattle.scad_inst.specs.Products.{count_leaf, count_triangles, leaf_limit}
+use Rattle.scad_leaves.specs.Products.{count_leaf, count_triangles, leaf_limit}
 use Rattle.meaning_laws.specs.Counts.{Rises}
 
 -- a fault or a budget of the source

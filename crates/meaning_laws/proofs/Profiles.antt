@@ -5,7 +5,7 @@ use Rattle.scad_tree.specs.Normal.{is_nothing}
 use Rattle.scad_tree.specs.Solid.{Solid}
 use Rattle.scad_tree.specs.Solids.{AreSolids}
 use Rattle.scad_expr.specs.State.{State}
-use Rattle.scad_inst.specs.Profiles.{profile_count, profiles_from, keep_profile, replace_profiles, with_its_profiles}
+use Rattle.scad_leaves.specs.Profiles.{profile_count, profiles_from, keep_profile, replace_profiles, with_its_profiles}
 use Rattle.meaning_laws.specs.Counts.{Rises}
 use Rattle.meaning_laws.proofs.Keeping.{Any, Keeps}
 

@@ -6,8 +6,8 @@ use Rattle.scad_expr.specs.State.{State, Outcome, gives, refuses, start, depth_l
 use Rattle.scad_expr.specs.Variables.{first_env, first_along}
 use Rattle.scad_tree.specs.Normal.{united}
 use Rattle.scad_tree.specs.Solids.{AreSolids}
+use Rattle.scad_leaves.specs.Where.{at_first}
 use Rattle.scad_inst.specs.Scopes.{item_place}
-use Rattle.scad_inst.specs.Where.{at_first}
 use Rattle.scad_inst.specs.Meaning.{statements_meaning, program_of, means}
 use Rattle.meaning_laws.specs.Counts.{IsWithin, Rises, state_of, CountsRise, CountsStayWithin}
 use Rattle.meaning_laws.specs.Memory.{ProgramsWantNoMemory}

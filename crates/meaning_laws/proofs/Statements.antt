@@ -19,7 +19,7 @@ use Rattle.scad_expr.specs.EchoLines.{echo_line}
 use Rattle.scad_expr.specs.Meaning.{values}
 use Rattle.scad_tree.specs.Solid.{Solid, nothing}
 use Rattle.scad_tree.specs.Solids.{AreSolids}
-use Rattle.scad_tree.specs.Normal.{united, subtracted}
+use Rattle.scad_tree.specs.Normal.{united}
 use Rattle.scad_modules.specs.declared.module.Module.{Module}
 use Rattle.scad_modules.specs.declared.module.Module.TheVariants.{Shape, Flat, Extrusion, Transform, Union, Difference}
 use Rattle.scad_modules.specs.declared.module.Module.TheVariants.{Intersection, Hull, Children as ChildrenOf, Echo, Assert}
@@ -28,20 +28,19 @@ use Rattle.scad_modules.specs.declared.module.Name.{Name}
 use Rattle.scad_modules.specs.declared.module.Name.TheVariants.{Known, For, IntersectionFor, Let, LeftOut, Unknown}
 use Rattle.scad_modules.specs.Arguments.{taken}
 use Rattle.scad_modules.specs.Extrusions.{linear_by, turned_by}
-use Rattle.scad_modules.specs.FlatShapes.{outlines_of}
 use Rattle.scad_modules.specs.Names.{meaning_of}
-use Rattle.scad_modules.specs.Shapes.{primitive_of}
 use Rattle.scad_modules.specs.Transforms.{matrix_of}
-use Rattle.scad_inst.specs.declared.operation.Operation.{Operation}
-use Rattle.scad_inst.specs.declared.operation.Operation.TheVariants.{Unite, Intersect, Subtract}
-use Rattle.scad_inst.specs.declared.space.Space.TheVariants.{Turned as InTurned}
-use Rattle.scad_inst.specs.declared.space.Where.{Where}
+use Rattle.scad_leaves.specs.declared.operation.Operation.{Operation}
+use Rattle.scad_leaves.specs.declared.operation.Operation.TheVariants.{Unite, Intersect, Subtract}
+use Rattle.scad_leaves.specs.declared.space.Space.TheVariants.{Turned as InTurned}
+use Rattle.scad_leaves.specs.declared.space.Where.{Where}
+use Rattle.scad_leaves.specs.Fineness.{fineness}
+use Rattle.scad_leaves.specs.Operation.{operated}
+use Rattle.scad_leaves.specs.Where.{moved, stands, inside_linear, turned_at}
 use Rattle.scad_inst.specs.Choice.{child_named}
 use Rattle.scad_inst.specs.Modules.{Found, module_named, kept_children}
-use Rattle.scad_inst.specs.OpenFrames.{scope_opened, names_opened, call_opened, dollars_of, fineness}
-use Rattle.scad_inst.specs.Operation.{operated}
+use Rattle.scad_inst.specs.OpenFrames.{scope_opened, names_opened, call_opened, dollars_of}
 use Rattle.scad_inst.specs.Scopes.{item_at, item_place, is_marked}
-use Rattle.scad_inst.specs.Where.{moved, stands, inside_linear, turned_at}
 use Rattle.scad_inst.specs.Meaning.{Below, assigned_value, assigned, opened_scope, member, members_from, members}
 use Rattle.scad_inst.specs.Meaning.{combined}
 use Rattle.scad_inst.specs.Meaning.{called_own, turns, for_variables, looped, let_in, child, children_by, chosen}
@@ -49,14 +48,13 @@ use Rattle.scad_inst.specs.Meaning.{run_children, built_in, called_known, called
 use Rattle.meaning_laws.proofs.Keeping.{Any, Keeps, bind, either, keeps-pure, keeps-fault_of, keeps-step, keeps-say}
 use Rattle.meaning_laws.proofs.Results.{keeps-asserted, keeps-judge_named, keeps-judge_variables}
 use Rattle.meaning_laws.proofs.Expressions.{AllKeep, keeps-values, keeps-bound, keeps-bound_in_order}
-use Rattle.meaning_laws.proofs.ReadSolids.{reads-primitive}
-use Rattle.meaning_laws.proofs.ReadFlat.{reads-outlines, reads-linear, reads-turned}
+use Rattle.meaning_laws.proofs.ReadFlat.{reads-linear, reads-turned}
 use Rattle.meaning_laws.proofs.ReadMatrices.{reads-matrix}
-use Rattle.meaning_laws.proofs.Leaves.{keeps-argued, keeps-placed_by, keeps-judge_solid, keeps-judge_flat, keeps-judged}
-use Rattle.meaning_laws.proofs.Leaves.{keeps-leaf, keeps-flat}
+use Rattle.meaning_laws.proofs.Leaves.{keeps-argued, keeps-placed_by, keeps-judge_solid, keeps-judged}
+use Rattle.meaning_laws.proofs.Leaves.{keeps-primitive, keeps-flat_made}
 use Rattle.meaning_laws.proofs.Profiles.{keeps-profile_count, keeps-with_its_profiles}
 use Rattle.meaning_laws.proofs.Hulls.{keeps-hull_made}
-use Rattle.meaning_laws.proofs.Trees.{AllSolids, solids-nothing, solids-if, solids-united, solids-subtracted}
+use Rattle.meaning_laws.proofs.Trees.{AllSolids, solids-nothing, solids-if, solids-united}
 use Rattle.meaning_laws.proofs.Trees.{solids-operated}
 
 -- all that stands one deeper does so
@@ -205,17 +203,8 @@ module _ (below : Below) (all_give : AllGive below) where
   keeps-built_in : (k : Module) (at : Place) (name : List ℕ) (w : Where) (env along : Env) (args : Arguments)
       (found : List Datum) (all : Items) → Keeps AreSolids (built_in below k at name w env along args found all)
   unfolding built_in
-  keeps-built_in (Shape s) at name w env along args found all =
-      let fine = fineness env along in
-      bind (keeps-judge_solid at w.space) (λ _ _.
-      bind (keeps-argued at name (primitive_of s fine args found) (reads-primitive s fine args found)) (λ p _.
-      keeps-leaf at p w.whole))
-  keeps-built_in (Flat f) at name w env along args found all =
-      let fine = fineness env along in
-      bind (keeps-judge_flat at w.space) (λ _ _.
-      bind (keeps-argued at name (outlines_of f fine args found) (reads-outlines f fine args found)) (λ os _.
-      bind (keeps-flat at name w os [] (All-nil AreSolids)) (λ ss solids.
-      keeps-judged at (subtracted ss) (solids-subtracted ss solids))))
+  keeps-built_in (Shape s) at name w env along args found all = keeps-primitive s at name w env along args found
+  keeps-built_in (Flat f) at name w env along args found all = keeps-flat_made f at name w env along args found
   keeps-built_in (Extrusion Linear) at name w env along args found all =
       bind (keeps-judge_solid at w.space) (λ _ _.
       bind (keeps-argued at name (linear_by args found) (reads-linear args found)) (λ h _.

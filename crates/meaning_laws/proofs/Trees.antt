@@ -13,9 +13,9 @@ use Rattle.scad_tree.specs.Solid.{Solid, Solids, nothing, surface, union, inters
 use Rattle.scad_tree.specs.Solid.{members}
 use Rattle.scad_tree.specs.Solid.{members_of}
 use Rattle.scad_tree.specs.Solids.{AreSolids}
-use Rattle.scad_inst.specs.Operation.{operated}
-use Rattle.scad_inst.specs.declared.operation.Operation.{Operation}
-use Rattle.scad_inst.specs.declared.operation.Operation.TheVariants.{Unite, Intersect, Subtract}
+use Rattle.scad_leaves.specs.declared.operation.Operation.{Operation}
+use Rattle.scad_leaves.specs.declared.operation.Operation.TheVariants.{Unite, Intersect, Subtract}
+use Rattle.scad_leaves.specs.Operation.{operated}
 
 -- each tree of a list is of solids
 abbrev pub AllSolids : List Solid → Type 0

@@ -3,9 +3,9 @@ use Rattle.std.specs.Prelude.{ℕ, ◌≤◌}
 use Rattle.scad_ast.specs.Tree.{Items, Item}
 use Rattle.scad_scope.specs.Env.{Env}
 use Rattle.scad_expr.specs.State.{State, Outcome, gives, refuses, step_limit}
-use Rattle.scad_inst.specs.declared.space.Where.{Where}
 use Rattle.scad_shapes.specs.Limits.{triangle_limit}
-use Rattle.scad_inst.specs.Products.{leaf_limit}
+use Rattle.scad_leaves.specs.declared.space.Where.{Where}
+use Rattle.scad_leaves.specs.Products.{leaf_limit}
 use Rattle.scad_inst.specs.Meaning.{statements_meaning, means}
 
 -- no count is past its limit

@@ -7,15 +7,16 @@ use Rattle.scad_scope.specs.Env.{Env}
 use Rattle.scad_modules.specs.declared.module.Name.{Name}
 use Rattle.scad_modules.specs.declared.module.Name.TheVariants.{Known, For, IntersectionFor, Let, LeftOut, Unknown}
 use Rattle.scad_expr.specs.State.{State, Outcome, gives, refuses, Action, and_then, pure}
-use Rattle.scad_inst.specs.declared.operation.Operation.TheVariants.{Unite}
+use Rattle.scad_leaves.specs.declared.operation.Operation.TheVariants.{Unite}
+use Rattle.scad_leaves.specs.declared.space.Where.{Where}
 use Rattle.scad_inst.specs.Meaning.{Below, called, called_own, looped, let_in, combined}
+use Rattle.scad_expr.specs.Machine.{Held, env_in, along_in}
 use Rattle.scad_expr.specs.Meaning.{bound}
+use Rattle.scad_expr.specs.OpenFrames.{opened_in}
 use Rattle.scad_inst.specs.Modules.{Found}
 use Rattle.scad_inst.specs.OpenFrames.{call_opened}
 use Rattle.scad_inst.specs.Portions.{called_with, own_opened}
-use Rattle.scad_inst.specs.declared.space.Where.{Where}
 use Rattle.scad_inst.proofs.Levels.{expressions-are}
-use Rattle.scad_inst.proofs.MadeTrees.{opened-env, opened-along}
 
 module _ (below : Below) (at : Place) (word : List ℕ) (w : Where) (env along : Env) (args : Arguments) (all : Items) (s : State) where
   pub called-for : (n : Name) (own : Option Found) → n ≡ For → called below n own at word w env along args all s
@@ -51,6 +52,15 @@ unfolding called_own own_opened
 own-call below at w env along m args found all s =
     behind-pure (bound below.expressions m.home along m.definition.parameters args found s)
     (λ b. call_opened m.home along all env b) (λ o. combined below Unite at w m.definition.body o.env o.along)
+
+-- names are sought in the frames that were opened
+pub opened-env : (h : Held) → (opened_in h).env ≡ env_in h
+unfolding opened_in
+opened-env h = refl
+
+pub opened-along : (h : Held) → (opened_in h).along ≡ along_in h
+unfolding opened_in
+opened-along h = refl
 
 pub ruleset meanings = (called-for, called-let)
 

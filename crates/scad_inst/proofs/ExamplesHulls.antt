@@ -1,5 +1,5 @@
 -- Worked examples of hulls, each under its source. Expected values come from an independent program.
-use Rattle.std.proofs.Common.{◌≡◌, ℕ, pos, true, false, List, [], ◌∷◌, Some, None, refl}
+use Rattle.std.proofs.Common.{◌≡◌, ℕ, pos, false, List, [], ◌∷◌, None, refl}
 use Rattle.std.specs.Prelude.{codes}
 use Rattle.scad_fault.specs.declared.fault.FaultKind.TheVariants.{LeftOut, BadArgument}
 use Rattle.scad_ast.specs.declared.operator.UnOp.TheVariants.{Minus}

@@ -5,8 +5,8 @@ use Rattle.scad_machine.specs.declared.fault.EvalFault.{EvalFault}
 use Rattle.scad_expr.specs.State.{State, Action, gives, refuses, ◌>>=◌, ◌>>◌}
 use Rattle.scad_expr.proofs.Loops.{goes, stops}
 use Rattle.scad_tree.specs.Solid.{Solid}
-use Rattle.scad_inst.specs.Products.{judge_solid}
-use Rattle.scad_inst.specs.declared.space.Space.{Space}
+use Rattle.scad_leaves.specs.declared.space.Space.{Space}
+use Rattle.scad_leaves.specs.Products.{judge_solid}
 
 module _ (at : Place) (space : Space) (height : Action (ℤ × Bool)) (rest : ℤ × Bool → Action Solid) (s : State) (outside : judge_solid at space s ≡ gives (tt {0}) s) where
   pub height-stops : (e : EvalFault) → height s ≡ refuses e s → (judge_solid at space >> (height >>= rest)) s

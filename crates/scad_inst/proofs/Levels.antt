@@ -7,10 +7,10 @@ use Rattle.scad_scope.specs.Env.{Env}
 use Rattle.scad_expr.specs.Machine.{Held, env_in, along_in}
 use Rattle.scad_expr.specs.Meaning.{meaning}
 use Rattle.scad_expr.specs.State.{State, ◌>>◌, over, step}
+use Rattle.scad_leaves.specs.declared.space.Where.{Where}
 use Rattle.scad_inst.specs.Frames.{with_depth}
 use Rattle.scad_inst.specs.Meaning.{statements_meaning, statement_layer}
 use Rattle.scad_inst.specs.Scopes.{item_place}
-use Rattle.scad_inst.specs.declared.space.Where.{Where}
 
 -- where no level is left
 pub assignment-none : (d : ℕ) (env along : Env) (at : Place) (e : Expression) (s : State) → d ≡ 0

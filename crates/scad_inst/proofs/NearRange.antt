@@ -12,16 +12,16 @@ use Rattle.scad_scope.specs.Env.{Env}
 use Rattle.scad_expr.specs.Arguments.{is_statement, statements}
 use Rattle.scad_expr.specs.Portions.{is_past, numbers_left}
 use Rattle.scad_expr.specs.Runs.{items}
-use Rattle.scad_expr.specs.State.{State, Outcome, gives, refuses, and_then}
+use Rattle.scad_expr.specs.State.{State, Outcome, gives, and_then}
 use Rattle.scad_expr.proofs.Loops.{nothing-left}
 use Rattle.scad_expr.proofs.RunsLeft.{items-range, left-past, left-next}
 use Rattle.scad_tree.specs.Solid.{Solid}
 use Rattle.scad_expr.proofs.Loops.{same-then}
+use Rattle.scad_leaves.specs.declared.space.Where.{Where}
 use Rattle.scad_inst.specs.Choice.{child_of, child_named}
 use Rattle.scad_inst.specs.Meaning.{Below, child, children_by}
 use Rattle.scad_inst.specs.Near.{NameAlike, IsNobody, steps, IsReached, IsEnough, IsBehind}
 use Rattle.scad_inst.specs.Scopes.{child_at}
-use Rattle.scad_inst.specs.declared.space.Where.{Where}
 
 -- ---- numbers that name no child
 child_at-past : (all : Items) (n : ℕ) → statements all ≤ n → child_at all n ≡ None

@@ -27,12 +27,17 @@ use Rattle.scad_expr.specs.State.{State, Outcome, gives, refuses, Action, and_th
 use Rattle.scad_expr.specs.Variables.{set, empty, within, first_env, first_along}
 use Rattle.scad_expr.proofs.Homes.{items-drop}
 use Rattle.scad_expr.proofs.Loops.{twice, same-state}
-use Rattle.scad_inst.specs.declared.operation.Operation.{Operation}
-use Rattle.scad_inst.specs.declared.operation.Operation.TheVariants.{Unite}
-use Rattle.scad_inst.specs.declared.modules.Call.{Call}
+use Rattle.scad_leaves.specs.declared.operation.Operation.{Operation}
+use Rattle.scad_leaves.specs.declared.operation.Operation.TheVariants.{Unite}
+use Rattle.scad_leaves.specs.declared.call.Call.{Call}
+use Rattle.scad_leaves.specs.declared.space.Where.{Where}
+use Rattle.scad_leaves.specs.Hulls.{hull_made}
+use Rattle.scad_leaves.specs.Operation.{operated}
+use Rattle.scad_leaves.specs.Products.{judged}
+use Rattle.scad_leaves.specs.Profiles.{with_its_profiles}
+use Rattle.scad_leaves.specs.Where.{at_first}
 use Rattle.scad_inst.specs.declared.modules.Variable.{Variable}
 use Rattle.scad_inst.specs.declared.remainder.Remainder.{Remainder}
-use Rattle.scad_inst.specs.declared.space.Where.{Where}
 use Rattle.scad_inst.specs.declared.stack.Stack.{Stack}
 use Rattle.scad_inst.specs.declared.work.Frame.{Frame}
 use Rattle.scad_inst.specs.declared.work.Frame.TheVariants.{Mark, Member, Then, Combine, Hull, Leave}
@@ -40,16 +45,11 @@ use Rattle.scad_inst.specs.declared.work.Focus.{Focus}
 use Rattle.scad_inst.specs.declared.work.Focus.TheVariants.{Members, Children, Variables, Turns}
 use Rattle.scad_inst.specs.Choice.{child_named}
 use Rattle.scad_inst.specs.Frames.{below_of, with_depth}
-use Rattle.scad_inst.specs.Hulls.{hull_made}
-use Rattle.scad_inst.specs.Products.{judged}
 use Rattle.scad_inst.specs.Meaning.{statements_meaning, statement_layer, node, opened_scope, member, members_from, members, combined, called_own, run_children, chosen, children_by, child, turns, for_variables, program_of}
 use Rattle.scad_inst.specs.Modules.{Found}
 use Rattle.scad_inst.specs.Near.{NameAlike}
-use Rattle.scad_inst.specs.Operation.{operated}
 use Rattle.scad_inst.specs.Portions.{called_with, own_opened}
-use Rattle.scad_inst.specs.Profiles.{with_its_profiles}
 use Rattle.scad_inst.specs.Scopes.{item_place, is_marked}
-use Rattle.scad_inst.specs.Where.{at_first}
 use Rattle.scad_inst.specs.Stack.{Goes, Starts, Rest, onto, rest_of, listed, ended, goes_on, with_member, left_in}
 use Rattle.scad_inst.proofs.Calls.{own-call}
 use Rattle.scad_inst.proofs.Levels.{expressions-are, statement-some}

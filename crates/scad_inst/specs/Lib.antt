@@ -1,15 +1,9 @@
 -- What the public calls promise.
 pub mod Choice
-pub mod FlatLeaves
-pub mod Hulls
-pub mod Products
 pub mod Meaning
 pub mod Modules
 pub mod OpenFrames
-pub mod Operation
-pub mod Profiles
 pub mod Scopes
-pub mod Where
 pub mod Model
 -- What only the steps of the code promise to one another.
 pub mod Frames

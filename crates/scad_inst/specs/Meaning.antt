@@ -21,7 +21,7 @@ use Rattle.scad_expr.specs.EchoLines.{echo_line}
 use Rattle.scad_expr.specs.Meaning.{meaning, values, bound, bound_in_order, asserted, judge_named, judge_variables, Opened}
 use Rattle.scad_expr.specs.Meaning.{Below as Expressions}
 use Rattle.scad_tree.specs.Solid.{Solid, nothing}
-use Rattle.scad_tree.specs.Normal.{united, subtracted}
+use Rattle.scad_tree.specs.Normal.{united}
 use Rattle.scad_modules.specs.declared.module.Module.{Module}
 use Rattle.scad_modules.specs.declared.module.Module.TheVariants.{Shape, Flat, Extrusion, Transform, Union, Difference, Intersection, Hull, Children as ChildrenOf, Echo, Assert}
 use Rattle.scad_modules.specs.declared.module.Extrusion.TheVariants.{Linear, Rotate}
@@ -29,24 +29,23 @@ use Rattle.scad_modules.specs.declared.module.Name.{Name}
 use Rattle.scad_modules.specs.declared.module.Name.TheVariants.{Known, For, IntersectionFor, Let, LeftOut, Unknown}
 use Rattle.scad_modules.specs.Arguments.{taken}
 use Rattle.scad_modules.specs.Extrusions.{linear_by, turned_by}
-use Rattle.scad_modules.specs.FlatShapes.{outlines_of}
 use Rattle.scad_modules.specs.Names.{meaning_of}
-use Rattle.scad_modules.specs.Shapes.{primitive_of}
 use Rattle.scad_modules.specs.Transforms.{matrix_of}
-use Rattle.scad_inst.specs.declared.operation.Operation.{Operation}
-use Rattle.scad_inst.specs.declared.operation.Operation.TheVariants.{Unite, Intersect, Subtract}
+use Rattle.scad_leaves.specs.declared.operation.Operation.{Operation}
+use Rattle.scad_leaves.specs.declared.operation.Operation.TheVariants.{Unite, Intersect, Subtract}
+use Rattle.scad_leaves.specs.declared.space.Space.TheVariants.{Turned as InTurned}
+use Rattle.scad_leaves.specs.declared.space.Where.{Where}
+use Rattle.scad_leaves.specs.Fineness.{fineness}
+use Rattle.scad_leaves.specs.Hulls.{hull_made}
+use Rattle.scad_leaves.specs.Operation.{operated}
+use Rattle.scad_leaves.specs.Products.{argued, placed_by, judge_solid, judged}
+use Rattle.scad_leaves.specs.Profiles.{profile_count, with_its_profiles}
+use Rattle.scad_leaves.specs.Shapes.{primitive_made, flat_made}
+use Rattle.scad_leaves.specs.Where.{at_first, moved, stands, inside_linear, turned_at}
 use Rattle.scad_inst.specs.Choice.{child_named}
-use Rattle.scad_inst.specs.OpenFrames.{scope_opened, names_opened, call_opened, dollars_of, fineness}
-use Rattle.scad_inst.specs.Operation.{operated}
-use Rattle.scad_inst.specs.FlatLeaves.{flat_leaves}
-use Rattle.scad_inst.specs.Hulls.{hull_made}
-use Rattle.scad_inst.specs.Products.{leaf, argued, placed_by, judge_solid, judge_flat, judged}
+use Rattle.scad_inst.specs.OpenFrames.{scope_opened, names_opened, call_opened, dollars_of}
 use Rattle.scad_inst.specs.Modules.{Found, module_named, kept_children}
-use Rattle.scad_inst.specs.Profiles.{profile_count, with_its_profiles}
 use Rattle.scad_inst.specs.Scopes.{item_place, is_marked, item_at}
-use Rattle.scad_inst.specs.declared.space.Space.TheVariants.{Turned as InTurned}
-use Rattle.scad_inst.specs.declared.space.Where.{Where}
-use Rattle.scad_inst.specs.Where.{at_first, moved, stands, inside_linear, turned_at}
 
 -- ---- what stands one deeper
 pub record Below : Type 0 where
@@ -185,16 +184,9 @@ module _ (below : Below) where
   unfoldable pub built_in : Module → Place → List ℕ → Where → Env → Env → Arguments → List Datum → Items
       → Action Solid
   -- `cube`, `sphere`, `cylinder`, `polyhedron`: a leaf, whose children aren't run
-  built_in (Shape s) at name w env along args found all = do
-    judge_solid at w.space
-    p ← argued at name (primitive_of s (fineness env along) args found)
-    leaf at p w.whole
+  built_in (Shape s) at name w env along args found all = primitive_made s at name w env along args found
   -- `square`, `circle`, `polygon`: a leaf for each outline, the first without the others; their children aren't run
-  built_in (Flat f) at name w env along args found all = do
-    judge_flat at w.space
-    os ← argued at name (outlines_of f (fineness env along) args found)
-    ss ← flat_leaves at name w os []
-    judged at (subtracted ss)
+  built_in (Flat f) at name w env along args found all = flat_made f at name w env along args found
   -- `linear_extrude`: the children, flat, united
   built_in (Extrusion Linear) at name w env along args found all = do
     judge_solid at w.space

@@ -6,9 +6,9 @@ use Rattle.scad_scope.specs.Env.{Env}
 use Rattle.scad_expr.specs.State.{State}
 use Rattle.scad_expr.specs.Portions.{is_past}
 use Rattle.scad_tree.specs.Solid.{Solid}
+use Rattle.scad_leaves.specs.declared.space.Where.{Where}
 use Rattle.scad_inst.specs.Choice.{child_named}
 use Rattle.scad_inst.specs.Meaning.{Below, children_by}
-use Rattle.scad_inst.specs.declared.space.Where.{Where}
 
 -- values name the same children as others, wherever they run
 pub record NameAlike (scope : Items) (few all : List Datum) : Type 0 where

@@ -1,12 +1,11 @@
--- The frames that statements open, and what is read in them.
-use Rattle.std.specs.Prelude.{List, [], ◌∷◌, Some, None, if◌then◌else◌, codes}
+-- The frames that statements open.
+use Rattle.std.specs.Prelude.{List, [], ◌∷◌, Some, None, if◌then◌else◌}
 use Rattle.scad_ast.specs.Tree.{Arguments, no_arguments, argument, Items}
 use Rattle.scad_value.specs.Datum.{Datum}
 use Rattle.scad_scope.specs.Env.{Env, inside, frame, no_children, children}
 use Rattle.scad_expr.specs.Arguments.{with_children}
 use Rattle.scad_expr.specs.Meaning.{Opened, opened}
-use Rattle.scad_expr.specs.Variables.{is_dollar, variable, Bound, set, within}
-use Rattle.scad_modules.specs.Shapes.{Fineness}
+use Rattle.scad_expr.specs.Variables.{is_dollar, Bound, set, within}
 
 -- the frames of a scope whose assignments gave these names
 abbrev pub scope_opened : Items → Env → Env → Bound → Opened
@@ -31,11 +30,3 @@ dollars_of (argument word e more) [] b = b
 dollars_of (argument None e more) (d ∷ found) b = dollars_of more found b
 dollars_of (argument (Some name) e more) (d ∷ found) b =
     dollars_of more found (if is_dollar name then set name d b else b)
-
--- `$fn`, `$fa` and `$fs` at a place
-abbrev pub fineness : Env → Env → Fineness
-fineness env along = record {
-  fn = variable (codes "$fn") env along;
-  fa = variable (codes "$fa") env along;
-  fs = variable (codes "$fs") env along;
-}

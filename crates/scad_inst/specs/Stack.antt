@@ -19,7 +19,11 @@ use Rattle.scad_expr.specs.Machine.{Held, held, env_in, along_in, state_of}
 use Rattle.scad_expr.specs.OpenFrames.{left}
 use Rattle.scad_expr.specs.Portions.{numbers_left}
 use Rattle.scad_expr.specs.State.{State, Outcome, gives, refuses, Action, pure, and_then, ◌>>=◌}
-use Rattle.scad_inst.specs.declared.operation.Operation.{Operation}
+use Rattle.scad_leaves.specs.declared.operation.Operation.{Operation}
+use Rattle.scad_leaves.specs.Hulls.{hull_made}
+use Rattle.scad_leaves.specs.Operation.{operated}
+use Rattle.scad_leaves.specs.Products.{judged}
+use Rattle.scad_leaves.specs.Profiles.{with_its_profiles}
 use Rattle.scad_inst.specs.declared.remainder.Remainder.{Remainder}
 use Rattle.scad_inst.specs.declared.remainder.Remainder.TheVariants.{Values, Numbers}
 use Rattle.scad_inst.specs.declared.run.Next.{Next}
@@ -31,11 +35,7 @@ use Rattle.scad_inst.specs.declared.work.Focus.{Focus}
 use Rattle.scad_inst.specs.declared.work.Focus.TheVariants.{Statement, Members, Children, Variables, Turns, Given}
 use Rattle.scad_inst.specs.Choice.{child_named}
 use Rattle.scad_inst.specs.Frames.{below_of, with_depth}
-use Rattle.scad_inst.specs.Hulls.{hull_made}
-use Rattle.scad_inst.specs.Products.{judged}
 use Rattle.scad_inst.specs.Meaning.{members_from, for_variables, turns, children_by}
-use Rattle.scad_inst.specs.Operation.{operated}
-use Rattle.scad_inst.specs.Profiles.{with_its_profiles}
 
 -- the values that are left
 unfoldable pub left_in : Remainder → List Datum

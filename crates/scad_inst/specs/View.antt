@@ -1,6 +1,5 @@
 -- What modules of a program in memory are to the definitions.
-use Rattle.std.specs.Prelude.{List, Option, Some, None, Vec, map}
-use Rattle.std.specs.Global.{Global}
+use Rattle.std.specs.Prelude.{List, Option, Some, None, map}
 use Rattle.scad_ast.specs.declared.statement.Item.{Item}
 use Rattle.scad_ast.specs.declared.statement.Param.{Param}
 use Rattle.scad_ast.specs.Scope.{parameter, items}
@@ -8,9 +7,6 @@ use Rattle.scad_ast.specs.Tree.{module_of as defines}
 use Rattle.scad_ast.specs.Tree.{Item as TreeItem}
 use Rattle.scad_scope.specs.Env.{Env}
 use Rattle.scad_scope.specs.FrameStore.{env_at}
-use Rattle.scad_tree.specs.declared.node.Node.{Node}
-use Rattle.scad_tree.specs.Solid.{Solid}
-use Rattle.scad_tree.specs.View.{solids}
 use Rattle.scad_inst.specs.declared.modules.Defined.{Defined}
 use Rattle.scad_inst.specs.declared.modules.DefinedAt.{DefinedAt}
 use Rattle.scad_inst.specs.Modules.{Module, Found}
@@ -26,10 +22,6 @@ module_at d = definition d.params.now.items d.body.now.items
 -- and the environment where its definition stands, among those of all frames
 abbrev pub found_at : List Env → DefinedAt → Found
 found_at envs d = record { definition = module_at d.module; home = env_at envs d.home }
-
--- the trees that a vector holds
-abbrev pub trees_in : Vec Node Global → List Solid
-trees_in v = solids v.items
 
 -- the module that an item defines, where it defines one
 abbrev pub module_by : TreeItem → Option Module

@@ -20,15 +20,13 @@ use crate::built_in::built_in;
 use crate::frames::{open_known, open_own};
 use crate::lookup::module_named;
 use crate::members::combined;
-use crate::modules::{Call, DefinedAt};
-use crate::operation::Operation;
-use crate::refusals::named_fault;
-use crate::space::Where;
+use crate::modules::DefinedAt;
 use crate::stack::Stack;
 use crate::turn::{let_in, looped};
 use crate::work::{Focus, Frame};
 use scad_expr::{EvalFault, Machine, values};
 use scad_fault::FaultKind;
+use scad_leaves::{Call, Operation, Where, named_fault};
 use scad_modules::{Module, Name, meaning_of};
 
 /// A call, by what its name means.

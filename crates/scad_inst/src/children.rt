@@ -16,15 +16,14 @@ ghost use Rattle.scad_inst.specs.Stack.{Goes, Starts, rest, made_in, left_in, li
 
 use crate::call_children::kept_children;
 use crate::members::member;
-use crate::operation::Operation;
 use crate::remainder::{Remainder, naming, next_child};
 use crate::scopes::open_scope;
-use crate::space::Where;
 use crate::stack::Stack;
 use crate::work::Focus;
 use scad_ast::{Item, Scope};
 use scad_expr::{EvalFault, Machine};
 use scad_fault::Place;
+use scad_leaves::{Operation, Where};
 use scad_scope::Kept;
 use scad_tree::Tree;
 use scad_value::Value;

@@ -7,24 +7,22 @@ ghost use Rattle.scad_machine.specs.declared.fault.EvalFault.TheVariants.{Memory
 ghost use Rattle.scad_expr.specs.Arguments.{is_statement};
 ghost use Rattle.scad_expr.specs.Machine.{Held, held, env_in, along_in, state_of};
 ghost use Rattle.scad_expr.specs.State.{State, Outcome, and_then};
+ghost use Rattle.scad_leaves.specs.Operation.{operated};
+ghost use Rattle.scad_leaves.specs.Products.{judged};
+ghost use Rattle.scad_leaves.specs.View.{trees_in};
 ghost use Rattle.scad_inst.specs.Frames.{below_of};
-ghost use Rattle.scad_inst.specs.Products.{judged};
 ghost use Rattle.scad_inst.specs.Meaning.{member, members_from, combined};
-ghost use Rattle.scad_inst.specs.Operation.{operated};
 ghost use Rattle.scad_inst.specs.Stack.{Goes, Starts, rest, made_in, goes_on, listed, onward};
-ghost use Rattle.scad_inst.specs.View.{trees_in};
 
 use crate::frames::here;
 use crate::item::{is_marked, is_statement};
-use crate::operation::Operation;
 use crate::scopes::open_scope;
-use crate::space::Where;
 use crate::stack::Stack;
-use crate::trees::made;
 use crate::work::{Focus, Frame, at_work};
 use scad_ast::{Item, Scope};
 use scad_expr::{EvalFault, Machine};
 use scad_fault::Place;
+use scad_leaves::{Operation, Where, made};
 use scad_tree::Tree;
 
 /// An item is run where it is a statement, and then what comes behind it.

@@ -1,7 +1,7 @@
-//! Modules of the program and calls of modules, as they stand in memory.
+//! Modules of the program, and variables of a `for`, as they stand in memory.
 
-use scad_ast::{Args, Params, Scope};
-use scad_fault::Place;
+use scad_ast::{Params, Scope};
+use scad_leaves::Call;
 
 /// The parameters and the body of a module.
 #[derive(Clone, Copy)]
@@ -15,15 +15,6 @@ pub(crate) struct Defined<'p> {
 pub(crate) struct DefinedAt<'p> {
     pub(crate) module: Defined<'p>,
     pub(crate) home: u32,
-}
-
-/// A call of a module, with its arguments and its children as they are written.
-#[derive(Clone, Copy)]
-pub(crate) struct Call<'p> {
-    pub(crate) at: Place,
-    pub(crate) name: &'p [u8],
-    pub(crate) args: &'p Args,
-    pub(crate) all: &'p Scope,
 }
 
 /// A variable of a `for`, with the number of the argument behind it.

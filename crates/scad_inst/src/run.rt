@@ -7,19 +7,18 @@ ghost use Rattle.scad_tree.specs.View.{solid_of};
 ghost use Rattle.scad_expr.specs.Answers.{Does};
 ghost use Rattle.scad_expr.specs.Machine.{held, state_of};
 ghost use Rattle.scad_expr.specs.State.{gives};
-ghost use Rattle.scad_inst.specs.Profiles.{with_its_profiles};
+ghost use Rattle.scad_leaves.specs.Profiles.{with_its_profiles};
 ghost use Rattle.scad_inst.specs.Stack.{Goes, Ends, IsMore, rest, made_in, goes_on, onto};
 
 use crate::children::children_by;
 use crate::frames::go_back;
-use crate::hulls::hull_made;
 use crate::members::{made_of, members};
-use crate::profiles::with_its_profiles;
 use crate::stack::Stack;
 use crate::turn::{turns, variables};
 use crate::walk::{statement, unless_marked};
 use crate::work::{Focus, Frame, at_work};
 use scad_expr::{EvalFault, Machine};
+use scad_leaves::{hull_made, with_its_profiles};
 use scad_tree::{Tree, unite};
 use std::alloc::AllocError;
 

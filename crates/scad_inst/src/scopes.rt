@@ -14,10 +14,10 @@ ghost use Rattle.scad_inst.specs.Meaning.{assigned_value, assigned, opened_scope
 ghost use Rattle.scad_inst.specs.Scopes.{item_at};
 
 use crate::frames::{depth, go_back, go_deeper, open_frames};
-use crate::refusals::over;
 use scad_ast::{Expr, Item, Scope};
 use scad_expr::{EvalFault, Machine, eval};
 use scad_fault::{BudgetKind, Place};
+use scad_leaves::over;
 use scad_scope::{Binding, bindings};
 use scad_value::Value;
 use std::alloc::Global;

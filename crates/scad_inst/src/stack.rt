@@ -2,9 +2,9 @@
 
 ghost use Rattle.std.specs.Prelude.{◌≡◌, ◌++◌, ◌∷◌, [], OnOk};
 
-use crate::operation::Operation;
 use crate::work::Frame;
 use scad_fault::Place;
+use scad_leaves::Operation;
 use scad_tree::Tree;
 use std::alloc::{AllocError, AllocFailed, Global};
 use std::mem::replace;
@@ -29,7 +29,7 @@ fn append<T: Drop>(all: &mut Vec<T>, value: T) -> Result<(), AllocError>
 impl<'p> Stack<'p> {
     ghost use Rattle.std.specs.Prelude.{◌≡◌, [], OnOk, MatchOption};
     ghost use Rattle.scad_tree.specs.View.{solid_of};
-    ghost use Rattle.scad_inst.specs.View.{trees_in};
+    ghost use Rattle.scad_leaves.specs.View.{trees_in};
     ghost use Rattle.scad_inst.specs.Stack.{rest, ended, onto, made_in, with_member, Begins};
 
     /// No frame and no member.
@@ -64,7 +64,7 @@ impl<'p> Stack<'p> {
     }
 
     /// A tree is a member, unless its statement is marked `%`.
-    #[tactic(auto, using(crate::proofs::MadeTrees::trees), unfolding(crate::specs::Stack::rest, crate::specs::Stack::made_in))]
+    #[tactic(auto, using(scad_leaves::proofs::MadeTrees::trees), unfolding(crate::specs::Stack::rest, crate::specs::Stack::made_in))]
     pub(crate) fn add(&mut self, marked: bool, tree: Tree) -> Result<(), AllocFailed<Tree>>
         ensures made { OnOk result (made_in self.new ≡ with_member marked (made_in self.old) (solid_of tree)) }
         ensures rest { rest self.new ≡ rest self.old }

@@ -14,14 +14,13 @@ ghost use Rattle.scad_inst.specs.Stack.{Goes, made_in, left_in, onward, onward_l
 
 use crate::frames::open_names;
 use crate::members::combined;
-use crate::modules::{Call, Variable};
-use crate::operation::Operation;
+use crate::modules::Variable;
 use crate::remainder::{Remainder, next_value, run_over};
-use crate::space::Where;
 use crate::stack::Stack;
 use crate::work::{Focus, Frame};
 use scad_ast::{Arg, Expr};
 use scad_expr::{EvalFault, Machine, eval, judge_named, judge_variables};
+use scad_leaves::{Call, Operation, Where};
 use scad_tree::Tree;
 use scad_value::Value;
 

@@ -16,16 +16,12 @@ use crate::call::call;
 use crate::frames::{depth, go_deeper};
 use crate::item::{is_marked, item_place};
 use crate::members::combined;
-use crate::modules::Call;
-use crate::operation::Operation;
-use crate::profiles::profile_count;
-use crate::refusals::over;
-use crate::space::Where;
 use crate::stack::Stack;
 use crate::work::{Focus, Frame};
 use scad_ast::{Expr, Item, Scope, Stmt, StmtBody};
 use scad_expr::{EvalFault, Machine, eval};
 use scad_fault::{BudgetKind, Place};
+use scad_leaves::{Call, Operation, Where, over, profile_count};
 use scad_tree::Tree;
 use scad_value::truth;
 

@@ -2,13 +2,12 @@
 
 ghost use Rattle.scad_inst.specs.Stack.{GoesOn};
 
-use crate::modules::{Call, Variable};
-use crate::operation::Operation;
+use crate::modules::Variable;
 use crate::remainder::Remainder;
-use crate::space::Where;
 use scad_ast::{Item, Scope};
 use scad_expr::EvalFault;
 use scad_fault::Place;
+use scad_leaves::{Call, Operation, Where};
 use scad_tree::Tree;
 
 /// What is at work.

@@ -10,13 +10,13 @@ use Rattle.scad_modules.specs.Reading.{Read}
 use Rattle.scad_tree.specs.Solid.{Solid}
 use Rattle.scad_expr.specs.Machine.{held, env_in, along_in, state_of}
 use Rattle.scad_expr.specs.State.{Outcome}
-use Rattle.scad_inst.specs.declared.operation.Operation.TheVariants.{Unite}
-use Rattle.scad_inst.specs.declared.space.Where.{Where}
+use Rattle.scad_leaves.specs.declared.operation.Operation.TheVariants.{Unite}
+use Rattle.scad_leaves.specs.declared.space.Where.{Where}
+use Rattle.scad_leaves.specs.Products.{argued}
+use Rattle.scad_leaves.specs.Where.{inside_linear}
 use Rattle.scad_inst.specs.Frames.{below_of}
-use Rattle.scad_inst.specs.Products.{argued}
 use Rattle.scad_inst.specs.Meaning.{built_in, combined}
 use Rattle.scad_inst.specs.Stack.{onward}
-use Rattle.scad_inst.specs.Where.{inside_linear}
 use Rattle.scad_inst.proofs.Heights.{height-stops, height-goes}
 use Rattle.scad_inst.proofs.built_in.linear_extrude.Goals as goal
 

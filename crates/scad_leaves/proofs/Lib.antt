@@ -1,0 +1,6 @@
+pub mod Fine
+pub mod FlatRounds
+pub mod HullFacts
+pub mod KeptPoints
+pub mod MadeTrees
+pub mod Sweeps
