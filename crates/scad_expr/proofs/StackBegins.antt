@@ -17,13 +17,16 @@ use Rattle.scad_scope.specs.Env.{Env}
 use Rattle.scad_scope.specs.FrameStore.{env_at, envs}
 use Rattle.scad_expr.specs.declared.part.Part.{Part}
 use Rattle.scad_machine.specs.declared.fault.EvalFault.{EvalFault}
-use Rattle.scad_expr.specs.declared.frame.Frame.TheVariants.{Vector, Each, If, Either, Turns, Leave, Body}
+use Rattle.scad_expr.specs.declared.frame.Frame.TheVariants.{Gathering as GatheringFrame, Round as RoundFrame}
+use Rattle.scad_expr.specs.declared.frame.Gathering.TheVariants.{Vector, Each, If, Either}
+use Rattle.scad_expr.specs.declared.frame.Round.TheVariants.{Turns, Body}
 use Rattle.scad_expr.specs.declared.frame.Inside.TheVariants.{Value as InsideValue, Element as InsideElement, Turns as InsideTurns}
 use Rattle.scad_expr.specs.declared.frame.Within.{Within}
 use Rattle.scad_expr.specs.declared.frame.Loop.{Loop}
 use Rattle.scad_expr.specs.declared.frame.Opening.{Opening}
 use Rattle.scad_expr.specs.declared.frame.Variable.{Variable}
 use Rattle.scad_expr.specs.declared.frame.Turning.{Turning}
+use Rattle.scad_expr.specs.declared.frame.Course.{Course}
 use Rattle.scad_machine.specs.State.{State, Outcome, gives, refuses, Action, pure, and_then, ◌>>=◌, step, make, step_limit}
 use Rattle.scad_machine.specs.Machine.{Held, env_in, along_in}
 use Rattle.scad_machine.specs.Functions.{Function, Found}
@@ -37,7 +40,7 @@ use Rattle.scad_expr.specs.Meaning.{elements as elements_given}
 use Rattle.scad_machine.specs.OpenFrames.{opened, set_in_last, left, bound_in, outer, IsInner}
 use Rattle.scad_expr.specs.Pieces.{element_if, either_element}
 use Rattle.scad_expr.specs.Portions.{defaulted}
-use Rattle.scad_expr.specs.Stack.{Whole, Rest, added, onto, binds, fills, entered, filling, binding, inside_of, looped, loop_of, renewed, turned, turning, turns_of, course}
+use Rattle.scad_expr.specs.Stack.{Whole, Rest, added, gathers, goes_round, onto, binds, fills, entered, filling, binding, inside_of, looped, loop_of, renewed, turned, turning, turns_of, course}
 use Rattle.scad_machine.specs.View.{function_of}
 use Rattle.scad_expr.proofs.Loops.{twice, same-then, call-begins}
 use Rattle.scad_machine.proofs.OpenFrames.{env_in-opened, along_in-opened, left-opened, gone-opened}
@@ -46,10 +49,10 @@ use Rattle.scad_expr.proofs.StackTurns.{inner, inner-value, inner-element, left-
 -- ---- vectors
 pub vector-begins : (below : Below) (at : Place) (es : Elements) (k k2 : Rest) (h : Held) (made none : List Datum)
     (outer : Vec Part Global) (s : State)
-    → parts_in outer ≡ made → none ≡ [] → k2 ≡ onto (Vector at outer) k
+    → parts_in outer ≡ made → none ≡ [] → k2 ≡ onto (GatheringFrame (Vector at outer)) k
     → and_then (node below (env_in h) (along_in h) (vector at es) s) (k h made)
     ≡ and_then (elements_given below (env_in h) (along_in h) es none s) (added k2 h)
-unfolding node onto
+unfolding node onto gathers goes_round
 vector-begins below at es k k2 h made none outer s same empty is =
     twice (elements_given below (env_in h) (along_in h) es [] s) (λ found. make at (vector_datum (as_elements found)))
     (k h made)
@@ -59,11 +62,11 @@ vector-begins below at es k k2 h made none outer s same empty is =
 
 pub each-begins : (below : Below) (e : Element) (k k2 : Rest) (h : Held) (made none : List Datum)
     (outer : Vec Part Global) (s : State)
-    → parts_in outer ≡ made → none ≡ [] → k2 ≡ onto (Each outer) k
+    → parts_in outer ≡ made → none ≡ [] → k2 ≡ onto (GatheringFrame (Each outer)) k
     → and_then (and_then (below.element (env_in h) (along_in h) e [] s)
     (λ found. pure (made ++ flat_map items found))) (added k h)
     ≡ and_then (below.element (env_in h) (along_in h) e none s) (added k2 h)
-unfolding onto
+unfolding onto gathers goes_round
 each-begins below e k k2 h made none outer s same empty is =
     twice (below.element (env_in h) (along_in h) e [] s) (λ found. pure (made ++ flat_map items found)) (added k h)
     ∙ ap (λ m. and_then (below.element (env_in h) (along_in h) e [] s)
@@ -124,10 +127,10 @@ loop-begins depth back held args k h o made s i none out is =
 pub test-holds : (held : Box Loop Global) (back depth : ℕ) (k k1 : Rest) (h h1 : Held) (made made1 : List Datum)
     (d : Datum) (s s1 : State)
     → truth d ≡ true → step held.value.at s ≡ gives tt s1 → h1 ≡ h → made1 ≡ made
-    → k1 ≡ onto (Body held back depth) k → turning held.value back depth k h made d s
+    → k1 ≡ onto (RoundFrame (Body held back depth)) k → turning held.value back depth k h made d s
     ≡ and_then ((meaning depth).element (env_in h1) (along_in h1) (element_of held.value.body.now) made1 s1)
     (added k1 h1)
-unfolding turned onto
+unfolding turned onto gathers goes_round
 test-holds held back depth k k1 h h1 made made1 d s s1 holds stepped kept same is =
     let l = held.value in
     let body = element_of l.body.now in
@@ -235,39 +238,39 @@ fills-defined all i p e below k h s there is some =
     (λ d. fills below (map (λ p. parameter p.now) (drop (i + 1) all)) k (set_in_last p.now.name d h))) some
 
 -- ---- a turn of a variable
-pub turn-begins : (held : Box Turning Global) (v : Variable) (back : ℕ) (d : Datum) (k k1 k3 : Rest)
+pub turn-begins : (t : Turning) (held : Box Turning Global) (v : Variable) (d : Datum) (k k3 : Rest)
     (h h3 : Held) (made made3 : List Datum) (s s2 s3 : State)
-    → v ≡ held.value.variable
-    → step v.at s ≡ gives tt s2 → k1 ≡ onto (Turns held) k → k3 ≡ onto (Leave back) k1
+    → v ≡ t.variable → held.value.variable ≡ v → held.value.left ≡ t.left
+    → step v.at s ≡ gives tt s2 → k3 ≡ onto (RoundFrame (Turns held)) k
     → env_in h3 ≡ within (env_in h) (set v.name.now d empty).names
     → along_in h3 ≡ within (along_in h) (set v.name.now d empty).dollars
-    → left back h3 ≡ h → made3 ≡ made → s3 ≡ s2
-    → and_then (turns_of held.value.variable h (d ∷ course held.value.left) made s) (added k h)
+    → left held.value.back h3 ≡ h → made3 ≡ made → s3 ≡ s2
+    → and_then (turns_of t.variable h (d ∷ course t.left) made s) (added k h)
     ≡ and_then (for_variables (meaning v.depth) v.at (arguments v.more.now) (element_of v.body.now) (env_in h3)
     (along_in h3) made3 s3) (added k3 h3)
-unfolding turns onto
-turn-begins held v back d k k1 k3 h h3 made made3 s s2 s3 same_variable stepped is1 is3 env_is along_is back_is
-    made_is same =
-    let more = held.value.left in
-    let after : Variable → Rest = λ (x : Variable) (y : Held) (now : List Datum) (e : Datum). turns_of x y (course more) now
-    >>= added k y in
+unfolding turns onto goes_round
+turn-begins t held v d k k3 h h3 made made3 s s2 s3 same_variable held_variable lefts stepped is3 env_is along_is
+    back_is made_is same =
+    let more = t.left in
     let into : Env → Env → List Datum → Action (List Datum) = for_variables (meaning v.depth) v.at (arguments v.more.now) (element_of v.body.now) in
     let rest_turns : List Datum → Action (List Datum) = turns (meaning v.depth) v.at v.name.now into (env_in h) (along_in h) (course more) in
     let e2 = within (env_in h) (set v.name.now d empty).names in
     let a2 = within (along_in h) (set v.name.now d empty).dollars in
     ap (λ (x : Variable). and_then (turns_of x h (d ∷ course more) made s) (added k h)) (sym same_variable)
-    ∙ ap (λ r. and_then (and_then r (λ _ t. and_then (into e2 a2 made t) rest_turns)) (added k h)) stepped
+    ∙ ap (λ r. and_then (and_then r (λ _ u. and_then (into e2 a2 made u) rest_turns)) (added k h)) stepped
     ∙ twice (into e2 a2 made s2) rest_turns (added k h)
     ∙ ap (λ (y : Held). and_then (into e2 a2 made s2)
-    (λ now t. and_then (turns_of v y (course more) now t) (added k y))) (sym back_is)
+    (λ now u. and_then (turns_of v y (course more) now u) (added k y))) (sym back_is)
     ∙ ap₂ (λ x y. and_then (into x y made s2)
-    (λ now t. and_then (turns_of v (left back h3) (course more) now t) (added k (left back h3)))) (sym env_is)
-    (sym along_is)
-    ∙ ap₂ (λ m t. and_then (into (env_in h3) (along_in h3) m t)
-    (λ now u. and_then (turns_of v (left back h3) (course more) now u) (added k (left back h3)))) (sym made_is)
-    (sym same)
-    ∙ ap (λ (q : Rest). and_then (into (env_in h3) (along_in h3) made3 s3) (added q h3))
-    (sym (is3 ∙ ap (onto (Leave back)) (is1 ∙ ap after (sym same_variable))))
+    (λ now u. and_then (turns_of v (left held.value.back h3) (course more) now u)
+    (added k (left held.value.back h3)))) (sym env_is) (sym along_is)
+    ∙ ap₂ (λ m u. and_then (into (env_in h3) (along_in h3) m u)
+    (λ now w. and_then (turns_of v (left held.value.back h3) (course more) now w)
+    (added k (left held.value.back h3)))) (sym made_is) (sym same)
+    ∙ ap₂ (λ (x : Variable) (c : Course). and_then (into (env_in h3) (along_in h3) made3 s3)
+    (λ now w. and_then (turns_of x (left held.value.back h3) (course c) now w)
+    (added k (left held.value.back h3)))) (sym held_variable) (sym lefts)
+    ∙ ap (λ (q : Rest). and_then (into (env_in h3) (along_in h3) made3 s3) (added q h3)) (sym is3)
 
 -- ---- nodes with names, as the code begins them
 pub let-node-begins : (depth back : ℕ) (at : Place) (e : Bor Expr) (args : Arguments) (k : Rest) (h o : Held)
@@ -328,7 +331,7 @@ loop-node-begins depth back l held args k h o made s s1 t boxed stepped judged j
 pub each-node-begins : (below : Below) (at : Place) (e : Element) (k k2 : Rest) (h h2 : Held) (made none : List Datum)
     (outer : Vec Part Global) (s s1 : State)
     → step at s ≡ gives tt s1 → h2 ≡ h → parts_in outer ≡ made → none ≡ []
-    → k2 ≡ onto (Each outer) k
+    → k2 ≡ onto (GatheringFrame (Each outer)) k
     → and_then (element_node below (env_in h) (along_in h) (each at e) made s) (added k h)
     ≡ and_then (below.element (env_in h2) (along_in h2) e none s1) (added k2 h2)
 unfolding element_node
@@ -349,8 +352,8 @@ pub if-begins : (depth : ℕ) (at : Place) (test : Expression) (e : Bor Elem) (h
     (s : State)
     → and_then (element_node (meaning depth) (env_in h) (along_in h) (if_element at test (element_of e.now)) made s)
     (added k h)
-    ≡ and_then (and_then (step at s) (λ _. value depth (env_in h) (along_in h) test)) (onto (If e depth) k h made)
-unfolding element_node onto element_if
+    ≡ and_then (and_then (step at s) (λ _. value depth (env_in h) (along_in h) test)) (onto (GatheringFrame (If e depth)) k h made)
+unfolding element_node onto gathers goes_round element_if
 if-begins depth at test e h k made s =
     later-begins (step at s) (value depth (env_in h) (along_in h) test)
     (λ d. element_if (meaning depth) (env_in h) (along_in h) d (element_of e.now) made) (added k h)
@@ -360,8 +363,8 @@ pub either-begins : (depth : ℕ) (at : Place) (test : Expression) (e other : Bo
     → and_then (element_node (meaning depth) (env_in h) (along_in h)
     (if_else at test (element_of e.now) (element_of other.now)) made s) (added k h)
     ≡ and_then (and_then (step at s) (λ _. value depth (env_in h) (along_in h) test))
-    (onto (Either e other depth) k h made)
-unfolding element_node onto either_element
+    (onto (GatheringFrame (Either e other depth)) k h made)
+unfolding element_node onto gathers goes_round either_element
 either-begins depth at test e other h k made s =
     later-begins (step at s) (value depth (env_in h) (along_in h) test)
     (λ d. either_element (meaning depth) (env_in h) (along_in h) d (element_of e.now) (element_of other.now) made)

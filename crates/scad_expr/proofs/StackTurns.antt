@@ -1,5 +1,5 @@
 -- One turn of the machine: what follows a frame, a part, names that are bound, a call, and a turn of a loop.
-use Rattle.std.proofs.Common.{◌≡◌, ◌≢◌, ℕ, zero, suc, ◌-◌, ◌+◌, ◌<◌, ◌≤◌, Bool, true, false, if◌then◌else◌, List, [], ◌∷◌, ◌++◌, map, length, get_or, drop, Option, Some, None, codes, refl, sym, ap, ap₂, ◌∙◌, arith}
+use Rattle.std.proofs.Common.{◌≡◌, ◌≢◌, ℕ, zero, suc, ◌-◌, ◌+◌, ◌<◌, ◌≤◌, Bool, true, false, if◌then◌else◌, List, [], ◌∷◌, ◌++◌, map, length, get_or, drop, Option, Some, None, Result, Ok, Err, OnOk, codes, refl, sym, ap, ap₂, ◌∙◌, arith}
 use Rattle.std.proofs.lemmas.List.{length-append}
 use Rattle.scad_fault.specs.declared.place.Place.{Place}
 use Rattle.scad_fault.specs.declared.budget.BudgetKind.TheVariants.{Steps}
@@ -46,7 +46,12 @@ pub ruleset depths = (value_none, value_more, place_of, twice)
 
 pub ruleset element_depths = (element_none, element_more)
 
-pub ruleset nodes = (twice, value_layered)
+-- what holds anyway holds where there is a value
+pub on-ok : {A E P : Type 0} (r : Result A E) → P → OnOk r P
+on-ok (Ok a) p = p
+on-ok (Err e) p = tt
+
+pub ruleset nodes = (twice, value_layered, on-ok)
 
 -- ---- arguments
 pub behind-drop : (i : ℕ) (all : List Arg) → behind i (arguments all) ≡ arguments (drop i all)

@@ -16,6 +16,7 @@ pub use Rattle.scad_machine.specs.State
 pub use Rattle.scad_machine.specs.Variables
 pub use Rattle.scad_machine.specs.View
 -- What only the steps of the code promise to one another.
+pub mod Operation
 pub mod Parts
 pub mod Pieces
 pub mod Stack

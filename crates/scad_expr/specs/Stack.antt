@@ -1,15 +1,14 @@
 -- What is left to do: what each frame of the stack does with a value, and what is at work.
-use Rattle.std.specs.Prelude.{◌≡◌, ◌≢◌, ℕ, zero, suc, ◌+◌, ◌*◌, ◌<◌, ◌≤◌, List, [], ◌∷◌, ◌++◌, length, map, drop, Result, Ok, Err, Option, Some, None, true, false, if◌then◌else◌, IfOk, codes}
+use Rattle.std.specs.Prelude.{◌≡◌, ◌≢◌, ℕ, zero, suc, ◌+◌, ◌*◌, ◌<◌, ◌≤◌, List, [], ◌∷◌, ◌++◌, length, map, drop, Result, Ok, Err, Option, Some, None, true, false, if◌then◌else◌, IfOk, OnOk, codes}
 use Rattle.std.specs.List.{flat_map}
 use Rattle.scad_fault.specs.declared.place.Place.{Place}
 use Rattle.scad_ast.specs.Scope.{parameter}
 use Rattle.scad_ast.specs.Tree.{Expression, Arguments, no_arguments, argument, Element, Parameter}
 use Rattle.scad_ast.specs.Tree.{call as call_at, assert_in, echo_in}
 use Rattle.scad_ast.specs.View.{expression_of, arguments, element_of, elements}
-use Rattle.scad_value.specs.Datum.{Datum, undef, boolean, vector}
+use Rattle.scad_value.specs.Datum.{Datum, undef, vector}
 use Rattle.scad_value.specs.Comparison.{truth}
-use Rattle.scad_value.specs.Index.{indexed}
-use Rattle.scad_value.specs.Operators.{op, unary_op}
+use Rattle.scad_value.specs.Operators.{op}
 use Rattle.scad_value.specs.View.{datum_of, data_of, data_in}
 use Rattle.scad_value.specs.declared.value.Value.{Value}
 use Rattle.scad_scope.specs.Env.{Env}
@@ -27,26 +26,34 @@ use Rattle.scad_expr.specs.declared.frame.Variable.{Variable}
 use Rattle.scad_expr.specs.declared.frame.Course.{Course}
 use Rattle.scad_expr.specs.declared.frame.Course.TheVariants.{Values, Numbers}
 use Rattle.scad_expr.specs.declared.frame.Frame.{Frame}
-use Rattle.scad_expr.specs.declared.frame.Frame.TheVariants.{RangeEnd, Ends, StepAndEnd, SteppedEnd, Stepped, Unary, Right, Truth, Operand, Sides, IndexOf, Indexed, IndexedName, Member, Arguments as ArgumentsFrame, Default, Leave, Bind, Vector, Elements, Item, Each, If, Either, Over, Turns, Test, Body}
+use Rattle.scad_expr.specs.declared.frame.Frame.TheVariants.{Operand, Operation as OperationFrame, Further as FurtherFrame, Arguments as ArgumentsFrame, Default, Leave, Bind, Gathering as GatheringFrame, Round as RoundFrame}
+use Rattle.scad_expr.specs.declared.frame.Further.{Further}
+use Rattle.scad_expr.specs.declared.frame.Further.TheVariants.{RangeEnd, StepAndEnd, SteppedEnd, Right as RightSide, Sides, IndexOf}
+use Rattle.scad_expr.specs.declared.frame.Gathering.{Gathering}
+use Rattle.scad_expr.specs.declared.frame.Gathering.TheVariants.{Vector, Elements, Item, Each, If, Either}
+use Rattle.scad_expr.specs.declared.frame.Round.{Round}
+use Rattle.scad_expr.specs.declared.frame.Round.TheVariants.{Over, Turns, Test, Body}
 use Rattle.scad_expr.specs.declared.frame.Focus.{Focus}
 use Rattle.scad_expr.specs.declared.frame.Focus.TheVariants.{Part, Element as ElementFocus, Given}
 use Rattle.scad_expr.specs.declared.stack.Stack.{Stack}
 use Rattle.scad_expr.specs.declared.run.Next.{Next}
 use Rattle.scad_expr.specs.declared.run.Next.TheVariants.{More, End}
 use Rattle.scad_machine.specs.declared.machine.Machine.{Machine}
+use Rattle.scad_machine.specs.Answers.{Does, nothing}
 use Rattle.scad_machine.specs.State.{State, Outcome, gives, refuses, Action, pure, and_then, ◌>>=◌, ◌>>◌, over, step, make, say}
 use Rattle.scad_fault.specs.declared.budget.BudgetKind.TheVariants.{Steps}
 use Rattle.scad_machine.specs.Machine.{Held, held, env_in, along_in, state_of}
 use Rattle.scad_machine.specs.Functions.{function_named}
-use Rattle.scad_expr.specs.Meaning.{Below, meaning, value, operated, ranged, ranged_by_one, member_of, asserted, values, default_value, called, turns, for_variables, right_side, node, judge_named, bound_in_order, loop_turns}
+use Rattle.scad_expr.specs.Meaning.{Below, meaning, value, operated, asserted, values, default_value, called, turns, for_variables, right_side, node, judge_named, bound_in_order, loop_turns}
 use Rattle.scad_expr.specs.Meaning.{elements as elements_given}
+use Rattle.scad_expr.specs.Operation.{operates}
 use Rattle.scad_machine.specs.OpenFrames.{set_in_last, left}
 use Rattle.scad_expr.specs.Parts.{parts_in}
 use Rattle.scad_expr.specs.Pieces.{range_end, stepped_end, step_and_end, side, index_of, element_if, either_element}
 use Rattle.scad_expr.specs.Portions.{numbers_left}
 use Rattle.scad_machine.specs.EchoLines.{echo_line}
 use Rattle.scad_expr.specs.Runs.{items, as_elements}
-use Rattle.scad_machine.specs.Variables.{variable, empty}
+use Rattle.scad_machine.specs.Variables.{empty}
 
 -- a value, and what is held then
 abbrev pub Whole : Type 0
@@ -218,48 +225,52 @@ turns_of v h all made =
     (element_of v.body.now))
     (env_in h) (along_in h) all made
 
--- ---- a frame, and then what follows it
+-- ---- frames
+-- an expression that goes on with another part, once one has its value
+unfoldable pub goes_further : Further → Below → Env → Env → Datum → Action Datum
+goes_further (RangeEnd e) below env along d = range_end below env along d (expression_of e.now)
+goes_further (StepAndEnd at e end) below env along d =
+    step_and_end below env along at d (expression_of e.now) (expression_of end.now)
+goes_further (SteppedEnd at bounds end) below env along d =
+    stepped_end below env along at (datum_of bounds.value.start) d (expression_of end.now)
+goes_further (RightSide r) below env along d = right_side below env along r.at r.op d (expression_of r.b.now)
+goes_further (Sides a b) below env along d = side below env along d (expression_of a.now) (expression_of b.now)
+goes_further (IndexOf i) below env along d = index_of below env along d (expression_of i.now)
+
+-- elements of a vector, and then what follows them
+unfoldable pub gathers : Gathering → Rest → Rest
+gathers (Vector at outer) k h made d = make at (vector (as_elements made)) >>= k h (parts_in outer)
+gathers (Elements more depth) k h made d =
+    elements_given (meaning depth) (env_in h) (along_in h) (elements more.now) made >>= added k h
+gathers Item k h made d = added k h (made ++ d ∷ [])
+gathers (Each outer) k h made d = added k h (parts_in outer ++ flat_map items made)
+gathers (If e depth) k h made d = element_if (meaning depth) (env_in h) (along_in h) d (element_of e.now) made
+    >>= added k h
+gathers (Either e other depth) k h made d =
+    either_element (meaning depth) (env_in h) (along_in h) d (element_of e.now) (element_of other.now) made
+    >>= added k h
+
+-- a `for`, and then what follows it
+unfoldable pub goes_round : Round → Rest → Rest
+goes_round (Over t) k h made d = turns_of t.value.variable h (items d) made >>= added k h
+goes_round (Turns t) k h made d = turns_of t.value.variable (left t.value.back h) (course t.value.left) made
+    >>= added k (left t.value.back h)
+goes_round (Test l back depth) k h made d = turning l.value back depth k h made d
+goes_round (Body l back depth) k h made d = renewing l.value back depth k made h
+
+-- a frame, and then what follows it
 unfoldable pub onto : Frame → Rest → Rest
-onto (RangeEnd e depth) k h made d = range_end (meaning depth) (env_in h) (along_in h) d (expression_of e.now)
-    >>= k h made
-onto (Ends a) k h made d = k h made (ranged_by_one (datum_of a) d)
-onto (StepAndEnd at e end depth) k h made d =
-    step_and_end (meaning depth) (env_in h) (along_in h) at d (expression_of e.now) (expression_of end.now) >>= k h made
-onto (SteppedEnd at a end depth) k h made d =
-    stepped_end (meaning depth) (env_in h) (along_in h) at (datum_of a.value) d (expression_of end.now) >>= k h made
-onto (Stepped at a s) k h made d = ranged at (datum_of a.value) (datum_of s.value) d >>= k h made
-onto (Unary at o) k h made d = make at (unary_op o d) >>= k h made
-onto (Right at o b depth) k h made d = right_side (meaning depth) (env_in h) (along_in h) at o d (expression_of b.now)
-    >>= k h made
-onto Truth k h made d = k h made (boolean (truth d))
 onto (Operand at o a) k h made d = operated at (op o (datum_of a) d) >>= k h made
-onto (Sides a b depth) k h made d =
-    side (meaning depth) (env_in h) (along_in h) d (expression_of a.now) (expression_of b.now) >>= k h made
-onto (IndexOf i depth) k h made d = index_of (meaning depth) (env_in h) (along_in h) d (expression_of i.now)
-    >>= k h made
-onto (Indexed a) k h made d = k h made (indexed (datum_of a) d)
-onto (IndexedName word) k h made d = k h made (indexed (variable word.now (env_in h) (along_in h)) d)
-onto (Member word) k h made d = k h made (member_of word.now d)
+onto (OperationFrame o) k h made d = operates o h d >>= k h made
+onto (FurtherFrame f depth) k h made d = goes_further f (meaning depth) (env_in h) (along_in h) d >>= k h made
 onto (ArgumentsFrame e so_far depth) k h made d =
     supplied (meaning depth) (expression_of e.now) (env_in h) (along_in h) (data_in so_far ++ d ∷ []) >>= k h made
 onto (Default name o) k h made d = filling o.value k made (set_in_last name.now d h)
 onto (Leave back) k h made d = k (left back h) made d
 onto (Bind args w) k h made d =
     binding w (behind 1 (arguments args.now)) k made (set_first (arguments args.now) d h)
-onto (Vector at outer) k h made d = make at (vector (as_elements made)) >>= k h (parts_in outer)
-onto (Elements more depth) k h made d =
-    elements_given (meaning depth) (env_in h) (along_in h) (elements more.now) made >>= added k h
-onto Item k h made d = added k h (made ++ d ∷ [])
-onto (Each outer) k h made d = added k h (parts_in outer ++ flat_map items made)
-onto (If e depth) k h made d = element_if (meaning depth) (env_in h) (along_in h) d (element_of e.now) made
-    >>= added k h
-onto (Either e other depth) k h made d =
-    either_element (meaning depth) (env_in h) (along_in h) d (element_of e.now) (element_of other.now) made
-    >>= added k h
-onto (Over t) k h made d = turns_of t.value.variable h (items d) made >>= added k h
-onto (Turns t) k h made d = turns_of t.value.variable h (course t.value.left) made >>= added k h
-onto (Test l back depth) k h made d = turning l.value back depth k h made d
-onto (Body l back depth) k h made d = renewing l.value back depth k made h
+onto (GatheringFrame g) k h made d = gathers g k h made d
+onto (RoundFrame r) k h made d = goes_round r k h made d
 
 abbrev pub rest_of : List Frame → Rest → Rest
 rest_of [] k = k
@@ -298,6 +309,19 @@ followed a stack m = and_then (a (state_of m)) (rest stack (held m) (made_in sta
 abbrev pub followed_list : Action (List Datum) → Stack → Machine → Outcome Whole
 followed_list a stack m = and_then (a (state_of m)) (added (rest stack) (held m))
 
+-- where a value is given, it is at work, and then comes what follows it
+abbrev pub GoesOn : Result Value EvalFault → Result Focus EvalFault → Type 0
+GoesOn v focus = (whole : Outcome Datum) (o : Outcome Whole) (stack : Stack) (h : Held) (m : Machine)
+    → o ≡ and_then whole (rest stack h (made_in stack)) → Does datum_of whole v (state_of m) → OnOk v (held m ≡ h)
+    → Goes o focus (rest stack) (held m) (made_in stack) (state_of m)
+
+-- an expression that begins once what stands before it is done
+abbrev pub BeginsAfter : {A : Type 0} → Result A EvalFault → Expression → ℕ → Result Focus EvalFault → Type 0
+BeginsAfter done e depth focus = (whole : Outcome (Unit {0})) (o : Outcome Whole) (k : Rest) (h h2 : Held)
+    (made : List Datum) (s : State)
+    → o ≡ and_then (and_then whole (λ _. value depth (env_in h) (along_in h) e)) (k h made)
+    → Does nothing whole done s → OnOk done (h2 ≡ h) → Goes o focus k h2 made s
+
 -- ---- how much work is left at most
 abbrev pub rank : Focus → ℕ
 rank (Part e depth) = 0
@@ -311,6 +335,16 @@ abbrev pub Below_by : ℕ → Result Focus EvalFault → Stack → Machine → S
 Below_by n result stack m stack_new m_new = IfOk result
     (λ f. size f stack_new m_new ≤ 2 * height stack + 16 * m.steps_left + n)
 
+-- a value that is given without more frames or steps
+abbrev pub Lessens : Result Value EvalFault → Result Focus EvalFault → Type 0
+Lessens v focus = (n : ℕ) (stack stack_new : Stack) (m m_new : Machine) → 4 ≤ n → height stack_new ≡ height stack
+    → OnOk v (m_new.steps_left ≤ m.steps_left) → Below_by n focus stack m stack_new m_new
+
+-- the same of an expression that begins
+abbrev pub BeginsLess : {A : Type 0} → Result A EvalFault → Result Focus EvalFault → Type 0
+BeginsLess done focus = (n : ℕ) (stack : Stack) (m m_new : Machine) → OnOk done (m_new.steps_left ≤ m.steps_left)
+    → Below_by n focus stack m stack m_new
+
 -- after one turn
 abbrev pub Ending : Outcome Whole → Result Next EvalFault → Rest → Held → List Datum → State → Type 0
 Ending whole (Ok (More f)) k h made s = whole ≡ goes_on f k h made s
@@ -321,6 +355,16 @@ abbrev pub Less : ℕ → Result Next EvalFault → Stack → Machine → Type 0
 Less n (Ok (More f)) stack m = size f stack m < n
 Less n (Ok (End v)) stack m = Unit {0}
 Less n (Err e) stack m = Unit {0}
+
+-- whatever goes on by the one goes on by the other
+abbrev pub IsMore : Result Focus EvalFault → Result Next EvalFault → Type 0
+IsMore focus next = (whole : Outcome Whole) (k : Rest) (h : Held) (made : List Datum) (s : State)
+    → Goes whole focus k h made s → Ending whole next k h made s
+
+-- and has as much left to do
+abbrev pub StaysLess : Result Focus EvalFault → Result Next EvalFault → Type 0
+StaysLess focus next = (n : ℕ) (stack : Stack) (m : Machine) → IfOk focus (λ f. size f stack m < n)
+    → Less n next stack m
 
 -- after all turns
 abbrev pub Done : Outcome Whole → Result Value EvalFault → Held → State → Type 0

@@ -2,21 +2,19 @@
 
 ghost use Rattle.std.specs.Prelude.{◌≡◌, ◌<◌, ◌≤◌, ◌++◌, ◌∷◌, [], length, OnOk};
 ghost use Rattle.scad_ast.specs.View.{arguments, expression_of};
-ghost use Rattle.scad_builtin.specs.Builtin.{builtin};
-ghost use Rattle.scad_value.specs.View.{datum_of, data_in, data_of};
+ghost use Rattle.scad_value.specs.View.{datum_of, data_in};
 ghost use Rattle.scad_scope.specs.FrameStore.{envs};
 ghost use Rattle.scad_machine.specs.Answers.{Does, nothing};
 ghost use Rattle.scad_machine.specs.Machine.{held, env_in, along_in, state_of};
 ghost use Rattle.scad_machine.specs.EchoLines.{echo_line};
 ghost use Rattle.scad_machine.specs.State.{State, say};
-ghost use Rattle.scad_expr.specs.Meaning.{asserted, called_builtin, called_own, meaning, value};
-ghost use Rattle.scad_expr.specs.Runs.{as_elements};
-ghost use Rattle.scad_expr.specs.Stack.{Leads, Below_by, followed, purposed, supplied, served, called_as};
+ghost use Rattle.scad_expr.specs.Meaning.{asserted, called_own, meaning};
+ghost use Rattle.scad_expr.specs.Stack.{Leads, Below_by, BeginsAfter, BeginsLess, followed, purposed, supplied, served, called_as};
 ghost use Rattle.scad_machine.specs.Variables.{variable};
 ghost use Rattle.scad_machine.specs.View.{found_at};
 
 use crate::defaults::fill;
-use crate::frame::{Focus, Frame, Opening, Written};
+use crate::frame::{Focus, Frame, Opening, Written, at_work};
 use crate::loans::builtin_on;
 use crate::operations::builtin_at;
 use crate::purpose::{Purpose, purpose_of};
@@ -103,12 +101,10 @@ fn serve<'p>(
     match purpose {
         Purpose::Call(written) => called(written, so_far, depth, stack, m),
         Purpose::Assert(at, args, body) => {
-            assert_all(stack.alloc(), at, args, so_far)?;
-            begin(body, depth, stack, m)
+            begin(assert_all(stack.alloc(), at, args, so_far), body, depth)
         }
         Purpose::Echo(at, args, body) => {
-            echo_all(stack.alloc(), at, args, so_far, m)?;
-            begin(body, depth, stack, m)
+            begin(echo_all(stack.alloc(), at, args, so_far, m), body, depth)
         }
     }
 }
@@ -136,23 +132,20 @@ fn echo_all<'p>(
     m.echo(alloc, at, args, &found)
 }
 
-/// An expression for which no frame waits.
+/// An expression that begins once what stands before it is done.
 #[tactic(auto, unfolding(crate::specs::Stack::goes_on))]
-fn begin<'p>(
-    e: &'p Expr,
-    depth: u32,
-    _stack: &mut Stack<'p>,
-    _m: &mut Machine<'p>,
-) -> Result<Focus<'p>, EvalFault>
-    ensures goes { Leads (followed (value depth (env_in (held _m.old)) (along_in (held _m.old)) (expression_of e.now))
-        _stack.old _m.old) result _stack.new _m.new }
-    ensures less { Below_by 0 result _stack.old _m.old _stack.new _m.new }
+fn begin<'p>(done: Result<(), EvalFault>, e: &'p Expr, depth: u32) -> Result<Focus<'p>, EvalFault>
+    ensures goes { BeginsAfter done (expression_of e.now) depth result }
+    ensures less { BeginsLess done result }
 {
-    Ok(Focus::Part(e, depth))
+    match done {
+        Ok(()) => Ok(Focus::Part(e, depth)),
+        Err(why) => Err(why),
+    }
 }
 
 /// A call with the values of its arguments: the program's functions go before those of the language.
-#[tactic(auto, using(crate::proofs::StackTurns::calls))]
+#[tactic(auto, using(crate::proofs::StackTurns::calls, crate::proofs::Lists::called_elements))]
 fn called<'p>(
     written: Written<'p>,
     found: Vec<Value>,
@@ -164,26 +157,14 @@ fn called<'p>(
         result stack.new m.new }
     ensures less { Below_by 4 result stack.old m.old stack.new m.new }
 {
-    match m.function(written.word)? {
-        Some(own) => call_own(own, written.args, found, depth, stack, m),
-        None => call_known(written.at, written.word, &found, stack, m),
+    match m.function(written.word) {
+        Ok(Some(own)) => call_own(own, written.args, found, depth, stack, m),
+        Ok(None) => {
+            let Written { at, word, .. } = written;
+            at_work(builtin_at(stack.alloc(), at, word, &found, m))
+        }
+        Err(_) => Err(EvalFault::Memory),
     }
-}
-
-/// A call of a function of the language.
-#[tactic(auto, using(crate::proofs::StackTurns::calls, crate::proofs::Lists::called_elements), unfolding(crate::specs::Stack::goes_on))]
-fn call_known<'p>(
-    at: Place,
-    word: &'p [u8],
-    found: &[Value],
-    stack: &mut Stack<'p>,
-    m: &mut Machine<'p>,
-) -> Result<Focus<'p>, EvalFault>
-    ensures goes { Leads (followed (called_builtin at word.now (builtin word.now (as_elements (data_of found.now))))
-        stack.old m.old) result stack.new m.new }
-    ensures less { Below_by 4 result stack.old m.old stack.new m.new }
-{
-    Ok(Focus::Given(builtin_at(stack.alloc(), at, word, found, m)?))
 }
 
 /// A call whose one argument is a variable, which a function of the language reads where it stands.
@@ -199,9 +180,10 @@ pub(crate) fn call_of_name<'p>(
         (along_in (held m.old)) ∷ [])) stack.old m.old) result stack.new m.new }
     ensures less { Below_by 4 result stack.old m.old stack.new m.new }
 {
-    match m.function(written.word)? {
-        Some(own) => own_of_name(own, written.args, of, depth, stack, m),
-        None => Ok(Focus::Given(builtin_on(stack.alloc(), written.at, written.word, of, m)?)),
+    match m.function(written.word) {
+        Ok(Some(own)) => own_of_name(own, written.args, of, depth, stack, m),
+        Ok(None) => at_work(builtin_on(stack.alloc(), written.at, written.word, of, m)),
+        Err(_) => Err(EvalFault::Memory),
     }
 }
 

@@ -17,7 +17,7 @@ ghost use Rattle.scad_machine.specs.State.{and_then, make, step};
 ghost use Rattle.scad_expr.specs.Stack.{Leads, Below_by, followed_list, loop_of, onto, added, rest, made_in};
 
 use crate::construction::vector as vector_at;
-use crate::frame::{Focus, Frame, Inside, Loop, Within};
+use crate::frame::{Focus, Frame, Gathering, Inside, Loop, Within};
 use crate::named::bind_more;
 use crate::part::Part;
 use crate::pieces::add_parts;
@@ -30,7 +30,7 @@ use scad_machine::{EvalFault, Machine};
 use scad_value::{Value, truth};
 
 /// The next element, or none.
-#[tactic(auto, using(crate::proofs::StackTurns::nodes), unfolding(crate::specs::Meaning::elements, crate::specs::Stack::onto, crate::specs::Stack::goes_on))]
+#[tactic(auto, using(crate::proofs::StackTurns::nodes), unfolding(crate::specs::Meaning::elements, crate::specs::Stack::onto, crate::specs::Stack::gathers, crate::specs::Stack::goes_on))]
 pub(crate) fn more_elements<'p>(
     all: &'p [Elem],
     depth: u32,
@@ -44,7 +44,7 @@ pub(crate) fn more_elements<'p>(
     let _steps = m.steps_left;
     match all {
         [first, more @ ..] => {
-            stack.push(Frame::Elements(more, depth))?;
+            stack.push(Frame::Gathering(Gathering::Elements(more, depth)))?;
             Ok(Focus::Element(first, depth))
         }
         [] => Ok(Focus::Given(Value::Undef)),
@@ -71,7 +71,7 @@ pub(crate) fn element<'p>(
 }
 
 /// One arm for each kind of element.
-#[tactic(auto, using(crate::proofs::Views::element_views, crate::proofs::StackTurns::nodes), unfolding(crate::specs::Meaning::element_node, crate::specs::Stack::onto))]
+#[tactic(auto, using(crate::proofs::Views::element_views, crate::proofs::StackTurns::nodes), unfolding(crate::specs::Meaning::element_node, crate::specs::Stack::onto, crate::specs::Stack::gathers))]
 fn element_node<'p>(
     e: &'p Elem,
     depth: u32,
@@ -84,7 +84,7 @@ fn element_node<'p>(
     ensures less { Below_by 2 result stack.old m.old stack.new m.new }
 {
     match e {
-        Elem::Item(e) => stack.wait(Frame::Item, e, depth + 1),
+        Elem::Item(e) => stack.wait(Frame::Gathering(Gathering::Item), e, depth + 1),
         Elem::Each(e, at) => each_element(*at, e, depth, stack, m),
         Elem::For(args, e, at) => for_element(*at, args, e, depth, stack, m),
         Elem::Loop(starts, test, steps, e, at) => {
@@ -119,7 +119,14 @@ fn if_node<'p>(
         result stack.new m.new }
     ensures less { Below_by 2 result stack.old m.old stack.new m.new }
 {
-    later(at, Frame::If(e, depth), test, depth, stack, m)
+    later(
+        at,
+        Frame::Gathering(Gathering::If(e, depth)),
+        test,
+        depth,
+        stack,
+        m,
+    )
 }
 
 /// The elements of an `if` with `else`.
@@ -145,7 +152,7 @@ fn either_node<'p>(
 {
     later(
         at,
-        Frame::Either(both.e, both.other, depth),
+        Frame::Gathering(Gathering::Either(both.e, both.other, depth)),
         test,
         depth,
         stack,
@@ -174,7 +181,7 @@ fn later<'p>(
 }
 
 /// `each element`
-#[tactic(auto, using(crate::proofs::StackTurns::nodes), unfolding(crate::specs::Meaning::element_node, crate::specs::Stack::onto, crate::specs::Stack::goes_on))]
+#[tactic(auto, using(crate::proofs::StackTurns::nodes), unfolding(crate::specs::Meaning::element_node, crate::specs::Stack::onto, crate::specs::Stack::gathers, crate::specs::Stack::goes_on))]
 fn each_element<'p>(
     at: Place,
     e: &'p Elem,
@@ -188,7 +195,7 @@ fn each_element<'p>(
 {
     m.step(at)?;
     let outer = stack.set_aside();
-    stack.push(Frame::Each(outer))?;
+    stack.push(Frame::Gathering(Gathering::Each(outer)))?;
     Ok(Focus::Element(e, depth))
 }
 
@@ -261,100 +268,6 @@ fn let_element<'p>(
         depth,
     };
     bind_more(within, args, stack, m)
-}
-
-/// The vector of what was added.
-#[tactic(auto, using(crate::proofs::StackTurns::nodes), unfolding(crate::specs::Stack::goes_on))]
-pub(crate) fn make<'p>(
-    at: Place,
-    outer: Vec<Part>,
-    stack: &mut Stack<'p>,
-    m: &mut Machine<'p>,
-) -> Result<Focus<'p>, EvalFault>
-    ensures goes { Leads (and_then (make at (vector (as_elements (made_in stack.old))) (state_of m.old))
-        (rest stack.old (held m.old) (parts_in outer))) result stack.new m.new }
-    ensures less { Below_by 4 result stack.old m.old stack.new m.new }
-{
-    let all = stack.exchange(outer);
-    Ok(Focus::Given(vector_at(stack.alloc(), at, all, m)?))
-}
-
-/// What an `each` gives in place of what was added.
-#[tactic(auto, using(crate::proofs::StackTurns::nodes), unfolding(crate::specs::Stack::goes_on))]
-pub(crate) fn spread<'p>(
-    outer: Vec<Part>,
-    stack: &mut Stack<'p>,
-    m: &mut Machine<'p>,
-) -> Result<Focus<'p>, EvalFault>
-    ensures goes { Leads (added (rest stack.old) (held m.old) (parts_in outer ++ flat_map items (made_in stack.old))
-        (state_of m.old)) result stack.new m.new }
-    ensures less { Below_by 4 result stack.old m.old stack.new m.new }
-{
-    let _steps = m.steps_left;
-    let found = stack.set_aside();
-    let all = add_parts(stack.alloc(), outer, found)?;
-    let _none = stack.exchange(all);
-    Ok(Focus::Given(Value::Undef))
-}
-
-/// An expression that is an element has its value.
-#[tactic(auto, unfolding(crate::specs::Stack::goes_on))]
-pub(crate) fn add<'p>(
-    v: Value,
-    stack: &mut Stack<'p>,
-    m: &mut Machine<'p>,
-) -> Result<Focus<'p>, EvalFault>
-    ensures goes { Leads (added (rest stack.old) (held m.old) (made_in stack.old ++ datum_of v ∷ []) (state_of m.old))
-        result stack.new m.new }
-    ensures less { Below_by 4 result stack.old m.old stack.new m.new }
-{
-    let _steps = m.steps_left;
-    stack.add(v)?;
-    Ok(Focus::Given(Value::Undef))
-}
-
-/// The element of an `if` whose test has its value.
-#[tactic(auto, using(crate::proofs::StackTurns::nodes), unfolding(crate::specs::Pieces::element_if, crate::specs::Stack::goes_on))]
-pub(crate) fn if_element<'p>(
-    v: &Value,
-    e: &'p Elem,
-    depth: u32,
-    stack: &mut Stack<'p>,
-    m: &mut Machine<'p>,
-) -> Result<Focus<'p>, EvalFault>
-    ensures goes { Leads (followed_list (element_if (meaning depth) (env_in (held m.old)) (along_in (held m.old))
-        (datum_of v.now) (element_of e.now) (made_in stack.old)) stack.old m.old) result stack.new m.new }
-    ensures less { Below_by 4 result stack.old m.old stack.new m.new }
-{
-    let _work = (stack.alloc(), m.steps_left);
-    if truth(v) {
-        Ok(Focus::Element(e, depth))
-    } else {
-        Ok(Focus::Given(Value::Undef))
-    }
-}
-
-/// The element of an `if` with `else` whose test has its value.
-#[tactic(auto, using(crate::proofs::StackTurns::nodes), unfolding(crate::specs::Pieces::either_element, crate::specs::Stack::goes_on))]
-pub(crate) fn either<'p>(
-    v: &Value,
-    e: &'p Elem,
-    other: &'p Elem,
-    depth: u32,
-    stack: &mut Stack<'p>,
-    m: &mut Machine<'p>,
-) -> Result<Focus<'p>, EvalFault>
-    ensures goes { Leads (followed_list (either_element (meaning depth) (env_in (held m.old)) (along_in (held m.old))
-        (datum_of v.now) (element_of e.now) (element_of other.now) (made_in stack.old)) stack.old m.old)
-        result stack.new m.new }
-    ensures less { Below_by 4 result stack.old m.old stack.new m.new }
-{
-    let _work = (stack.alloc(), m.steps_left);
-    if truth(v) {
-        Ok(Focus::Element(e, depth))
-    } else {
-        Ok(Focus::Element(other, depth))
-    }
 }
 
 /// Where an element stands.

@@ -1,8 +1,12 @@
 //! What waits on the stack for a value.
 
+ghost use Rattle.scad_expr.specs.Stack.{GoesOn, Lessens};
+
+use crate::operation::{Bounds, Operation};
 use crate::part::Part;
-use scad_ast::{Arg, BinOp, Elem, Expr, Param, UnOp};
+use scad_ast::{Arg, BinOp, Elem, Expr, Param};
 use scad_fault::Place;
+use scad_machine::EvalFault;
 use scad_num::Num;
 use scad_value::Value;
 
@@ -79,53 +83,42 @@ pub(crate) enum Course {
     Numbers(Option<Num>, Num, Num),
 }
 
-/// A variable, and what it still runs over.
+/// A variable, what it still runs over, and the number of the frame from which names were sought before the turn that goes on.
 #[derive(Drop)]
 pub(crate) struct Turning<'p> {
     pub(crate) variable: Variable<'p>,
     pub(crate) left: Course,
+    pub(crate) back: u32,
 }
 
-/// What waits for the value of a part. A last number tells how many levels of depth its other parts have. A frame is moved
-/// several times, so what is large and rare stands in a box.
+/// An operator and its right side.
+#[derive(Clone, Copy)]
+pub(crate) struct Right<'p> {
+    pub(crate) at: Place,
+    pub(crate) op: BinOp,
+    pub(crate) b: &'p Expr,
+}
+
+/// An expression that goes on with another part of it once one has its value.
 #[derive(Drop)]
-pub(crate) enum Frame<'p> {
+pub(crate) enum Further<'p> {
     /// The end of a range without a step.
-    RangeEnd(&'p Expr, u32),
-    /// A range without a step, with its start.
-    Ends(Value),
+    RangeEnd(&'p Expr),
     /// The step and the end of a range.
-    StepAndEnd(Place, &'p Expr, &'p Expr, u32),
+    StepAndEnd(Place, &'p Expr, &'p Expr),
     /// A range with its start, and its end.
-    SteppedEnd(Place, Box<Value>, &'p Expr, u32),
-    /// A range with its start and its step.
-    Stepped(Place, Box<Value>, Box<Value>),
-    /// An operator before a value.
-    Unary(Place, UnOp),
+    SteppedEnd(Place, Box<Bounds>, &'p Expr),
     /// An operator and its right side.
-    Right(Place, BinOp, &'p Expr, u32),
-    /// A value's truth.
-    Truth,
-    /// An operator with its left operand.
-    Operand(Place, BinOp, Value),
+    Right(Right<'p>),
     /// The sides of a choice.
-    Sides(&'p Expr, &'p Expr, u32),
+    Sides(&'p Expr, &'p Expr),
     /// An index.
-    IndexOf(&'p Expr, u32),
-    /// A value that is indexed.
-    Indexed(Value),
-    /// A variable that is indexed.
-    IndexedName(&'p [u8]),
-    /// A member.
-    Member(&'p [u8]),
-    /// The next argument of a call, an `assert` or an `echo`, with the values of those before it.
-    Arguments(&'p Expr, Vec<Value>, u32),
-    /// A parameter that takes its default.
-    Default(&'p [u8], Box<Opening<'p>>),
-    /// Frames of names are left.
-    Leave(u32),
-    /// Names that are bound, of which the first takes the value.
-    Bind(&'p [Arg], Within<'p>),
+    IndexOf(&'p Expr),
+}
+
+/// What waits in a vector that is being made. A last number tells how many levels of depth its parts have.
+#[derive(Drop)]
+pub(crate) enum Gathering<'p> {
     /// A vector of what was added, and what was added to the one around it.
     Vector(Place, Vec<Part>),
     /// Elements that follow.
@@ -138,14 +131,44 @@ pub(crate) enum Frame<'p> {
     If(&'p Elem, u32),
     /// The elements of an `if` with `else`.
     Either(&'p Elem, &'p Elem, u32),
-    /// A variable of a `for` that runs over the value.
+}
+
+/// What waits in a `for`.
+#[derive(Drop)]
+pub(crate) enum Round<'p> {
+    /// A variable that runs over the value.
     Over(Box<Turning<'p>>),
-    /// The turns of a variable that are left.
+    /// The turns of a variable that are left, behind the one that goes on.
     Turns(Box<Turning<'p>>),
-    /// The test of a loop.
+    /// The test of a loop, the frame from which names were sought before, and the depth of its parts.
     Test(Box<Loop<'p>>, u32, u32),
-    /// The element of a loop.
+    /// The element of a loop, and the same two.
     Body(Box<Loop<'p>>, u32, u32),
+}
+
+/// What waits for the value of a part. A last number tells how many levels of depth its other parts have. A frame is moved
+/// several times, so what is large and rare stands in a box. One that lies in another has a tag of its own, so what takes
+/// the most room lies in none: a frame has 48 bytes.
+#[derive(Drop)]
+pub(crate) enum Frame<'p> {
+    /// An operator with its left operand.
+    Operand(Place, BinOp, Value),
+    /// What gives a value right away.
+    Operation(Operation<'p>),
+    /// An expression that goes on with another part.
+    Further(Further<'p>, u32),
+    /// The next argument of a call, an `assert` or an `echo`, with the values of those before it.
+    Arguments(&'p Expr, Vec<Value>, u32),
+    /// A parameter that takes its default.
+    Default(&'p [u8], Box<Opening<'p>>),
+    /// Frames of names are left.
+    Leave(u32),
+    /// Names that are bound, of which the first takes the value.
+    Bind(&'p [Arg], Within<'p>),
+    /// Elements of a vector.
+    Gathering(Gathering<'p>),
+    /// A `for`.
+    Round(Round<'p>),
 }
 
 /// What is at work.
@@ -157,4 +180,17 @@ pub(crate) enum Focus<'p> {
     Element(&'p Elem, u32),
     /// A value, for the frame on the top.
     Given(Value),
+}
+
+/// A value that was given is at work.
+#[inline(always)]
+#[tactic(auto, unfolding(crate::specs::Stack::goes_on))]
+pub(crate) fn at_work<'p>(value: Result<Value, EvalFault>) -> Result<Focus<'p>, EvalFault>
+    ensures goes { GoesOn value result }
+    ensures less { Lessens value result }
+{
+    match value {
+        Ok(value) => Ok(Focus::Given(value)),
+        Err(why) => Err(why),
+    }
 }

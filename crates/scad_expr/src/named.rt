@@ -12,7 +12,7 @@ ghost use Rattle.scad_expr.specs.Pieces.{named_of};
 ghost use Rattle.scad_expr.specs.Stack.{Leads, Below_by, added, behind, set_first, inside, binding, looping, renewing, turning, rest, made_in};
 ghost use Rattle.scad_machine.specs.State.{and_then};
 
-use crate::frame::{Focus, Frame, Inside, Loop, Within};
+use crate::frame::{Focus, Frame, Inside, Loop, Round, Within};
 use crate::stack::Stack;
 use scad_ast::{Arg, Elem, Expr};
 use scad_fault::{Budget, BudgetKind};
@@ -153,7 +153,7 @@ fn enter_element<'p>(
 }
 
 /// The next turn of a loop with start, test and step: its test.
-#[tactic(auto, using(crate::proofs::StackTurns::loops), unfolding(crate::specs::Stack::onto, scad_machine::specs::State::over))]
+#[tactic(auto, using(crate::proofs::StackTurns::loops), unfolding(crate::specs::Stack::onto, crate::specs::Stack::goes_round, scad_machine::specs::State::over))]
 fn repeat<'p>(
     all: Box<Loop<'p>>,
     back: u32,
@@ -176,11 +176,11 @@ fn repeat<'p>(
     }
     let mut left = all;
     left.turns = turns - 1;
-    stack.wait(Frame::Test(left, back, depth), test, depth)
+    stack.wait(Frame::Round(Round::Test(left, back, depth)), test, depth)
 }
 
 /// The test of a loop has its value.
-#[tactic(auto, using(crate::proofs::StackTurns::nodes), unfolding(crate::specs::Stack::turned, crate::specs::Stack::onto, crate::specs::Stack::goes_on))]
+#[tactic(auto, using(crate::proofs::StackTurns::nodes), unfolding(crate::specs::Stack::turned, crate::specs::Stack::onto, crate::specs::Stack::goes_round, crate::specs::Stack::goes_on))]
 pub(crate) fn tested<'p>(
     all: Box<Loop<'p>>,
     back: u32,
@@ -196,7 +196,7 @@ pub(crate) fn tested<'p>(
     if truth(v) {
         let Loop { at, body, .. } = *all;
         m.step(at)?;
-        stack.push(Frame::Body(all, back, depth))?;
+        stack.push(Frame::Round(Round::Body(all, back, depth)))?;
         Ok(Focus::Element(body, depth))
     } else {
         m.leave(back);

@@ -1,6 +1,6 @@
 //! Values of operators and functions, and ranges, at a place in the source.
 
-ghost use Rattle.std.specs.Prelude.{◌≡◌, ◌≢◌, ◌≤◌, [], IfOk, OnOk, Err};
+ghost use Rattle.std.specs.Prelude.{◌≡◌, ◌≢◌, ◌≤◌, [], IfOk, IfErr, OnOk, Ok, Err};
 ghost use Rattle.scad_builtin.specs.Builtin.{builtin};
 ghost use Rattle.scad_value.specs.Datum.{number};
 ghost use Rattle.scad_value.specs.Operators.{op, unary_op};
@@ -11,6 +11,7 @@ ghost use Rattle.scad_expr.specs.Meaning.{operated, called_builtin, ranged, rang
 ghost use Rattle.scad_expr.specs.Runs.{range_of_ends};
 ghost use Rattle.scad_machine.specs.State.{State, make, refuses};
 
+use crate::operation::Bounds;
 use scad_ast::{BinOp, UnOp};
 use scad_builtin::{BuiltinFault, call};
 use scad_fault::{Fault, FaultKind, Place, Text};
@@ -38,6 +39,17 @@ pub(crate) fn named_fault(alloc: Global, kind: FaultKind, at: Place, name: &[u8]
     match Text::of(alloc, name) {
         Ok(name) => EvalFault::Fault(Fault { kind, at, name }),
         Err(_) => EvalFault::Memory,
+    }
+}
+
+/// A value for which there is memory.
+pub(crate) fn in_memory(value: Result<Value, AllocError>) -> Result<Value, EvalFault>
+    ensures ok { IfOk result (λ v. value ≡ Ok v) }
+    ensures err { IfErr result (λ e. e ≡ EvalFault.Memory) }
+{
+    match value {
+        Ok(value) => Ok(value),
+        Err(_) => Err(EvalFault::Memory),
     }
 }
 
@@ -167,15 +179,14 @@ pub(crate) fn member(alloc: Global, a: &Value, name: &[u8]) -> Result<Value, All
 pub(crate) fn range(
     alloc: Global,
     at: Place,
-    start: &Value,
-    step: &Value,
+    bounds: &Bounds,
     end: &Value,
 ) -> Result<Value, EvalFault>
     ensures { (s : State) → Does datum_of
-        (ranged at (datum_of start.now) (datum_of step.now) (datum_of end.now) s) result s }
+        (ranged at (datum_of bounds.now.start) (datum_of bounds.now.step) (datum_of end.now) s) result s }
 {
-    match start {
-        Value::Number(a) => match step {
+    match &bounds.start {
+        Value::Number(a) => match &bounds.step {
             Value::Number(s) => match end {
                 Value::Number(b) => range_of(alloc, at, *a, *s, *b),
                 _ => Ok(Value::Undef),

@@ -6,7 +6,7 @@ ghost use Rattle.scad_value.specs.View.{datum_of};
 ghost use Rattle.scad_machine.specs.Answers.{Does};
 ghost use Rattle.scad_machine.specs.Machine.{held, env_in, along_in, state_of};
 ghost use Rattle.scad_expr.specs.Meaning.{value};
-ghost use Rattle.scad_expr.specs.Stack.{Ending, Less, Done, rest, made_in, goes_on, size};
+ghost use Rattle.scad_expr.specs.Stack.{Ending, Less, IsMore, StaysLess, Done, rest, made_in, goes_on, size};
 
 use crate::answer::given;
 use crate::elements::element;
@@ -25,6 +25,18 @@ pub(crate) enum Next<'p> {
     End(Value),
 }
 
+/// There is more where something is at work.
+#[inline(always)]
+fn more<'p>(focus: Result<Focus<'p>, EvalFault>) -> Result<Next<'p>, EvalFault>
+    ensures goes { IsMore focus.entry result }
+    ensures less { StaysLess focus.entry result }
+{
+    match focus {
+        Ok(next) => Ok(Next::More(next)),
+        Err(why) => Err(why),
+    }
+}
+
 /// One turn.
 #[inline(always)]
 #[tactic(auto, unfolding(crate::specs::Stack::goes_on))]
@@ -38,10 +50,10 @@ fn turn<'p>(
     ensures less { Less (size focus.entry stack.old m.old) result stack.new m.new }
 {
     match focus {
-        Focus::Part(e, depth) => Ok(Next::More(part(e, depth, stack, m)?)),
-        Focus::Element(e, depth) => Ok(Next::More(element(e, depth, stack, m)?)),
+        Focus::Part(e, depth) => more(part(e, depth, stack, m)),
+        Focus::Element(e, depth) => more(element(e, depth, stack, m)),
         Focus::Given(value) => match stack.pop() {
-            Some(frame) => Ok(Next::More(given(frame, value, stack, m)?)),
+            Some(frame) => more(given(frame, value, stack, m)),
             None => Ok(Next::End(value)),
         },
     }

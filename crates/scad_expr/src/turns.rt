@@ -8,7 +8,7 @@ ghost use Rattle.scad_expr.specs.Meaning.{for_variables, meaning};
 ghost use Rattle.scad_expr.specs.Runs.{items};
 ghost use Rattle.scad_expr.specs.Stack.{Leads, Below_by, followed_list, turns_of, course, rest, made_in};
 
-use crate::frame::{Course, Focus, Frame, Turning, Variable};
+use crate::frame::{Course, Focus, Frame, Round, Turning, Variable};
 use crate::named::named;
 use crate::sequence::{items_of, next_number};
 use crate::stack::Stack;
@@ -19,7 +19,7 @@ use scad_value::{Value, copy};
 use std::alloc::{AllocError, Global};
 
 /// The variables of a `for` that follow, and the element inside them.
-#[tactic(auto, using(crate::proofs::StackTurns::variables), unfolding(crate::specs::Stack::onto, crate::specs::Stack::goes_on))]
+#[tactic(auto, using(crate::proofs::StackTurns::variables), unfolding(crate::specs::Stack::onto, crate::specs::Stack::goes_round, crate::specs::Stack::goes_on))]
 pub(crate) fn variables<'p>(
     at: Place,
     args: &'p [Arg],
@@ -43,8 +43,14 @@ pub(crate) fn variables<'p>(
                 depth,
             };
             let left = Course::Values(Vec::new(stack.alloc()), 0);
-            let turning = Box::new(stack.alloc(), Turning { variable, left })?;
-            stack.wait(Frame::Over(turning), n.value, depth)
+            let back = 0;
+            let turning = Turning {
+                variable,
+                left,
+                back,
+            };
+            let turning = Box::new(stack.alloc(), turning)?;
+            stack.wait(Frame::Round(Round::Over(turning)), n.value, depth)
         }
         None => Ok(Focus::Element(body, depth)),
     }
@@ -105,7 +111,7 @@ pub(crate) fn turn<'p>(
 }
 
 /// A turn of a variable with one value.
-#[tactic(auto, using(crate::proofs::StackTurns::turnings), unfolding(crate::specs::Stack::onto, crate::specs::Meaning::turns))]
+#[tactic(auto, using(crate::proofs::StackTurns::turnings), unfolding(crate::specs::Stack::onto, crate::specs::Stack::goes_round, crate::specs::Meaning::turns))]
 fn turn_on<'p>(
     turning: Box<Turning<'p>>,
     value: Value,
@@ -116,11 +122,11 @@ fn turn_on<'p>(
         ∷ course turning.entry.value.left) (made_in stack.old)) stack.old m.old) result stack.new m.new }
     ensures less { Below_by 4 result stack.old m.old stack.new m.new }
 {
+    let mut turning = turning;
     let variable = turning.variable;
     m.step(variable.at)?;
-    stack.push(Frame::Turns(turning))?;
-    let back = m.open_with(variable.name, value)?;
-    stack.push(Frame::Leave(back))?;
+    turning.back = m.open_with(variable.name, value)?;
+    stack.push(Frame::Round(Round::Turns(turning)))?;
     variables(
         variable.at,
         variable.more,

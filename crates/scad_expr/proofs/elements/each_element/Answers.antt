@@ -1,6 +1,7 @@
 use Rattle.std.proofs.Common.{ap, ◌∙◌}
 use Rattle.scad_ast.specs.View.{element_of}
-use Rattle.scad_expr.specs.declared.frame.Frame.TheVariants.{Each}
+use Rattle.scad_expr.specs.declared.frame.Frame.TheVariants.{Gathering as GatheringFrame}
+use Rattle.scad_expr.specs.declared.frame.Gathering.TheVariants.{Each}
 use Rattle.scad_machine.specs.Machine.{held, state_of}
 use Rattle.scad_expr.specs.Meaning.{meaning}
 use Rattle.scad_expr.specs.Stack.{rest, made_in, onto, goes_on}
@@ -15,4 +16,4 @@ returns-clause-goes c = λ o is.
     (made_in c.push.new.self) c.set_aside-outer.result (state_of c.args.m.now) (state_of c.step.new.self)
     c.in_ok-step.ensures.does c.in_ok-step.ensures.kept c.set_aside-outer.ensures.before
     (c.in_ok-push.ensures.made ∙ c.set_aside-outer.ensures.made)
-    (c.in_ok-push.ensures.rest ∙ ap (onto (Each c.set_aside-outer.result)) c.set_aside-outer.ensures.rest)
+    (c.in_ok-push.ensures.rest ∙ ap (onto (GatheringFrame (Each c.set_aside-outer.result))) c.set_aside-outer.ensures.rest)

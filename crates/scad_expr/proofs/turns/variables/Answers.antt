@@ -6,12 +6,12 @@ use Rattle.scad_machine.specs.State.{and_then}
 use Rattle.scad_expr.specs.declared.frame.Turning.{Turning}
 use Rattle.scad_expr.specs.Meaning.{meaning}
 use Rattle.scad_expr.specs.Runs.{items}
-use Rattle.scad_expr.specs.Stack.{rest, made_in, added, onto, turns_of}
+use Rattle.scad_expr.specs.Stack.{rest, made_in, added, onto, goes_round, turns_of}
 use Rattle.scad_expr.proofs.StackTurns.{variables-some}
 use Rattle.scad_expr.proofs.turns.variables.Goals as goal
 
 pub returns-in_ok-turning-in-Some-clause-goes : goal.returns-in_ok-turning-in-Some-clause-goes
-unfolding onto
+unfolding onto goes_round
 returns-in_ok-turning-in-Some-clause-goes c = λ o is.
     let n = c.in-Some.n in
     let h = held c.args.m.now in
