@@ -17,7 +17,7 @@ use Rattle.scad_machine.specs.State.{step_limit, Action, ◌>>=◌}
 use Rattle.scad_expr.specs.Places.{place}
 use Rattle.scad_machine.specs.Variables.{variable, Bound, set, empty, within}
 use Rattle.scad_machine.specs.Functions.{Found, function_named}
-use Rattle.scad_expr.specs.Runs.{items, as_elements}
+use Rattle.scad_operations.specs.Runs.{items, as_elements}
 use Rattle.scad_machine.specs.Arguments.{given, set_all, is_given}
 use Rattle.scad_machine.specs.EchoLines.{echo_line}
 use Rattle.scad_expr.specs.Meaning.{Below, operated, ranged_by_one, member_of, values, default_value, defaults, bound, called_own, called, bound_in_order, elements, turns, for_variables, loop_turns, truth_of, right_side, node, value_layer, element_node}

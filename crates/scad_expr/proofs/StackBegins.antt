@@ -15,7 +15,7 @@ use Rattle.scad_value.specs.Datum.{vector as vector_datum}
 use Rattle.scad_value.specs.Comparison.{truth}
 use Rattle.scad_scope.specs.Env.{Env}
 use Rattle.scad_scope.specs.FrameStore.{env_at, envs}
-use Rattle.scad_expr.specs.declared.part.Part.{Part}
+use Rattle.scad_operations.specs.declared.part.Part.{Part}
 use Rattle.scad_machine.specs.declared.fault.EvalFault.{EvalFault}
 use Rattle.scad_expr.specs.declared.frame.Frame.TheVariants.{Gathering as GatheringFrame, Round as RoundFrame}
 use Rattle.scad_expr.specs.declared.frame.Gathering.TheVariants.{Vector, Each, If, Either}
@@ -32,8 +32,8 @@ use Rattle.scad_machine.specs.Machine.{Held, env_in, along_in}
 use Rattle.scad_machine.specs.Functions.{Function, Found}
 use Rattle.scad_machine.specs.Given.{missing, parameter_names}
 use Rattle.scad_machine.specs.Arguments.{given, set_all}
-use Rattle.scad_expr.specs.Parts.{parts_in}
-use Rattle.scad_expr.specs.Runs.{as_elements, items}
+use Rattle.scad_operations.specs.Parts.{parts_in}
+use Rattle.scad_operations.specs.Runs.{as_elements, items}
 use Rattle.scad_machine.specs.Variables.{Bound, set, empty, within}
 use Rattle.scad_expr.specs.Meaning.{Below, meaning, value, node, element_node, default_value, bound, called_own, bound_in_order, loop_turns, turns, for_variables, judge_named}
 use Rattle.scad_expr.specs.Meaning.{elements as elements_given}

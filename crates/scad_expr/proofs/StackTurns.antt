@@ -17,7 +17,7 @@ use Rattle.scad_expr.specs.declared.frame.Frame.{Frame}
 use Rattle.scad_machine.specs.State.{State, Outcome, gives, refuses, Action, pure, and_then, ◌>>=◌, over, step}
 use Rattle.scad_machine.specs.Machine.{Held, env_in, along_in}
 use Rattle.scad_machine.specs.Functions.{Found, function_named}
-use Rattle.scad_expr.specs.Runs.{as_elements, items}
+use Rattle.scad_operations.specs.Runs.{as_elements, items}
 use Rattle.scad_machine.specs.Variables.{Bound, set, empty, within}
 use Rattle.scad_expr.specs.Meaning.{Below, meaning, value, value_layer, node, values, default_value, called, called_own, called_builtin, bound_in_order, loop_turns, turns, for_variables}
 use Rattle.scad_machine.specs.OpenFrames.{opened, set_in_last, left, bound_in, outer, IsInner}
@@ -25,7 +25,7 @@ use Rattle.scad_expr.specs.Pieces.{named_of}
 use Rattle.scad_expr.specs.Portions.{defaulted, lone}
 use Rattle.scad_expr.specs.Stack.{Whole, Rest, ended, added, behind, args_of, binds, fills, renewed, turned, repeats, served, supplied, onto, rest_of}
 use Rattle.scad_expr.proofs.DepthLeft.{value_none, value_more, place_of, element_none, element_more}
-use Rattle.scad_expr.proofs.InPlace.{values-lone}
+use Rattle.scad_expr.proofs.LoneNames.{values-lone}
 use Rattle.scad_expr.proofs.Loops.{twice, same-then}
 use Rattle.scad_machine.proofs.OpenFrames.{env_in-opened, env_in-before, along_in-opened, set_in_last-opened, left-opened}
 

@@ -1,95 +1,31 @@
--- What an expression gives (OpenSCAD User Manual, "The OpenSCAD Language"): a value and a new state, or the first fault
--- or
--- budget. One rule for each kind of node, in the order of the syntax tree. `env` are the frames of the place where the
--- node
--- stands, `along` those of the `$` names along the calls. What a node holds stands one deeper than the node, and
--- `below` says what is
--- given there.
-use Rattle.std.specs.Prelude.{ℕ, zero, suc, pos, true, false, List, [], ◌∷◌, ◌++◌, Option, Some, None, Result, Ok, Err, map, if◌then◌else◌, codes}
+-- What an expression gives (OpenSCAD User Manual, "The OpenSCAD Language"): a value and a new state, or the first fault or
+-- budget. One rule for each kind of node, in the order of the syntax tree. `env` are the frames of the place where the node
+-- stands, `along` those of the `$` names along the calls. What a node holds stands one deeper than the node, and `below` says
+-- what is given there.
+use Rattle.std.specs.Prelude.{ℕ, zero, suc, true, false, List, [], ◌∷◌, ◌++◌, Option, Some, None, map, if◌then◌else◌, codes}
 use Rattle.std.specs.List.{flat_map}
-use Rattle.std.specs.Ordering.{int_eq}
 use Rattle.scad_fault.specs.declared.place.Place.{Place}
-use Rattle.scad_fault.specs.declared.fault.FaultKind.TheVariants.{LeftOut as IsLeftOut, UnknownFunction as IsUnknown, BadArgument as IsBadArgument, ZeroDivisor as IsZeroDivisor, NumberRange as IsNumberRange, AssertFailed, ZeroStep}
 use Rattle.scad_fault.specs.declared.budget.BudgetKind.TheVariants.{Steps, Depth}
 use Rattle.scad_ast.specs.declared.operator.BinOp.{BinOp}
 use Rattle.scad_ast.specs.declared.operator.BinOp.TheVariants.{Or, And}
 use Rattle.scad_ast.specs.Tree.{Expression, Arguments, no_arguments, argument, Elements, no_elements, element, Element, item, each, for_each, for_loop, let_element, if_element, if_else, Parameter}
 use Rattle.scad_ast.specs.Tree.{undef as undef_at, boolean as boolean_at, number as number_at, string as string_at, name as name_at, vector as vector_at, range as range_at, stepped as stepped_at, unary as unary_at, binary as binary_at, choose as choose_at, index as index_at, member as member_at, call as call_at, let_in, assert_in, echo_in}
-use Rattle.scad_value.specs.Datum.{Datum, undef, boolean, number, string, vector, range}
+use Rattle.scad_value.specs.Datum.{Datum, undef, boolean, number, string, vector}
 use Rattle.scad_value.specs.Comparison.{truth}
 use Rattle.scad_value.specs.Index.{indexed}
 use Rattle.scad_value.specs.Operators.{op, unary_op}
-use Rattle.scad_value.specs.declared.fault.ValueFault.{ValueFault}
-use Rattle.scad_value.specs.declared.fault.ValueFault.TheVariants.{ZeroDivisor as DividesByZero, NumberRange as PassesRange, Memory as NoMemory}
 use Rattle.scad_builtin.specs.Builtin.{builtin}
-use Rattle.scad_builtin.specs.declared.fault.BuiltinFault.{BuiltinFault}
-use Rattle.scad_builtin.specs.declared.fault.BuiltinFault.TheVariants.{UnknownFunction, LeftOut, BadArgument, ZeroDivisor, NumberRange, Memory}
-use Rattle.scad_scope.specs.Names.{Names, is_same_name, value_of_name}
+use Rattle.scad_scope.specs.Names.{Names}
 use Rattle.scad_scope.specs.Env.{Env, inside, frame, Children}
-use Rattle.scad_machine.specs.declared.fault.EvalFault.TheVariants.{Memory as WantOfMemory}
-use Rattle.scad_machine.specs.State.{step_limit, Action, pure, ◌>>=◌, ◌>>◌, refuse, fault, fault_of, over, step, make, say}
+use Rattle.scad_machine.specs.State.{step_limit, Action, pure, ◌>>=◌, ◌>>◌, over, step, make, say}
 pub use Rattle.scad_machine.specs.OpenFrames.{Opened}
-use Rattle.scad_expr.specs.Places.{place, element_place}
 use Rattle.scad_machine.specs.Variables.{variable, Bound, set, empty, within}
 use Rattle.scad_machine.specs.Functions.{Found, function_named}
-use Rattle.scad_expr.specs.Runs.{items, as_elements, range_of_ends}
-use Rattle.scad_machine.specs.Arguments.{given, set_all, is_given, are_named, is_none, with_children}
+use Rattle.scad_machine.specs.Arguments.{given, set_all, is_given, with_children}
 use Rattle.scad_machine.specs.EchoLines.{echo_line}
-
--- ---- values with a fault at a place
--- what an operator gives, and the steps of what it makes
-unfoldable pub operated : Place → Result Datum ValueFault → Action Datum
-operated at (Ok d) = make at d
-operated at (Err DividesByZero) = fault IsZeroDivisor at
-operated at (Err PassesRange) = fault IsNumberRange at
-operated at (Err NoMemory) = refuse WantOfMemory
-
--- what a function of the language gives, and the steps of what it makes
-unfoldable pub called_builtin : Place → List ℕ → Result Datum BuiltinFault → Action Datum
-called_builtin at name (Ok d) = make at d
-called_builtin at name (Err UnknownFunction) = fault_of IsUnknown at name
-called_builtin at name (Err LeftOut) = fault_of IsLeftOut at name
-called_builtin at name (Err BadArgument) = fault_of IsBadArgument at name
-called_builtin at name (Err ZeroDivisor) = fault IsZeroDivisor at
-called_builtin at name (Err NumberRange) = fault IsNumberRange at
-called_builtin at name (Err Memory) = refuse WantOfMemory
-
--- `[start : step : end]`: `undef` where a part isn't a number; a step of 0 is a fault
-unfoldable pub ranged : Place → Datum → Datum → Datum → Action Datum
-ranged at (number a) (number s) (number b) = if int_eq s (pos 0) then fault ZeroStep at else pure (range a s b)
-ranged at a s b = pure undef
-
--- `[start : end]`: `undef` where an end isn't a number; the step is 1, and ends in the wrong order are exchanged
-unfoldable pub ranged_by_one : Datum → Datum → Datum
-ranged_by_one (number a) (number b) = range_of_ends a b
-ranged_by_one a b = undef
-
--- `a.x`, `a.y` and `a.z` are `a[0]`, `a[1]` and `a[2]`; another member is `undef`
-unfoldable pub member_of : List ℕ → Datum → Datum
-member_of word a =
-    if is_same_name word (codes "x") then indexed a (number (pos 0))
-    else (if is_same_name word (codes "y") then indexed a (number (pos 1000000))
-    else (if is_same_name word (codes "z") then indexed a (number (pos 2000000))
-    else undef))
-
--- the test of an `assert`: it has to be there and not `undef`, and has to be true
-abbrev pub tested : Place → Option Datum → Action (Unit {0})
-tested at None = fault_of IsBadArgument at (codes "assert")
-tested at (Some undef) = fault_of IsBadArgument at (codes "assert")
-tested at (Some d) = if truth d then pure tt else fault AssertFailed at
-
--- `assert` takes its arguments as a call with the parameters `test` and `text`
-unfoldable pub asserted : Place → Arguments → List Datum → Action (Unit {0})
-asserted at args values = tested at (value_of_name (codes "test")
-    (given (codes "test" ∷ codes "text" ∷ []) args values))
-
--- in `let` and `for` every argument has a name
-unfoldable pub judge_named : Place → List ℕ → Arguments → Action (Unit {0})
-judge_named at word args = if are_named args then pure tt else fault_of IsBadArgument at word
-
--- a plain `for` has an argument besides
-unfoldable pub judge_variables : Place → List ℕ → Arguments → Action (Unit {0})
-judge_variables at word args = if is_none args then fault_of IsBadArgument at word else judge_named at word args
+pub use Rattle.scad_operations.specs.Values.{operated, called_builtin, ranged, ranged_by_one, member_of, tested, asserted, judge_named, judge_variables}
+use Rattle.scad_operations.specs.Runs.{items, as_elements}
+use Rattle.scad_expr.specs.Places.{place, element_place}
 
 -- ---- what stands one deeper
 pub record Below : Type 0 where

@@ -1,11 +1,10 @@
 -- What one turn of each of the evaluator's loops gives, in the terms of the meaning of expressions.
-use Rattle.std.specs.Prelude.{ℕ, ℤ, Bool, pos, int_lt, if◌then◌else◌, List, [], ◌∷◌, Option, Some, None}
-use Rattle.scad_ast.specs.Tree.{Expression, Arguments, no_arguments, argument, Parameter}
-use Rattle.scad_value.specs.Datum.{Datum}
+use Rattle.std.specs.Prelude.{ℕ, List, [], ◌∷◌, Option, Some, None}
+use Rattle.scad_ast.specs.Tree.{Expression, Parameter}
 use Rattle.scad_scope.specs.Env.{Env}
 use Rattle.scad_machine.specs.State.{Action, pure, ◌>>=◌}
 use Rattle.scad_machine.specs.Variables.{Bound, set, within}
-use Rattle.scad_expr.specs.Runs.{numbers_from, count_of_range}
+pub use Rattle.scad_operations.specs.Portions.{lone, is_past, numbers_left}
 use Rattle.scad_expr.specs.Meaning.{Below, default_value}
 
 module _ (below : Below) where
@@ -22,18 +21,3 @@ module _ (below : Below) where
   defaulted home along (p ∷ more) b = do
     d ← default_value below home (within along b.dollars) p.default
     defaulted home along more (set p.name d b)
-
--- the argument of a call that has one
-abbrev pub lone : Arguments → Option Expression
-lone no_arguments = None
-lone (argument word e no_arguments) = Some e
-lone (argument word e (argument word2 e2 more)) = None
-
--- whether a number is past the end of a range
-abbrev pub is_past : ℤ → ℤ → ℤ → Bool
-is_past n step end = if int_lt step (pos 0) then int_lt n end else int_lt end n
-
--- the numbers of a range from one of them on, where there is one
-abbrev pub numbers_left : Option ℤ → ℤ → ℤ → List Datum
-numbers_left None step end = []
-numbers_left (Some n) step end = numbers_from n step (count_of_range n step end)

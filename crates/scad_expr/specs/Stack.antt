@@ -46,13 +46,13 @@ use Rattle.scad_machine.specs.Machine.{Held, held, env_in, along_in, state_of}
 use Rattle.scad_machine.specs.Functions.{function_named}
 use Rattle.scad_expr.specs.Meaning.{Below, meaning, value, operated, asserted, values, default_value, called, turns, for_variables, right_side, node, judge_named, bound_in_order, loop_turns}
 use Rattle.scad_expr.specs.Meaning.{elements as elements_given}
-use Rattle.scad_expr.specs.Operation.{operates}
+use Rattle.scad_operations.specs.Operation.{operates}
 use Rattle.scad_machine.specs.OpenFrames.{set_in_last, left}
-use Rattle.scad_expr.specs.Parts.{parts_in}
+use Rattle.scad_operations.specs.Parts.{parts_in}
 use Rattle.scad_expr.specs.Pieces.{range_end, stepped_end, step_and_end, side, index_of, element_if, either_element}
 use Rattle.scad_expr.specs.Portions.{numbers_left}
 use Rattle.scad_machine.specs.EchoLines.{echo_line}
-use Rattle.scad_expr.specs.Runs.{items, as_elements}
+use Rattle.scad_operations.specs.Runs.{items, as_elements}
 use Rattle.scad_machine.specs.Variables.{empty}
 
 -- a value, and what is held then

@@ -11,11 +11,10 @@ use crate::frame::{Focus, Frame, at_work};
 use crate::further::further;
 use crate::gathering::gathered;
 use crate::named::bind_next;
-use crate::operation::operate;
-use crate::operations::binary_at;
 use crate::rounds::round;
 use crate::stack::Stack;
 use scad_machine::{EvalFault, Machine};
+use scad_operations::{binary_at, operate};
 use scad_value::Value;
 
 /// A frame goes on with a value. It stands in the loop of turns, so that no value is moved between the two.

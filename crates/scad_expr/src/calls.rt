@@ -15,14 +15,12 @@ ghost use Rattle.scad_machine.specs.View.{found_at};
 
 use crate::defaults::fill;
 use crate::frame::{Focus, Frame, Opening, Written, at_work};
-use crate::loans::builtin_on;
-use crate::operations::builtin_at;
 use crate::purpose::{Purpose, purpose_of};
-use crate::requirements::asserted;
 use crate::stack::Stack;
 use scad_ast::{Arg, Expr};
 use scad_fault::Place;
 use scad_machine::{Call, Callee, DefinedAt, EvalFault, Invocation, Machine};
+use scad_operations::{asserted, builtin_at, builtin_on};
 use scad_value::Value;
 use std::alloc::Global;
 
@@ -67,7 +65,7 @@ fn arguments<'p>(
 }
 
 /// An argument has its value.
-#[tactic(auto, using(crate::proofs::StackTurns::calls, crate::proofs::RunsLeft::kinds))]
+#[tactic(auto, using(crate::proofs::StackTurns::calls, scad_operations::proofs::RunsLeft::kinds))]
 pub(crate) fn next_argument<'p>(
     e: &'p Expr,
     so_far: Vec<Value>,
@@ -145,7 +143,7 @@ fn begin<'p>(done: Result<(), EvalFault>, e: &'p Expr, depth: u32) -> Result<Foc
 }
 
 /// A call with the values of its arguments: the program's functions go before those of the language.
-#[tactic(auto, using(crate::proofs::StackTurns::calls, crate::proofs::Lists::called_elements))]
+#[tactic(auto, using(crate::proofs::StackTurns::calls, scad_operations::proofs::Lists::called_elements))]
 fn called<'p>(
     written: Written<'p>,
     found: Vec<Value>,

@@ -1,15 +1,15 @@
 //! The parameters of a call that take their defaults, and the function's expression once all are set.
 
-ghost use Rattle.std.specs.Prelude.{◌≡◌, map, drop, IfOk, OnOk, MatchOption};
+ghost use Rattle.std.specs.Prelude.{◌≡◌, ◌+◌, ◌*◌, map, drop, IfOk, OnOk, MatchOption};
 ghost use Rattle.scad_ast.specs.Scope.{parameter};
 ghost use Rattle.scad_ast.specs.View.{expression_of};
 ghost use Rattle.scad_value.specs.View.{datum_of};
 ghost use Rattle.scad_machine.specs.Answers.{Does, nothing, done_at};
 ghost use Rattle.scad_machine.specs.Machine.{Held, held, env_in, along_in, state_of};
-ghost use Rattle.scad_expr.specs.Meaning.{Below};
+ghost use Rattle.scad_expr.specs.Meaning.{Below, value};
 ghost use Rattle.scad_machine.specs.OpenFrames.{set_in_last};
-ghost use Rattle.scad_expr.specs.Stack.{Whole, Leads, Below_by, fills, filling, entered, rest, made_in};
-ghost use Rattle.scad_machine.specs.State.{State, Action, and_then};
+ghost use Rattle.scad_expr.specs.Stack.{Whole, Goes, Leads, Below_by, fills, filling, entered, rest, height, made_in, rank};
+ghost use Rattle.scad_machine.specs.State.{State, Outcome, Action, and_then};
 
 use crate::frame::{Focus, Frame, Opening};
 use crate::stack::Stack;
@@ -70,16 +70,31 @@ pub(crate) fn fill<'p>(
         result stack.new m.new }
     ensures less { Below_by 2 result stack.old m.old stack.new m.new }
 {
-    match next_default(&opening.missing, opening.next, m)? {
-        Some(wanted) => {
-            let depth = opening.depth;
-            let mut later = opening;
-            later.next = wanted.next;
-            let later = Box::new(stack.alloc(), later)?;
-            stack.wait(Frame::Default(wanted.name, later), wanted.value, depth)
-        }
-        None => enter(opening, stack, m),
+    match next_default(&opening.missing, opening.next, m) {
+        Ok(Some(wanted)) => wait(wanted, opening, stack),
+        Ok(None) => enter(opening, stack, m),
+        Err(why) => Err(why),
     }
+}
+
+/// The default of a parameter begins, and those behind it wait.
+#[tactic(auto, unfolding(crate::specs::Stack::onto))]
+fn wait<'p>(
+    wanted: Wanted<'p>,
+    opening: Opening<'p>,
+    stack: &mut Stack<'p>,
+) -> Result<Focus<'p>, EvalFault>
+    ensures goes { (h : Held) (s : State) (o : Outcome Whole) → o ≡ and_then (value opening.entry.depth (env_in h)
+        (along_in h) (expression_of wanted.entry.value.now) s) (λ d. filling (record opening.entry { next = wanted.entry.next })
+        (rest stack.old) (made_in stack.old) (set_in_last wanted.entry.name.now d h))
+        → Goes o result (rest stack.new) h (made_in stack.new) s }
+    ensures less { IfOk result (λ f. rank f + 2 * height stack.new ≡ 2 * height stack.old + 2) }
+{
+    let depth = opening.depth;
+    let mut later = opening;
+    later.next = wanted.next;
+    let later = Box::new(stack.alloc(), later)?;
+    stack.wait(Frame::Default(wanted.name, later), wanted.value, depth)
 }
 
 /// The function's expression.

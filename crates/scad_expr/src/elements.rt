@@ -9,25 +9,22 @@ ghost use Rattle.scad_value.specs.Datum.{vector};
 ghost use Rattle.scad_value.specs.View.{datum_of};
 ghost use Rattle.scad_machine.specs.Machine.{held, env_in, along_in, state_of};
 ghost use Rattle.scad_expr.specs.Meaning.{element_node, elements, value, meaning};
-ghost use Rattle.scad_expr.specs.Parts.{parts_in};
+ghost use Rattle.scad_operations.specs.Parts.{parts_in};
 ghost use Rattle.scad_expr.specs.Pieces.{element_if, either_element};
 ghost use Rattle.scad_expr.specs.Places.{element_place};
-ghost use Rattle.scad_expr.specs.Runs.{items, as_elements};
+ghost use Rattle.scad_operations.specs.Runs.{items, as_elements};
 ghost use Rattle.scad_machine.specs.State.{and_then, make, step};
 ghost use Rattle.scad_expr.specs.Stack.{Leads, Below_by, followed_list, loop_of, onto, added, rest, made_in};
 
-use crate::construction::vector as vector_at;
 use crate::frame::{Focus, Frame, Gathering, Inside, Loop, Within};
 use crate::named::bind_more;
-use crate::part::Part;
-use crate::pieces::add_parts;
-use crate::requirements::{judge_named, judge_variables};
 use crate::stack::Stack;
 use crate::turns::variables;
 use scad_ast::{Arg, Elem, Expr};
 use scad_fault::{Budget, BudgetKind, Place};
 use scad_machine::{EvalFault, Machine};
-use scad_value::{Value, truth};
+use scad_operations::{judge_named, judge_variables};
+use scad_value::Value;
 
 /// The next element, or none.
 #[tactic(auto, using(crate::proofs::StackTurns::nodes), unfolding(crate::specs::Meaning::elements, crate::specs::Stack::onto, crate::specs::Stack::gathers, crate::specs::Stack::goes_on))]

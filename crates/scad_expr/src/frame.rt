@@ -2,12 +2,11 @@
 
 ghost use Rattle.scad_expr.specs.Stack.{GoesOn, Lessens};
 
-use crate::operation::{Bounds, Operation};
-use crate::part::Part;
 use scad_ast::{Arg, BinOp, Elem, Expr, Param};
 use scad_fault::Place;
 use scad_machine::EvalFault;
 use scad_num::Num;
+use scad_operations::{Bounds, Operation, Part};
 use scad_value::Value;
 
 /// A call as it is written: its place, its name and its arguments.
@@ -16,13 +15,6 @@ pub(crate) struct Written<'p> {
     pub(crate) at: Place,
     pub(crate) word: &'p [u8],
     pub(crate) args: &'p [Arg],
-}
-
-/// A name as it is written.
-#[derive(Clone, Copy)]
-pub(crate) struct Name<'p> {
-    pub(crate) at: Place,
-    pub(crate) word: &'p [u8],
 }
 
 /// A call of a function of the program whose frames are opened: the parameters that take their defaults, of which those from

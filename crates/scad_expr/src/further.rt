@@ -13,16 +13,16 @@ ghost use Rattle.scad_value.specs.Datum.{Datum};
 ghost use Rattle.std.specs.Prelude.{List};
 
 use crate::frame::{Focus, Frame, Further, Right};
-use crate::operation::{Bounds, Operation};
 use crate::stack::Stack;
 use scad_ast::{BinOp, Expr};
 use scad_fault::Place;
 use scad_machine::{EvalFault, Machine};
+use scad_operations::{Bounds, Operation};
 use scad_value::{Value, truth};
 
 /// An expression one of whose parts has its value.
 #[inline(always)]
-#[tactic(auto, using(crate::proofs::StackTurns::nodes), unfolding(crate::specs::Stack::goes_further, crate::specs::Stack::onto, crate::specs::Operation::operates, crate::specs::Pieces::range_end, crate::specs::Pieces::index_of))]
+#[tactic(auto, using(crate::proofs::StackTurns::nodes), unfolding(crate::specs::Stack::goes_further, crate::specs::Stack::onto, scad_operations::specs::Operation::operates, crate::specs::Pieces::range_end, crate::specs::Pieces::index_of))]
 pub(crate) fn further<'p>(
     next: Further<'p>,
     depth: u32,
@@ -78,7 +78,7 @@ fn range_from<'p>(
 }
 
 /// A range whose start and step have their values: its end.
-#[tactic(auto, using(crate::proofs::StackTurns::nodes), unfolding(crate::specs::Stack::onto, crate::specs::Operation::operates, crate::specs::Pieces::stepped_end))]
+#[tactic(auto, using(crate::proofs::StackTurns::nodes), unfolding(crate::specs::Stack::onto, scad_operations::specs::Operation::operates, crate::specs::Pieces::stepped_end))]
 fn range_by<'p>(
     at: Place,
     bounds: Box<Bounds>,
@@ -120,7 +120,7 @@ fn right_side<'p>(
 }
 
 /// The truth of the right side of `||` or `&&`, where the left one hasn't decided which it is.
-#[tactic(auto, using(crate::proofs::StackTurns::nodes), unfolding(crate::specs::Meaning::truth_of, crate::specs::Stack::onto, crate::specs::Stack::goes_on, crate::specs::Operation::operates))]
+#[tactic(auto, using(crate::proofs::StackTurns::nodes), unfolding(crate::specs::Meaning::truth_of, crate::specs::Stack::onto, crate::specs::Stack::goes_on, scad_operations::specs::Operation::operates))]
 fn unless<'p>(
     decided: bool,
     is: bool,

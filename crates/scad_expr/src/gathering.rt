@@ -8,20 +8,18 @@ ghost use Rattle.scad_value.specs.View.{datum_of};
 ghost use Rattle.scad_machine.specs.Machine.{Held, held, env_in, along_in, state_of};
 ghost use Rattle.scad_machine.specs.State.{State, and_then, make};
 ghost use Rattle.scad_expr.specs.Meaning.{meaning};
-ghost use Rattle.scad_expr.specs.Parts.{parts_in};
+ghost use Rattle.scad_operations.specs.Parts.{parts_in};
 ghost use Rattle.scad_expr.specs.Pieces.{element_if, either_element};
-ghost use Rattle.scad_expr.specs.Runs.{items, as_elements};
+ghost use Rattle.scad_operations.specs.Runs.{items, as_elements};
 ghost use Rattle.scad_expr.specs.Stack.{Rest, Leads, Below_by, added, gathers, goes_on, rank, rest, made_in};
 
-use crate::construction::vector as vector_at;
 use crate::elements::more_elements;
 use crate::frame::{Focus, Gathering, at_work};
-use crate::part::Part;
-use crate::pieces::add_parts;
 use crate::stack::Stack;
 use scad_ast::Elem;
 use scad_fault::Place;
 use scad_machine::{EvalFault, Machine};
+use scad_operations::{Part, add_parts, vector as vector_at};
 use scad_value::{Value, truth};
 
 /// Elements of a vector, once a part of one has its value, or one was added.

@@ -15,17 +15,15 @@ ghost use Rattle.scad_value.specs.View.{datum_of};
 use crate::calls::{call_of_name, first_argument};
 use crate::elements::more_elements;
 use crate::frame::{
-    Focus, Frame, Further, Gathering, Inside, Name, Right, Within, Written, at_work,
+    Focus, Frame, Further, Gathering, Inside, Right, Within, Written, at_work,
 };
-use crate::loans::{lone_name, member_in, pass_name};
+use crate::name::{Name, pass_name};
 use crate::named::bind_more;
-use crate::operation::Operation;
-use crate::operations::in_memory;
-use crate::requirements::judge_named;
 use crate::stack::Stack;
 use scad_ast::{Arg, Elem, Expr, Node};
 use scad_fault::{Budget, BudgetKind, Chars, Place};
 use scad_machine::{EvalFault, Machine};
+use scad_operations::{Operation, in_memory, judge_named, lone_name, member_in};
 use scad_value::Value;
 use std::alloc::Global;
 
@@ -51,7 +49,7 @@ pub(crate) fn part<'p>(
 
 /// One arm for each kind of expression.
 #[inline(always)]
-#[tactic(auto, using(crate::proofs::Views::views, crate::proofs::StackTurns::nodes), unfolding(crate::specs::Meaning::node, crate::specs::Pieces::range_end, crate::specs::Pieces::stepped_end, crate::specs::Pieces::step_and_end, crate::specs::Pieces::side, crate::specs::Stack::onto, crate::specs::Stack::goes_further, crate::specs::Stack::gathers, crate::specs::Operation::operates, crate::specs::Stack::goes_on))]
+#[tactic(auto, using(crate::proofs::Views::views, crate::proofs::StackTurns::nodes), unfolding(crate::specs::Meaning::node, crate::specs::Pieces::range_end, crate::specs::Pieces::stepped_end, crate::specs::Pieces::step_and_end, crate::specs::Pieces::side, crate::specs::Stack::onto, crate::specs::Stack::goes_further, crate::specs::Stack::gathers, scad_operations::specs::Operation::operates, crate::specs::Stack::goes_on))]
 fn node<'p>(
     e: &'p Expr,
     depth: u32,
@@ -116,7 +114,7 @@ fn string_of(alloc: Global, chars: &Chars) -> Result<Value, EvalFault>
 }
 
 /// The vector of these elements.
-#[tactic(auto, using(crate::proofs::StackTurns::nodes), unfolding(crate::specs::Meaning::node, crate::specs::Stack::onto, crate::specs::Stack::goes_further, crate::specs::Stack::gathers, crate::specs::Operation::operates, crate::specs::Stack::goes_on))]
+#[tactic(auto, using(crate::proofs::StackTurns::nodes), unfolding(crate::specs::Meaning::node, crate::specs::Stack::onto, crate::specs::Stack::goes_further, crate::specs::Stack::gathers, scad_operations::specs::Operation::operates, crate::specs::Stack::goes_on))]
 fn vector_node<'p>(
     at: Place,
     all: &'p [Elem],
@@ -134,7 +132,7 @@ fn vector_node<'p>(
 }
 
 /// A value that is indexed, and its index.
-#[tactic(auto, using(crate::proofs::StackTurns::nodes), unfolding(crate::specs::Meaning::node, crate::specs::Stack::onto, crate::specs::Stack::goes_further, crate::specs::Stack::gathers, crate::specs::Operation::operates, crate::specs::Pieces::index_of))]
+#[tactic(auto, using(crate::proofs::StackTurns::nodes), unfolding(crate::specs::Meaning::node, crate::specs::Stack::onto, crate::specs::Stack::goes_further, crate::specs::Stack::gathers, scad_operations::specs::Operation::operates, crate::specs::Pieces::index_of))]
 fn index_node<'p>(
     at: Place,
     a: &'p Expr,
@@ -160,7 +158,7 @@ fn index_node<'p>(
 }
 
 /// `name[i]`, where the variable's value isn't copied.
-#[tactic(auto, using(crate::proofs::StackTurns::nodes), unfolding(crate::specs::Meaning::node, crate::specs::Stack::onto, crate::specs::Stack::goes_further, crate::specs::Stack::gathers, crate::specs::Operation::operates))]
+#[tactic(auto, using(crate::proofs::StackTurns::nodes), unfolding(crate::specs::Meaning::node, crate::specs::Stack::onto, crate::specs::Stack::goes_further, crate::specs::Stack::gathers, scad_operations::specs::Operation::operates))]
 fn index_of_name<'p>(
     _at: Place,
     of: Name<'p>,
@@ -178,7 +176,7 @@ fn index_of_name<'p>(
 }
 
 /// A member of a value; that of a variable is read where it stands.
-#[tactic(auto, using(crate::proofs::StackTurns::nodes), unfolding(crate::specs::Meaning::node, crate::specs::Stack::onto, crate::specs::Stack::goes_further, crate::specs::Stack::gathers, crate::specs::Operation::operates, crate::specs::Stack::goes_on))]
+#[tactic(auto, using(crate::proofs::StackTurns::nodes), unfolding(crate::specs::Meaning::node, crate::specs::Stack::onto, crate::specs::Stack::goes_further, crate::specs::Stack::gathers, scad_operations::specs::Operation::operates, crate::specs::Stack::goes_on))]
 fn member_node<'p>(
     at: Place,
     a: &'p Expr,

@@ -3,7 +3,7 @@
 ghost use Rattle.scad_value.specs.View.{datum_of};
 ghost use Rattle.scad_machine.specs.Machine.{held, state_of};
 ghost use Rattle.scad_machine.specs.OpenFrames.{left};
-ghost use Rattle.scad_expr.specs.Runs.{items};
+ghost use Rattle.scad_operations.specs.Runs.{items};
 ghost use Rattle.scad_expr.specs.Stack.{Leads, Below_by, added, course, goes_round, rest, made_in, turns_of};
 ghost use Rattle.scad_machine.specs.State.{and_then};
 

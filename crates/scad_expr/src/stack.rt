@@ -3,9 +3,9 @@
 ghost use Rattle.std.specs.Prelude.{◌≡◌, ◌++◌, ◌∷◌, [], OnOk};
 
 use crate::frame::{Focus, Frame};
-use crate::part::Part;
 use scad_ast::Expr;
 use scad_machine::EvalFault;
+use scad_operations::Part;
 use scad_value::Value;
 use std::alloc::{AllocError, Global};
 use std::mem::replace;
@@ -34,7 +34,7 @@ impl<'p> Stack<'p> {
     ghost use Rattle.scad_value.specs.View.{datum_of};
     ghost use Rattle.scad_machine.specs.Machine.{Held, env_in, along_in};
     ghost use Rattle.scad_expr.specs.Meaning.{value};
-    ghost use Rattle.scad_expr.specs.Parts.{parts_in};
+    ghost use Rattle.scad_operations.specs.Parts.{parts_in};
     ghost use Rattle.scad_expr.specs.Stack.{Whole, Goes, rest, ended, onto, height, made_in, rank};
     ghost use Rattle.scad_machine.specs.State.{State, Outcome, and_then};
 
@@ -97,7 +97,7 @@ impl<'p> Stack<'p> {
     }
 
     /// A value is added to the vector.
-    #[tactic(auto, using(crate::proofs::Parts::pushed), unfolding(crate::specs::Stack::rest, crate::specs::Stack::height, crate::specs::Stack::made_in))]
+    #[tactic(auto, using(scad_operations::proofs::Parts::pushed), unfolding(crate::specs::Stack::rest, crate::specs::Stack::height, crate::specs::Stack::made_in))]
     pub(crate) fn add(&mut self, v: Value) -> Result<(), AllocError>
         ensures made { OnOk result (made_in self.new ≡ made_in self.old ++ datum_of v ∷ []) }
         ensures rest { rest self.new ≡ rest self.old }

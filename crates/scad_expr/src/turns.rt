@@ -5,16 +5,16 @@ ghost use Rattle.scad_ast.specs.View.{arguments, element_of};
 ghost use Rattle.scad_value.specs.View.{datum_of};
 ghost use Rattle.scad_machine.specs.Machine.{held, env_in, along_in, state_of};
 ghost use Rattle.scad_expr.specs.Meaning.{for_variables, meaning};
-ghost use Rattle.scad_expr.specs.Runs.{items};
+ghost use Rattle.scad_operations.specs.Runs.{items};
 ghost use Rattle.scad_expr.specs.Stack.{Leads, Below_by, followed_list, turns_of, course, rest, made_in};
 
 use crate::frame::{Course, Focus, Frame, Round, Turning, Variable};
 use crate::named::named;
-use crate::sequence::{items_of, next_number};
 use crate::stack::Stack;
 use scad_ast::{Arg, Elem};
 use scad_fault::Place;
 use scad_machine::{EvalFault, Machine};
+use scad_operations::{items_of, next_number};
 use scad_value::{Value, copy};
 use std::alloc::{AllocError, Global};
 
@@ -57,7 +57,7 @@ pub(crate) fn variables<'p>(
 }
 
 /// What a value is run over by.
-#[tactic(auto, using(crate::proofs::RunsLeft::kinds))]
+#[tactic(auto, using(scad_operations::proofs::RunsLeft::kinds))]
 pub(crate) fn course_of(alloc: Global, value: &Value) -> Result<Course, AllocError>
     ensures { IfOk result (λ c. course c ≡ items (datum_of value.now)) }
 {

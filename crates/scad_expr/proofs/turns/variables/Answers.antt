@@ -5,7 +5,7 @@ use Rattle.scad_machine.specs.Machine.{held, env_in, along_in, state_of}
 use Rattle.scad_machine.specs.State.{and_then}
 use Rattle.scad_expr.specs.declared.frame.Turning.{Turning}
 use Rattle.scad_expr.specs.Meaning.{meaning}
-use Rattle.scad_expr.specs.Runs.{items}
+use Rattle.scad_operations.specs.Runs.{items}
 use Rattle.scad_expr.specs.Stack.{rest, made_in, added, onto, goes_round, turns_of}
 use Rattle.scad_expr.proofs.StackTurns.{variables-some}
 use Rattle.scad_expr.proofs.turns.variables.Goals as goal
