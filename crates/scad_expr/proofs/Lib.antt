@@ -1,5 +1,4 @@
 pub mod CallFrames
-pub mod DepthLeft
 pub mod ExampleWords
 pub mod ExamplesBound
 pub mod ExamplesBudgets
@@ -11,15 +10,10 @@ pub mod ExamplesLoops
 pub mod ExamplesOperators
 pub mod ExamplesParameters
 pub mod ExamplesRanges
-pub mod LoneNames
-pub mod Loops
 pub mod OnLiterals
 pub mod Rising
 pub mod RisingNodes
-pub mod StackBegins
-pub mod StackTurns
 pub mod StepsAndTurns
-pub mod Views
 pub use Rattle.scad_machine.proofs.Giving
 pub use Rattle.scad_machine.proofs.Homes
 pub use Rattle.scad_machine.proofs.OpenFrames

@@ -3,23 +3,19 @@
 ghost use Rattle.scad_value.specs.View.{datum_of};
 ghost use Rattle.scad_machine.specs.Machine.{held, state_of};
 ghost use Rattle.scad_machine.specs.OpenFrames.{left};
-ghost use Rattle.scad_expr.specs.Stack.{Leads, Below_by, onto, rest, made_in};
+ghost use Rattle.scad_stack.specs.Stack.{Leads, Below_by, onto, rest, made_in};
 
-use crate::calls::next_argument;
-use crate::defaults::next_parameter;
-use crate::frame::{Focus, Frame, at_work};
-use crate::further::further;
-use crate::gathering::gathered;
-use crate::named::bind_next;
-use crate::rounds::round;
-use crate::stack::Stack;
 use scad_machine::{EvalFault, Machine};
 use scad_operations::{binary_at, operate};
+use scad_stack::{
+    Focus, Frame, Stack, at_work, bind_next, further, gathered, next_argument, next_parameter,
+    round,
+};
 use scad_value::Value;
 
 /// A frame goes on with a value. It stands in the loop of turns, so that no value is moved between the two.
 #[inline(always)]
-#[tactic(auto, using(crate::proofs::StackTurns::nodes), unfolding(crate::specs::Stack::onto))]
+#[tactic(auto, using(scad_stack::proofs::StackTurns::nodes), unfolding(scad_stack::specs::Stack::onto))]
 pub(crate) fn given<'p>(
     frame: Frame<'p>,
     v: Value,
@@ -44,7 +40,7 @@ pub(crate) fn given<'p>(
 }
 
 /// Frames of names are left.
-#[tactic(auto, unfolding(crate::specs::Stack::goes_on))]
+#[tactic(auto, unfolding(scad_stack::specs::Stack::goes_on))]
 fn leave<'p>(
     back: u32,
     v: Value,

@@ -5,21 +5,9 @@
 
 mod answer;
 mod call;
-mod calls;
-mod defaults;
-mod elements;
-mod frame;
-mod further;
-mod gathering;
 pub mod laws;
-mod name;
-mod named;
 mod nodes;
-mod purpose;
-mod rounds;
 mod run;
-mod stack;
-mod turns;
 mod walk;
 mod within;
 

@@ -6,30 +6,26 @@ ghost use Rattle.scad_ast.specs.View.{expression_of, arguments};
 ghost use Rattle.scad_ast.specs.View.{elements as tree_elements};
 ghost use Rattle.scad_value.specs.Datum.{string};
 ghost use Rattle.scad_machine.specs.Machine.{held, env_in, along_in, state_of};
-ghost use Rattle.scad_expr.specs.Meaning.{node, value, meaning};
-ghost use Rattle.scad_expr.specs.Stack.{Leads, Below_by, followed, written_node, height, size};
+ghost use Rattle.scad_stack.specs.Meaning.{node, value, meaning};
+ghost use Rattle.scad_stack.specs.Stack.{Leads, Below_by, followed, written_node, height, size};
 ghost use Rattle.scad_machine.specs.Answers.{Does};
 ghost use Rattle.scad_machine.specs.State.{State, gives};
 ghost use Rattle.scad_value.specs.View.{datum_of};
 
-use crate::calls::{call_of_name, first_argument};
-use crate::elements::more_elements;
-use crate::frame::{
-    Focus, Frame, Further, Gathering, Inside, Right, Within, Written, at_work,
-};
-use crate::name::{Name, pass_name};
-use crate::named::bind_more;
-use crate::stack::Stack;
 use scad_ast::{Arg, Elem, Expr, Node};
 use scad_fault::{Budget, BudgetKind, Chars, Place};
 use scad_machine::{EvalFault, Machine};
 use scad_operations::{Operation, in_memory, judge_named, lone_name, member_in};
+use scad_stack::{
+    Focus, Frame, Further, Gathering, Inside, Name, Right, Stack, Within, Written, at_work,
+    bind_more, call_of_name, first_argument, more_elements, pass_name,
+};
 use scad_value::Value;
 use std::alloc::Global;
 
 /// An expression that begins, with so many levels of depth left.
 #[inline(always)]
-#[tactic(auto, using(crate::proofs::StackTurns::depths), unfolding(crate::specs::Meaning::value_layer, scad_machine::specs::State::over))]
+#[tactic(auto, using(scad_stack::proofs::StackTurns::depths), unfolding(scad_stack::specs::Meaning::value_layer, scad_machine::specs::State::over))]
 pub(crate) fn part<'p>(
     e: &'p Expr,
     depth: u32,
@@ -49,7 +45,7 @@ pub(crate) fn part<'p>(
 
 /// One arm for each kind of expression.
 #[inline(always)]
-#[tactic(auto, using(crate::proofs::Views::views, crate::proofs::StackTurns::nodes), unfolding(crate::specs::Meaning::node, crate::specs::Pieces::range_end, crate::specs::Pieces::stepped_end, crate::specs::Pieces::step_and_end, crate::specs::Pieces::side, crate::specs::Stack::onto, crate::specs::Stack::goes_further, crate::specs::Stack::gathers, scad_operations::specs::Operation::operates, crate::specs::Stack::goes_on))]
+#[tactic(auto, using(scad_stack::proofs::Views::views, scad_stack::proofs::StackTurns::nodes), unfolding(scad_stack::specs::Meaning::node, scad_stack::specs::Pieces::range_end, scad_stack::specs::Pieces::stepped_end, scad_stack::specs::Pieces::step_and_end, scad_stack::specs::Pieces::side, scad_stack::specs::Stack::onto, scad_stack::specs::Stack::goes_further, scad_stack::specs::Stack::gathers, scad_operations::specs::Operation::operates, scad_stack::specs::Stack::goes_on))]
 fn node<'p>(
     e: &'p Expr,
     depth: u32,
@@ -114,7 +110,7 @@ fn string_of(alloc: Global, chars: &Chars) -> Result<Value, EvalFault>
 }
 
 /// The vector of these elements.
-#[tactic(auto, using(crate::proofs::StackTurns::nodes), unfolding(crate::specs::Meaning::node, crate::specs::Stack::onto, crate::specs::Stack::goes_further, crate::specs::Stack::gathers, scad_operations::specs::Operation::operates, crate::specs::Stack::goes_on))]
+#[tactic(auto, using(scad_stack::proofs::StackTurns::nodes), unfolding(scad_stack::specs::Meaning::node, scad_stack::specs::Stack::onto, scad_stack::specs::Stack::goes_further, scad_stack::specs::Stack::gathers, scad_operations::specs::Operation::operates, scad_stack::specs::Stack::goes_on))]
 fn vector_node<'p>(
     at: Place,
     all: &'p [Elem],
@@ -132,7 +128,7 @@ fn vector_node<'p>(
 }
 
 /// A value that is indexed, and its index.
-#[tactic(auto, using(crate::proofs::StackTurns::nodes), unfolding(crate::specs::Meaning::node, crate::specs::Stack::onto, crate::specs::Stack::goes_further, crate::specs::Stack::gathers, scad_operations::specs::Operation::operates, crate::specs::Pieces::index_of))]
+#[tactic(auto, using(scad_stack::proofs::StackTurns::nodes), unfolding(scad_stack::specs::Meaning::node, scad_stack::specs::Stack::onto, scad_stack::specs::Stack::goes_further, scad_stack::specs::Stack::gathers, scad_operations::specs::Operation::operates, scad_stack::specs::Pieces::index_of))]
 fn index_node<'p>(
     at: Place,
     a: &'p Expr,
@@ -158,7 +154,7 @@ fn index_node<'p>(
 }
 
 /// `name[i]`, where the variable's value isn't copied.
-#[tactic(auto, using(crate::proofs::StackTurns::nodes), unfolding(crate::specs::Meaning::node, crate::specs::Stack::onto, crate::specs::Stack::goes_further, crate::specs::Stack::gathers, scad_operations::specs::Operation::operates))]
+#[tactic(auto, using(scad_stack::proofs::StackTurns::nodes), unfolding(scad_stack::specs::Meaning::node, scad_stack::specs::Stack::onto, scad_stack::specs::Stack::goes_further, scad_stack::specs::Stack::gathers, scad_operations::specs::Operation::operates))]
 fn index_of_name<'p>(
     _at: Place,
     of: Name<'p>,
@@ -176,7 +172,7 @@ fn index_of_name<'p>(
 }
 
 /// A member of a value; that of a variable is read where it stands.
-#[tactic(auto, using(crate::proofs::StackTurns::nodes), unfolding(crate::specs::Meaning::node, crate::specs::Stack::onto, crate::specs::Stack::goes_further, crate::specs::Stack::gathers, scad_operations::specs::Operation::operates, crate::specs::Stack::goes_on))]
+#[tactic(auto, using(scad_stack::proofs::StackTurns::nodes), unfolding(scad_stack::specs::Meaning::node, scad_stack::specs::Stack::onto, scad_stack::specs::Stack::goes_further, scad_stack::specs::Stack::gathers, scad_operations::specs::Operation::operates, scad_stack::specs::Stack::goes_on))]
 fn member_node<'p>(
     at: Place,
     a: &'p Expr,
@@ -200,7 +196,7 @@ fn member_node<'p>(
 }
 
 /// A call.
-#[tactic(auto, using(crate::proofs::StackTurns::calls), unfolding(crate::specs::Meaning::node, crate::specs::Stack::supplied, crate::specs::Stack::served))]
+#[tactic(auto, using(scad_stack::proofs::StackTurns::calls), unfolding(scad_stack::specs::Meaning::node, scad_stack::specs::Stack::supplied, scad_stack::specs::Stack::served))]
 fn call_node<'p>(
     e: &'p Expr,
     written: Written<'p>,
@@ -223,7 +219,7 @@ fn call_node<'p>(
 }
 
 /// `let (names) body`
-#[tactic(auto, using(crate::proofs::StackTurns::names), unfolding(crate::specs::Meaning::node))]
+#[tactic(auto, using(scad_stack::proofs::StackTurns::names), unfolding(scad_stack::specs::Meaning::node))]
 fn let_node<'p>(
     at: Place,
     args: &'p [Arg],

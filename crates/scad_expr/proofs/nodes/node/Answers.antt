@@ -6,12 +6,12 @@ use Rattle.scad_value.specs.Datum.{Datum}
 use Rattle.scad_value.specs.View.{datum_of}
 use Rattle.scad_machine.specs.Machine.{held, env_in, along_in, state_of}
 use Rattle.scad_machine.specs.State.{Outcome, and_then}
-use Rattle.scad_expr.specs.Meaning.{node, meaning}
-use Rattle.scad_expr.specs.Stack.{rest, made_in, goes_on}
+use Rattle.scad_stack.specs.Meaning.{node, meaning}
+use Rattle.scad_stack.specs.Stack.{rest, made_in, goes_on}
 use Rattle.scad_machine.specs.Variables.{variable}
-use Rattle.scad_expr.proofs.Views.{list_node, call_node, let_node, assert_node, echo_node}
-use Rattle.scad_expr.proofs.StackBegins.{node-same}
-use Rattle.scad_expr.proofs.StackTurns.{assert-supplied, echo-supplied}
+use Rattle.scad_stack.proofs.Views.{list_node, call_node, let_node, assert_node, echo_node}
+use Rattle.scad_stack.proofs.StackBegins.{node-same}
+use Rattle.scad_stack.proofs.StackTurns.{assert-supplied, echo-supplied}
 use Rattle.scad_expr.proofs.nodes.node.Goals as goal
 
 pub returns-in-List-clause-goes : goal.returns-in-List-clause-goes

@@ -1,11 +1,11 @@
 use Rattle.std.proofs.Common.{ap, ◌∙◌}
 use Rattle.scad_ast.specs.View.{elements}
-use Rattle.scad_expr.specs.declared.frame.Frame.TheVariants.{Gathering as GatheringFrame}
-use Rattle.scad_expr.specs.declared.frame.Gathering.TheVariants.{Vector}
+use Rattle.scad_stack.specs.declared.frame.Frame.TheVariants.{Gathering as GatheringFrame}
+use Rattle.scad_stack.specs.declared.frame.Gathering.TheVariants.{Vector}
 use Rattle.scad_machine.specs.Machine.{held, state_of}
-use Rattle.scad_expr.specs.Meaning.{meaning}
-use Rattle.scad_expr.specs.Stack.{rest, made_in, onto}
-use Rattle.scad_expr.proofs.StackBegins.{vector-begins}
+use Rattle.scad_stack.specs.Meaning.{meaning}
+use Rattle.scad_stack.specs.Stack.{rest, made_in, onto}
+use Rattle.scad_stack.proofs.StackBegins.{vector-begins}
 use Rattle.scad_expr.proofs.nodes.vector_node.Goals as goal
 
 pub returns-clause-goes : goal.returns-clause-goes
