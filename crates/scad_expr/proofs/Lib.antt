@@ -18,3 +18,4 @@ pub use Rattle.scad_machine.proofs.Giving
 pub use Rattle.scad_machine.proofs.Homes
 pub use Rattle.scad_machine.proofs.OpenFrames
 pub use Rattle.scad_operations.proofs.RunsLeft
+pub use Rattle.scad_stack.proofs.Loops

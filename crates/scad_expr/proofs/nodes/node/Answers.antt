@@ -62,21 +62,3 @@ returns-in-Echo-clause-goes c = λ o is.
     (echo-supplied (meaning c.args.depth) (env_in h) (along_in h) e.at (arguments args.items)
     (expression_of body.value) (expression_of e) (state_of c.args.m.now)
     (echo_node e args body args.items body.value c.in-Echo.is refl refl)))
-
-pub returns-in_err-variable-in-Name-clause-goes : goal.returns-in_err-variable-in-Name-clause-goes
-returns-in_err-variable-in-Name-clause-goes c =
-    let p = err_from_is_err_and c.from_residual.result c.from_residual.ensures.1 in
-    rw (p.1, p.2) (λ o is some. let no = c.in_err-variable-in-Name.ensures (state_of c.args.m.now) some in (cc))
-
-pub returns-in_ok-variable-in-Name-clause-goes : goal.returns-in_ok-variable-in-Name-clause-goes
-unfolding node goes_on
-returns-in_ok-variable-in-Name-clause-goes c = λ o is.
-    let e = c.args.e.now in
-    let h = held c.args.m.now in
-    let word = c.as_slice.result.now in
-    let gives_it = c.in_ok-variable-in-Name.ensures (state_of c.args.m.now) in
-    let same : variable word (env_in h) (along_in h) ≡ datum_of c.in_ok-variable-in-Name.field-0 = cc in
-    is ∙ node-same c.args.depth h (rest c.args.stack.now) (made_in c.args.stack.now) (state_of c.args.m.now)
-    (name e.at word) (expression_of e)
-    (ap (λ (w : List ℕ). name e.at w) c.as_slice.ensures ∙ ap (expression_at e.at) (sym c.in-Name.is))
-    ∙ ap (λ (d : Datum). rest c.args.stack.now h (made_in c.args.stack.now) d (state_of c.args.m.now)) same
