@@ -8,10 +8,10 @@ mod calls;
 mod defaults;
 mod elements;
 mod frame;
-mod further;
 mod gathering;
 mod name;
 mod named;
+mod other_part;
 mod purpose;
 mod rounds;
 mod stack;
@@ -24,9 +24,9 @@ pub use frame::{
     Course, Focus, Frame, Further, Gathering, Inside, Loop, Opening, Right, Round, Turning,
     Variable, Within, Written, at_work,
 };
-pub use further::further;
 pub use gathering::gathered;
 pub use name::{Name, pass_name};
 pub use named::{bind_more, bind_next};
+pub use other_part::further;
 pub use rounds::round;
 pub use stack::Stack;
