@@ -6,8 +6,8 @@ use Rattle.scad_scope.specs.Env.{Env}
 use Rattle.scad_scope.specs.FrameStore.{StoredChildren, env_at, envs, children_in}
 use Rattle.scad_machine.specs.Arguments.{with_children, number_of_children}
 use Rattle.scad_machine.specs.Machine.{Held, along_in}
-use Rattle.scad_expr.specs.Meaning.{meaning, bound, bind}
-use Rattle.scad_expr.specs.Meaning.{opened as opens}
+use Rattle.scad_stack.specs.Meaning.{meaning, bound, bind}
+use Rattle.scad_stack.specs.Meaning.{opened as opens}
 use Rattle.scad_machine.specs.OpenFrames.{opened, bound_in, with_count, opened_in}
 use Rattle.scad_machine.specs.State.{State, Outcome, gives, and_then}
 use Rattle.scad_machine.specs.Variables.{Bound}

@@ -11,7 +11,7 @@ use Rattle.scad_machine.specs.declared.fault.EvalFault.{EvalFault}
 use Rattle.scad_machine.specs.declared.fault.EvalFault.TheVariants.{Fault, Over}
 use Rattle.scad_machine.specs.State.{State, Outcome}
 use Rattle.scad_machine.specs.Variables.{first_env, first_along}
-use Rattle.scad_expr.specs.Meaning.{value}
+use Rattle.scad_stack.specs.Meaning.{value}
 
 -- in line 1
 abbrev pub at : ℕ → Place

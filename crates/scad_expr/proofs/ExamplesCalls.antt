@@ -9,7 +9,7 @@ use Rattle.scad_ast.specs.Tree.{no_arguments, argument, no_elements, element, it
 use Rattle.scad_ast.specs.Tree.{boolean as boolean_at, number as number_at, string as string_at, name as name_at, vector as vector_at, unary as unary_at, binary as binary_at, choose as choose_at, call as call_at, let_in}
 use Rattle.scad_value.specs.Datum.{undef, boolean, number, string, vector}
 use Rattle.scad_machine.specs.State.{start, gives, refuses}
-use Rattle.scad_expr.specs.Runs.{as_elements}
+use Rattle.scad_operations.specs.Runs.{as_elements}
 use Rattle.scad_expr.proofs.OnLiterals.{expressions_on_literals}
 use Rattle.scad_expr.proofs.ExampleWords.{at, parameter, after, faulted, evaluated}
 

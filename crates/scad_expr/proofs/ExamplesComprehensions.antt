@@ -8,7 +8,7 @@ use Rattle.scad_ast.specs.Tree.{no_arguments, argument, no_elements, element, it
 use Rattle.scad_ast.specs.Tree.{undef as undef_at, boolean as boolean_at, number as number_at, string as string_at, name as name_at, vector as vector_at, range as range_at, stepped as stepped_at, unary as unary_at, binary as binary_at}
 use Rattle.scad_value.specs.Datum.{boolean, number, string, vector}
 use Rattle.scad_machine.specs.State.{start, gives, refuses}
-use Rattle.scad_expr.specs.Runs.{as_elements}
+use Rattle.scad_operations.specs.Runs.{as_elements}
 use Rattle.scad_expr.proofs.OnLiterals.{expressions_on_literals}
 use Rattle.scad_expr.proofs.ExampleWords.{at, after, faulted, evaluated}
 

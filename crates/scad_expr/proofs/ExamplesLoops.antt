@@ -8,7 +8,7 @@ use Rattle.scad_ast.specs.Tree.{no_arguments, argument, no_elements, element, it
 use Rattle.scad_ast.specs.Tree.{boolean as boolean_at, number as number_at, name as name_at, vector as vector_at, binary as binary_at}
 use Rattle.scad_value.specs.Datum.{number, vector}
 use Rattle.scad_machine.specs.State.{start, gives, refuses}
-use Rattle.scad_expr.specs.Runs.{as_elements}
+use Rattle.scad_operations.specs.Runs.{as_elements}
 use Rattle.scad_expr.proofs.OnLiterals.{expressions_on_literals}
 use Rattle.scad_expr.proofs.ExampleWords.{at, after, faulted, evaluated}
 

@@ -1,5 +1,4 @@
 pub mod CallFrames
-pub mod DepthLeft
 pub mod ExampleWords
 pub mod ExamplesBound
 pub mod ExamplesBudgets
@@ -11,19 +10,12 @@ pub mod ExamplesLoops
 pub mod ExamplesOperators
 pub mod ExamplesParameters
 pub mod ExamplesRanges
-pub mod InPlace
-pub mod Lists
-pub mod Loops
 pub mod OnLiterals
-pub mod Parts
 pub mod Rising
 pub mod RisingNodes
-pub mod RunsLeft
-pub mod StackBegins
-pub mod StackTurns
 pub mod StepsAndTurns
-pub mod Condition
-pub mod Views
 pub use Rattle.scad_machine.proofs.Giving
 pub use Rattle.scad_machine.proofs.Homes
 pub use Rattle.scad_machine.proofs.OpenFrames
+pub use Rattle.scad_operations.proofs.RunsLeft
+pub use Rattle.scad_stack.proofs.Loops

@@ -14,13 +14,13 @@ use Rattle.scad_builtin.specs.Builtin.{builtin}
 use Rattle.scad_scope.specs.Names.{Names}
 use Rattle.scad_scope.specs.Env.{Env}
 use Rattle.scad_machine.specs.State.{step_limit, Action, ◌>>=◌}
-use Rattle.scad_expr.specs.Places.{place}
+use Rattle.scad_stack.specs.Places.{place}
 use Rattle.scad_machine.specs.Variables.{variable, Bound, set, empty, within}
 use Rattle.scad_machine.specs.Functions.{Found, function_named}
-use Rattle.scad_expr.specs.Runs.{items, as_elements}
+use Rattle.scad_operations.specs.Runs.{items, as_elements}
 use Rattle.scad_machine.specs.Arguments.{given, set_all, is_given}
 use Rattle.scad_machine.specs.EchoLines.{echo_line}
-use Rattle.scad_expr.specs.Meaning.{Below, operated, ranged_by_one, member_of, values, default_value, defaults, bound, called_own, called, bound_in_order, elements, turns, for_variables, loop_turns, truth_of, right_side, node, value_layer, element_node}
+use Rattle.scad_stack.specs.Meaning.{Below, operated, ranged_by_one, member_of, values, default_value, defaults, bound, called_own, called, bound_in_order, elements, turns, for_variables, loop_turns, truth_of, right_side, node, value_layer, element_node}
 use Rattle.scad_expr.proofs.Rising.{Rising, rising-then, rising-if, rising-pure, rising-step, rising-steps, rising-make, rising-say, rising-operated, rising-builtin, rising-ranged, rising-asserted, rising-judged, rising-variables}
 
 module _ (below : Below) (v : (env along : Env) (e : Expression) → Rising (below.value env along e)) (el : (env along : Env) (e : Element) (so_far : List Datum) → Rising (below.element env along e so_far)) where

@@ -5,9 +5,9 @@ use Rattle.scad_value.specs.Datum.{Datum}
 use Rattle.scad_value.specs.Comparison.{truth}
 use Rattle.scad_scope.specs.Env.{Env}
 use Rattle.scad_machine.specs.State.{State, Outcome, gives, refuses, Action, and_then, step, step_limit}
-use Rattle.scad_expr.specs.Places.{place, element_place}
+use Rattle.scad_stack.specs.Places.{place, element_place}
 use Rattle.scad_machine.specs.Variables.{within}
-use Rattle.scad_expr.specs.Meaning.{meaning, value, bound_in_order, loop_turns}
+use Rattle.scad_stack.specs.Meaning.{meaning, value, bound_in_order, loop_turns}
 use Rattle.scad_expr.specs.Laws.{Within, StepsRise, TurnsDontEnd}
 use Rattle.scad_expr.proofs.Rising.{Rising, rising-over, step-counts}
 use Rattle.scad_expr.proofs.RisingNodes.{rising-bound_in_order, rising-layer, rising-element}

@@ -6,7 +6,7 @@ use Rattle.scad_value.specs.Datum.{Datum}
 use Rattle.scad_scope.specs.Env.{Env}
 use Rattle.scad_machine.specs.State.{State, Outcome, gives, refuses, step_limit}
 use Rattle.scad_machine.specs.Variables.{Bound}
-use Rattle.scad_expr.specs.Meaning.{meaning, value, loop_turns}
+use Rattle.scad_stack.specs.Meaning.{meaning, value, loop_turns}
 
 -- after it there are no fewer steps than so many, and no more than the limit
 abbrev pub Within : {A : Type 0} → ℕ → Outcome A → Type 0

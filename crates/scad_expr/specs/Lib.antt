@@ -1,10 +1,11 @@
 -- What the public calls promise.
 pub mod Laws
-pub mod Meaning
-pub mod Places
-pub mod Portions
-pub mod Runs
 -- What lies below.
+pub use Rattle.scad_stack.specs.Meaning
+pub use Rattle.scad_stack.specs.Places
+pub use Rattle.scad_stack.specs.Portions
+pub use Rattle.scad_operations.specs.Runs
+pub use Rattle.scad_operations.specs.Values
 pub use Rattle.scad_machine.specs.Answers
 pub use Rattle.scad_machine.specs.Arguments
 pub use Rattle.scad_machine.specs.Functions
@@ -16,7 +17,4 @@ pub use Rattle.scad_machine.specs.State
 pub use Rattle.scad_machine.specs.Variables
 pub use Rattle.scad_machine.specs.View
 -- What only the steps of the code promise to one another.
-pub mod Parts
-pub mod Pieces
-pub mod Stack
-pub mod Condition
+pub mod Turns

@@ -9,7 +9,7 @@ ghost use Rattle.scad_scope.specs.FrameStore.{env_at, envs, children_in};
 ghost use Rattle.scad_scope.specs.View.{children_stored};
 ghost use Rattle.scad_machine.specs.Answers.{Does};
 ghost use Rattle.scad_machine.specs.Machine.{held, env_in, along_in, state_of};
-ghost use Rattle.scad_expr.specs.Meaning.{values, default_value, bound, bind, meaning};
+ghost use Rattle.scad_stack.specs.Meaning.{values, default_value, bound, bind, meaning};
 ghost use Rattle.scad_machine.specs.OpenFrames.{opened, bound_in, left, opened_in};
 ghost use Rattle.scad_machine.specs.Variables.{within};
 
@@ -118,7 +118,7 @@ fn bind_at<'p>(
 }
 
 /// The default of a parameter, or `undef`.
-#[tactic(auto, unfolding(crate::specs::Meaning::default_value))]
+#[tactic(auto, unfolding(scad_stack::specs::Meaning::default_value))]
 fn default_of<'p>(
     alloc: Global,
     param: &'p Param,

@@ -5,31 +5,14 @@
 
 mod answer;
 mod call;
-mod calls;
-mod construction;
-mod defaults;
-mod elements;
-mod frame;
 pub mod laws;
-mod loans;
-mod named;
 mod nodes;
-mod operands;
-mod operations;
-mod part;
-mod pieces;
-mod purpose;
-mod requirements;
 mod run;
-mod sequence;
-mod stack;
-mod turns;
 mod walk;
 mod within;
 
 pub use call::{bind, values};
-pub use requirements::{asserted, judge_named, judge_variables};
 pub use scad_machine::{Callee, DEPTH_LIMIT, EvalFault, Machine, STEP_LIMIT};
-pub use sequence::{items_of, next_number};
+pub use scad_operations::{asserted, items_of, judge_named, judge_variables, next_number};
 pub use walk::eval;
 pub use within::let_names;

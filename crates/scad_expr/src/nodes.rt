@@ -5,26 +5,27 @@ ghost use Rattle.scad_ast.specs.Tree.{name, vector, index, member, call, let_in}
 ghost use Rattle.scad_ast.specs.View.{expression_of, arguments};
 ghost use Rattle.scad_ast.specs.View.{elements as tree_elements};
 ghost use Rattle.scad_value.specs.Datum.{string};
-ghost use Rattle.scad_machine.specs.Machine.{Held, held, env_in, along_in, state_of};
-ghost use Rattle.scad_expr.specs.Meaning.{node, value, meaning};
-ghost use Rattle.scad_expr.specs.Stack.{Whole, Goes, Leads, Below_by, followed, written_node, rest, height, made_in, rank, size};
-ghost use Rattle.scad_machine.specs.State.{State, Outcome};
+ghost use Rattle.scad_machine.specs.Machine.{held, env_in, along_in, state_of};
+ghost use Rattle.scad_stack.specs.Meaning.{node, value, meaning};
+ghost use Rattle.scad_stack.specs.Stack.{Leads, Below_by, followed, written_node, height, size};
+ghost use Rattle.scad_machine.specs.Answers.{Does};
+ghost use Rattle.scad_machine.specs.State.{State, gives};
+ghost use Rattle.scad_value.specs.View.{datum_of};
 
-use crate::calls::{call_of_name, first_argument};
-use crate::elements::more_elements;
-use crate::frame::{Focus, Frame, Inside, Name, Within, Written};
-use crate::loans::{lone_name, member_in, pass_name};
-use crate::named::bind_more;
-use crate::requirements::judge_named;
-use crate::stack::Stack;
 use scad_ast::{Arg, Elem, Expr, Node};
 use scad_fault::{Budget, BudgetKind, Chars, Place};
 use scad_machine::{EvalFault, Machine};
+use scad_operations::{Operation, in_memory, judge_named, lone_name, member_in};
+use scad_stack::{
+    Focus, Frame, Further, Gathering, Inside, Name, Right, Stack, Within, Written, at_work,
+    bind_more, call_of_name, first_argument, more_elements, pass_name,
+};
 use scad_value::Value;
+use std::alloc::Global;
 
 /// An expression that begins, with so many levels of depth left.
 #[inline(always)]
-#[tactic(auto, using(crate::proofs::StackTurns::depths), unfolding(crate::specs::Meaning::value_layer, scad_machine::specs::State::over))]
+#[tactic(auto, using(scad_stack::proofs::StackTurns::depths), unfolding(scad_stack::specs::Meaning::value_layer, scad_machine::specs::State::over))]
 pub(crate) fn part<'p>(
     e: &'p Expr,
     depth: u32,
@@ -44,7 +45,7 @@ pub(crate) fn part<'p>(
 
 /// One arm for each kind of expression.
 #[inline(always)]
-#[tactic(auto, using(crate::proofs::Views::views, crate::proofs::StackTurns::nodes), unfolding(crate::specs::Meaning::node, crate::specs::Pieces::range_end, crate::specs::Pieces::stepped_end, crate::specs::Pieces::step_and_end, crate::specs::Pieces::side, crate::specs::Stack::onto, crate::specs::Stack::goes_on))]
+#[tactic(auto, using(scad_stack::proofs::Views::views, scad_stack::proofs::StackTurns::nodes), unfolding(scad_stack::specs::Meaning::node, scad_stack::specs::Pieces::range_end, scad_stack::specs::Pieces::stepped_end, scad_stack::specs::Pieces::step_and_end, scad_stack::specs::Pieces::side, scad_stack::specs::Stack::onto, scad_stack::specs::Stack::goes_further, scad_stack::specs::Stack::gathers, scad_operations::specs::Operation::operates, scad_stack::specs::Stack::goes_on))]
 fn node<'p>(
     e: &'p Expr,
     depth: u32,
@@ -59,16 +60,31 @@ fn node<'p>(
         Node::Undef => Ok(Focus::Given(Value::Undef)),
         Node::Bool(b) => Ok(Focus::Given(Value::Bool(*b))),
         Node::Number(n) => Ok(Focus::Given(Value::Number(*n))),
-        Node::Str(chars) => string_node(chars, stack),
-        Node::Name(word) => Ok(Focus::Given(m.variable(stack.alloc(), word.as_slice())?)),
+        Node::Str(chars) => at_work(string_of(stack.alloc(), chars)),
+        Node::Name(word) => at_work(m.variable(stack.alloc(), word.as_slice())),
         Node::List(all) => vector_node(e.at, all, depth, stack, m),
-        Node::Range(start, None, end) => stack.wait(Frame::RangeEnd(end, depth), start, depth),
-        Node::Range(start, Some(step), end) => {
-            stack.wait(Frame::StepAndEnd(e.at, step, end, depth), start, depth)
+        Node::Range(start, None, end) => {
+            stack.wait(Frame::Further(Further::RangeEnd(end), depth), start, depth)
         }
-        Node::Unary(op, a) => stack.wait(Frame::Unary(e.at, *op), a, depth),
-        Node::Binary(op, a, b) => stack.wait(Frame::Right(e.at, *op, b, depth), a, depth),
-        Node::Choose(test, a, b) => stack.wait(Frame::Sides(a, b, depth), test, depth),
+        Node::Range(start, Some(step), end) => {
+            let next = Further::StepAndEnd(e.at, step, end);
+            stack.wait(Frame::Further(next, depth), start, depth)
+        }
+        Node::Unary(op, a) => {
+            let last = Operation::Unary(e.at, *op);
+            stack.wait(Frame::Operation(last), a, depth)
+        }
+        Node::Binary(op, a, b) => {
+            let right = Right {
+                at: e.at,
+                op: *op,
+                b,
+            };
+            stack.wait(Frame::Further(Further::Right(right), depth), a, depth)
+        }
+        Node::Choose(test, a, b) => {
+            stack.wait(Frame::Further(Further::Sides(a, b), depth), test, depth)
+        }
         Node::Index(a, i) => index_node(e.at, a, i, depth, stack, m),
         Node::Member(a, word) => member_node(e.at, a, word.as_slice(), depth, stack, m),
         Node::Call(word, args) => {
@@ -86,18 +102,15 @@ fn node<'p>(
 }
 
 /// A string.
-#[tactic(auto, unfolding(crate::specs::Stack::goes_on))]
-fn string_node<'p>(chars: &'p Chars, stack: &mut Stack<'p>) -> Result<Focus<'p>, EvalFault>
-    ensures goes { (h : Held) (s : State) (o : Outcome Whole) → o ≡ rest stack.old h (made_in stack.old) (string chars.now) s
-        → Goes o result (rest stack.new) h (made_in stack.new) s }
-    ensures less { IfOk result (λ f. rank f + 2 * height stack.new ≡ 2 * height stack.old + 4) }
+fn string_of(alloc: Global, chars: &Chars) -> Result<Value, EvalFault>
+    ensures { (s : State) → Does datum_of (gives (string chars.now) s) result s }
 {
-    let copy = Chars::of(stack.alloc(), chars.as_slice())?;
-    Ok(Focus::Given(Value::string(stack.alloc(), copy)?))
+    let copy = Chars::of(alloc, chars.as_slice())?;
+    in_memory(Value::string(alloc, copy))
 }
 
 /// The vector of these elements.
-#[tactic(auto, using(crate::proofs::StackTurns::nodes), unfolding(crate::specs::Meaning::node, crate::specs::Stack::onto, crate::specs::Stack::goes_on))]
+#[tactic(auto, using(scad_stack::proofs::StackTurns::nodes), unfolding(scad_stack::specs::Meaning::node, scad_stack::specs::Stack::onto, scad_stack::specs::Stack::goes_further, scad_stack::specs::Stack::gathers, scad_operations::specs::Operation::operates, scad_stack::specs::Stack::goes_on))]
 fn vector_node<'p>(
     at: Place,
     all: &'p [Elem],
@@ -110,12 +123,12 @@ fn vector_node<'p>(
     ensures less { Below_by 9 result stack.old m.old stack.new m.new }
 {
     let outer = stack.set_aside();
-    stack.push(Frame::Vector(at, outer))?;
+    stack.push(Frame::Gathering(Gathering::Vector(at, outer)))?;
     more_elements(all, depth, stack, m)
 }
 
 /// A value that is indexed, and its index.
-#[tactic(auto, using(crate::proofs::StackTurns::nodes), unfolding(crate::specs::Meaning::node, crate::specs::Stack::onto, crate::specs::Pieces::index_of))]
+#[tactic(auto, using(scad_stack::proofs::StackTurns::nodes), unfolding(scad_stack::specs::Meaning::node, scad_stack::specs::Stack::onto, scad_stack::specs::Stack::goes_further, scad_stack::specs::Stack::gathers, scad_operations::specs::Operation::operates, scad_stack::specs::Pieces::index_of))]
 fn index_node<'p>(
     at: Place,
     a: &'p Expr,
@@ -136,12 +149,12 @@ fn index_node<'p>(
             };
             index_of_name(at, name, i, depth, stack, m)
         }
-        _ => stack.wait(Frame::IndexOf(i, depth), a, depth),
+        _ => stack.wait(Frame::Further(Further::IndexOf(i), depth), a, depth),
     }
 }
 
 /// `name[i]`, where the variable's value isn't copied.
-#[tactic(auto, using(crate::proofs::StackTurns::nodes), unfolding(crate::specs::Meaning::node, crate::specs::Stack::onto))]
+#[tactic(auto, using(scad_stack::proofs::StackTurns::nodes), unfolding(scad_stack::specs::Meaning::node, scad_stack::specs::Stack::onto, scad_stack::specs::Stack::goes_further, scad_stack::specs::Stack::gathers, scad_operations::specs::Operation::operates))]
 fn index_of_name<'p>(
     _at: Place,
     of: Name<'p>,
@@ -155,11 +168,11 @@ fn index_of_name<'p>(
     ensures less { Below_by 9 result stack.old m.old stack.new m.new }
 {
     pass_name(of.at, of.word, depth, m)?;
-    stack.wait(Frame::IndexedName(of.word), i, depth)
+    stack.wait(Frame::Operation(Operation::IndexedName(of.word)), i, depth)
 }
 
 /// A member of a value; that of a variable is read where it stands.
-#[tactic(auto, using(crate::proofs::StackTurns::nodes), unfolding(crate::specs::Meaning::node, crate::specs::Stack::onto, crate::specs::Stack::goes_on))]
+#[tactic(auto, using(scad_stack::proofs::StackTurns::nodes), unfolding(scad_stack::specs::Meaning::node, scad_stack::specs::Stack::onto, scad_stack::specs::Stack::goes_further, scad_stack::specs::Stack::gathers, scad_operations::specs::Operation::operates, scad_stack::specs::Stack::goes_on))]
 fn member_node<'p>(
     at: Place,
     a: &'p Expr,
@@ -176,14 +189,14 @@ fn member_node<'p>(
     match &a.node {
         Node::Name(name) => {
             pass_name(a.at, name.as_slice(), depth, m)?;
-            Ok(Focus::Given(member_in(stack.alloc(), m.seek(name.as_slice()), word)?))
+            at_work(in_memory(member_in(stack.alloc(), m.seek(name.as_slice()), word)))
         }
-        _ => stack.wait(Frame::Member(word), a, depth),
+        _ => stack.wait(Frame::Operation(Operation::Member(word)), a, depth),
     }
 }
 
 /// A call.
-#[tactic(auto, using(crate::proofs::StackTurns::calls), unfolding(crate::specs::Meaning::node, crate::specs::Stack::supplied, crate::specs::Stack::served))]
+#[tactic(auto, using(scad_stack::proofs::StackTurns::calls), unfolding(scad_stack::specs::Meaning::node, scad_stack::specs::Stack::supplied, scad_stack::specs::Stack::served))]
 fn call_node<'p>(
     e: &'p Expr,
     written: Written<'p>,
@@ -206,7 +219,7 @@ fn call_node<'p>(
 }
 
 /// `let (names) body`
-#[tactic(auto, using(crate::proofs::StackTurns::names), unfolding(crate::specs::Meaning::node))]
+#[tactic(auto, using(scad_stack::proofs::StackTurns::names), unfolding(scad_stack::specs::Meaning::node))]
 fn let_node<'p>(
     at: Place,
     args: &'p [Arg],

@@ -5,16 +5,15 @@ ghost use Rattle.scad_ast.specs.View.{expression_of};
 ghost use Rattle.scad_value.specs.View.{datum_of};
 ghost use Rattle.scad_machine.specs.Answers.{Does};
 ghost use Rattle.scad_machine.specs.Machine.{held, env_in, along_in, state_of};
-ghost use Rattle.scad_expr.specs.Meaning.{value};
-ghost use Rattle.scad_expr.specs.Stack.{Ending, Less, Done, rest, made_in, goes_on, size};
+ghost use Rattle.scad_stack.specs.Meaning.{value};
+ghost use Rattle.scad_stack.specs.Stack.{rest, made_in, goes_on, size};
+ghost use Rattle.scad_expr.specs.Turns.{Ending, Less, IsMore, StaysLess, Done};
 
 use crate::answer::given;
-use crate::elements::element;
-use crate::frame::Focus;
 use crate::nodes::part;
-use crate::stack::Stack;
 use scad_ast::Expr;
 use scad_machine::{EvalFault, Machine};
+use scad_stack::{Focus, Stack, element};
 use scad_value::Value;
 use std::alloc::Global;
 
@@ -25,9 +24,21 @@ pub(crate) enum Next<'p> {
     End(Value),
 }
 
+/// There is more where something is at work.
+#[inline(always)]
+fn more<'p>(focus: Result<Focus<'p>, EvalFault>) -> Result<Next<'p>, EvalFault>
+    ensures goes { IsMore focus.entry result }
+    ensures less { StaysLess focus.entry result }
+{
+    match focus {
+        Ok(next) => Ok(Next::More(next)),
+        Err(why) => Err(why),
+    }
+}
+
 /// One turn.
 #[inline(always)]
-#[tactic(auto, unfolding(crate::specs::Stack::goes_on))]
+#[tactic(auto, unfolding(scad_stack::specs::Stack::goes_on))]
 fn turn<'p>(
     focus: Focus<'p>,
     stack: &mut Stack<'p>,
@@ -38,10 +49,10 @@ fn turn<'p>(
     ensures less { Less (size focus.entry stack.old m.old) result stack.new m.new }
 {
     match focus {
-        Focus::Part(e, depth) => Ok(Next::More(part(e, depth, stack, m)?)),
-        Focus::Element(e, depth) => Ok(Next::More(element(e, depth, stack, m)?)),
+        Focus::Part(e, depth) => more(part(e, depth, stack, m)),
+        Focus::Element(e, depth) => more(element(e, depth, stack, m)),
         Focus::Given(value) => match stack.pop() {
-            Some(frame) => Ok(Next::More(given(frame, value, stack, m)?)),
+            Some(frame) => more(given(frame, value, stack, m)),
             None => Ok(Next::End(value)),
         },
     }
@@ -66,7 +77,7 @@ fn turns<'p>(
 }
 
 /// The value of an expression, with so many levels of depth left.
-#[tactic(auto, using(crate::proofs::StackTurns::ends), unfolding(crate::specs::Stack::goes_on))]
+#[tactic(auto, using(scad_stack::proofs::StackTurns::ends), unfolding(scad_stack::specs::Stack::goes_on))]
 pub(crate) fn eval_at<'p>(
     alloc: Global,
     e: &'p Expr,

@@ -5,7 +5,7 @@ ghost use Rattle.scad_ast.specs.View.{expression_of};
 ghost use Rattle.scad_value.specs.View.{datum_of};
 ghost use Rattle.scad_machine.specs.Answers.{Does};
 ghost use Rattle.scad_machine.specs.Machine.{held, env_in, along_in, state_of};
-ghost use Rattle.scad_expr.specs.Meaning.{value};
+ghost use Rattle.scad_stack.specs.Meaning.{value};
 
 use crate::run::eval_at;
 use scad_ast::Expr;

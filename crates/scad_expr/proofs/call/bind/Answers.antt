@@ -7,7 +7,7 @@ use Rattle.scad_scope.specs.View.{children_stored}
 use Rattle.scad_machine.specs.Machine.{held, along_in, state_of}
 use Rattle.scad_value.specs.View.{data_in}
 use Rattle.scad_expr.proofs.CallFrames.{bound-same, bind-opened, bind-gives}
-use Rattle.scad_expr.proofs.Loops.{same-state}
+use Rattle.scad_stack.proofs.Loops.{same-state}
 use Rattle.scad_expr.proofs.call.bind.Goals as goal
 
 pub returns-clause-does : goal.returns-clause-does

@@ -9,11 +9,11 @@ use Rattle.scad_scope.specs.View.{children_stored}
 use Rattle.std.specs.Borrow.{Bor}
 use Rattle.scad_ast.specs.declared.statement.Param.{Param}
 use Rattle.scad_machine.specs.Machine.{held, along_in, state_of}
-use Rattle.scad_expr.specs.Meaning.{meaning}
+use Rattle.scad_stack.specs.Meaning.{meaning}
 use Rattle.scad_machine.specs.OpenFrames.{bound_in}
 use Rattle.scad_machine.specs.State.{gives}
 use Rattle.scad_machine.proofs.OpenFrames.{opened-bound, opened-again, call-done}
-use Rattle.scad_expr.proofs.Loops.{nothing-left, call-goes, call-opened, call-stops, call-begins, defaulted-end, same-state}
+use Rattle.scad_stack.proofs.Loops.{nothing-left, call-goes, call-opened, call-stops, call-begins, defaulted-end, same-state}
 use Rattle.scad_expr.proofs.call.bind_at.Goals as goal
 
 pub missing-init : goal.missing-init

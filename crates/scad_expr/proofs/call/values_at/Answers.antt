@@ -4,9 +4,9 @@ use Rattle.scad_ast.specs.View.{arguments}
 use Rattle.scad_value.specs.Datum.{Datum}
 use Rattle.scad_value.specs.View.{data_of, data_in}
 use Rattle.scad_machine.specs.Machine.{held, env_in, along_in, state_of}
-use Rattle.scad_expr.specs.Meaning.{meaning, values}
-use Rattle.scad_expr.proofs.RunsLeft.{data-push}
-use Rattle.scad_expr.proofs.Loops.{value-goes, value-stops, values-end}
+use Rattle.scad_stack.specs.Meaning.{meaning, values}
+use Rattle.scad_operations.proofs.RunsLeft.{data-push}
+use Rattle.scad_stack.proofs.Loops.{value-goes, value-stops, values-end}
 use Rattle.scad_expr.proofs.call.values_at.Goals as goal
 
 pub arguments-preserved : goal.arguments-preserved

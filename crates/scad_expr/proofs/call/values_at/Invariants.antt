@@ -1,7 +1,7 @@
 use Rattle.std.proofs.Common.{◌≡◌, ◌+◌, ◌-◌, ◌*◌, ◌^◌, [], drop}
 use Rattle.scad_ast.specs.View.{arguments}
 use Rattle.scad_machine.specs.Machine.{held, env_in, along_in, state_of}
-use Rattle.scad_expr.specs.Meaning.{meaning, values}
+use Rattle.scad_stack.specs.Meaning.{meaning, values}
 use Rattle.scad_value.specs.View.{data_in}
 use Rattle.scad_expr.proofs.call.values_at.Given as goal
 

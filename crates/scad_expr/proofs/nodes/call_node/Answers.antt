@@ -7,12 +7,12 @@ use Rattle.scad_ast.specs.View.{arguments, expression_of}
 use Rattle.scad_value.specs.Datum.{Datum}
 use Rattle.scad_machine.specs.Functions.{function_named}
 use Rattle.scad_machine.specs.Machine.{Held, held, env_in, along_in, state_of}
-use Rattle.scad_expr.specs.Meaning.{meaning, called}
-use Rattle.scad_expr.specs.Portions.{lone}
-use Rattle.scad_expr.specs.Stack.{rest, made_in, called_as}
+use Rattle.scad_stack.specs.Meaning.{meaning, called}
+use Rattle.scad_stack.specs.Portions.{lone}
+use Rattle.scad_stack.specs.Stack.{rest, made_in, called_as}
 use Rattle.scad_machine.specs.State.{Outcome, Action, and_then}
 use Rattle.scad_machine.specs.Variables.{variable}
-use Rattle.scad_expr.proofs.StackTurns.{node-lone, call-supplied}
+use Rattle.scad_stack.proofs.StackTurns.{node-lone, call-supplied}
 use Rattle.scad_expr.proofs.nodes.call_node.Goals as goal
 
 pub returns-in_err-pass_name-in-Some-clause-goes : goal.returns-in_err-pass_name-in-Some-clause-goes

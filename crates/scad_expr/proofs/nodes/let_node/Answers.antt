@@ -1,9 +1,9 @@
 use Rattle.std.proofs.Common.{sym, ◌∙◌}
 use Rattle.scad_ast.specs.View.{arguments}
 use Rattle.scad_machine.specs.Machine.{held, state_of}
-use Rattle.scad_expr.specs.Stack.{rest, made_in}
-use Rattle.scad_expr.proofs.Loops.{same-state}
-use Rattle.scad_expr.proofs.StackBegins.{let-node-begins}
+use Rattle.scad_stack.specs.Stack.{rest, made_in}
+use Rattle.scad_stack.proofs.Loops.{same-state}
+use Rattle.scad_stack.proofs.StackBegins.{let-node-begins}
 use Rattle.scad_expr.proofs.nodes.let_node.Goals as goal
 
 pub returns-clause-goes : goal.returns-clause-goes

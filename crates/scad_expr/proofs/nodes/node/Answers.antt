@@ -1,17 +1,15 @@
 use Rattle.std.proofs.Common.{◌≡◌, ℕ, List, refl, sym, ap, ◌∙◌}
-use Rattle.std.proofs.lemmas.Result.{err_from_is_err_and}
 use Rattle.scad_ast.specs.Tree.{name}
 use Rattle.scad_ast.specs.View.{expression_at, expression_of, arguments}
 use Rattle.scad_value.specs.Datum.{Datum}
-use Rattle.scad_value.specs.View.{datum_of}
 use Rattle.scad_machine.specs.Machine.{held, env_in, along_in, state_of}
-use Rattle.scad_machine.specs.State.{Outcome, and_then}
-use Rattle.scad_expr.specs.Meaning.{node, meaning}
-use Rattle.scad_expr.specs.Stack.{rest, made_in, goes_on}
+use Rattle.scad_machine.specs.State.{Outcome, gives, and_then}
+use Rattle.scad_stack.specs.Meaning.{node, meaning}
+use Rattle.scad_stack.specs.Stack.{rest, made_in}
 use Rattle.scad_machine.specs.Variables.{variable}
-use Rattle.scad_expr.proofs.Views.{list_node, call_node, let_node, assert_node, echo_node}
-use Rattle.scad_expr.proofs.StackBegins.{node-same}
-use Rattle.scad_expr.proofs.StackTurns.{assert-supplied, echo-supplied}
+use Rattle.scad_stack.proofs.Views.{list_node, call_node, let_node, assert_node, echo_node}
+use Rattle.scad_stack.proofs.StackBegins.{node-same}
+use Rattle.scad_stack.proofs.StackTurns.{assert-supplied, echo-supplied, on-ok}
 use Rattle.scad_expr.proofs.nodes.node.Goals as goal
 
 pub returns-in-List-clause-goes : goal.returns-in-List-clause-goes
@@ -63,20 +61,16 @@ returns-in-Echo-clause-goes c = λ o is.
     (expression_of body.value) (expression_of e) (state_of c.args.m.now)
     (echo_node e args body args.items body.value c.in-Echo.is refl refl)))
 
-pub returns-in_err-variable-in-Name-clause-goes : goal.returns-in_err-variable-in-Name-clause-goes
-returns-in_err-variable-in-Name-clause-goes c =
-    let p = err_from_is_err_and c.from_residual.result c.from_residual.ensures.1 in
-    rw (p.1, p.2) (λ o is some. let no = c.in_err-variable-in-Name.ensures (state_of c.args.m.now) some in (cc))
-
-pub returns-in_ok-variable-in-Name-clause-goes : goal.returns-in_ok-variable-in-Name-clause-goes
-unfolding node goes_on
-returns-in_ok-variable-in-Name-clause-goes c = λ o is.
+pub returns-in-Name-clause-goes : goal.returns-in-Name-clause-goes
+unfolding node
+returns-in-Name-clause-goes c = λ o is.
     let e = c.args.e.now in
     let h = held c.args.m.now in
+    let s = state_of c.args.m.now in
     let word = c.as_slice.result.now in
-    let gives_it = c.in_ok-variable-in-Name.ensures (state_of c.args.m.now) in
-    let same : variable word (env_in h) (along_in h) ≡ datum_of c.in_ok-variable-in-Name.field-0 = cc in
-    is ∙ node-same c.args.depth h (rest c.args.stack.now) (made_in c.args.stack.now) (state_of c.args.m.now)
-    (name e.at word) (expression_of e)
-    (ap (λ (w : List ℕ). name e.at w) c.as_slice.ensures ∙ ap (expression_at e.at) (sym c.in-Name.is))
-    ∙ ap (λ (d : Datum). rest c.args.stack.now h (made_in c.args.stack.now) d (state_of c.args.m.now)) same
+    c.at_work-in-Name.ensures.goes (gives (variable word (env_in h) (along_in h)) s) o c.args.stack.now h
+    c.args.m.now
+    (is ∙ node-same c.args.depth h (rest c.args.stack.now) (made_in c.args.stack.now) s (name e.at word)
+    (expression_of e)
+    (ap (λ (w : List ℕ). name e.at w) c.as_slice.ensures ∙ ap (expression_at e.at) (sym c.in-Name.is)))
+    (c.variable.ensures s) (on-ok c.variable.result refl)

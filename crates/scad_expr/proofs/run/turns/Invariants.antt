@@ -1,6 +1,6 @@
 use Rattle.std.proofs.Common.{◌≡◌}
 use Rattle.scad_machine.specs.Machine.{held, state_of}
-use Rattle.scad_expr.specs.Stack.{rest, made_in, goes_on, size}
+use Rattle.scad_stack.specs.Stack.{rest, made_in, goes_on, size}
 use Rattle.scad_expr.proofs.run.turns.Given as goal
 
 abbrev pub invariant-turns : goal.invariant-turns

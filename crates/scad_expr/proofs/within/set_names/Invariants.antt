@@ -1,7 +1,7 @@
 use Rattle.std.proofs.Common.{◌≡◌, ◌+◌, ◌-◌, ◌*◌, ◌^◌, drop}
 use Rattle.scad_ast.specs.View.{arguments}
 use Rattle.scad_machine.specs.Machine.{held, env_in, along_in, state_of}
-use Rattle.scad_expr.specs.Meaning.{meaning, bound_in_order}
+use Rattle.scad_stack.specs.Meaning.{meaning, bound_in_order}
 use Rattle.scad_machine.specs.OpenFrames.{bound_in, outer, IsInner}
 use Rattle.scad_expr.proofs.within.set_names.Given as goal
 

@@ -1,0 +1,5 @@
+pub mod Condition
+pub mod InPlace
+pub mod Lists
+pub mod Parts
+pub mod RunsLeft

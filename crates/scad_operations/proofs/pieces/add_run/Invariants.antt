@@ -1,0 +1,13 @@
+use Rattle.std.proofs.Common.{◌≡◌, ◌++◌, length}
+use Rattle.scad_value.specs.Datum.{range}
+use Rattle.scad_operations.specs.Portions.{numbers_left}
+use Rattle.scad_operations.specs.Runs.{items}
+use Rattle.scad_value.specs.View.{data_in}
+use Rattle.scad_operations.proofs.pieces.add_run.Given as goal
+
+abbrev pub invariant-numbers : goal.invariant-numbers
+invariant-numbers l = data_in l.out ++ numbers_left l.next l.step l.end ≡ data_in l.fn.out ++ items
+    (range l.fn.start l.step l.end)
+
+abbrev pub decreases-numbers : goal.decreases-numbers
+decreases-numbers l = length (numbers_left l.next l.step l.end)

@@ -1,0 +1,54 @@
+-- What is left of a rule of the meaning of expressions once a part of it has its value.
+use Rattle.std.specs.Prelude.{ℕ, zero, suc, true, false, List, [], ◌∷◌, ◌++◌, Option, Some, None, if◌then◌else◌}
+use Rattle.scad_fault.specs.declared.place.Place.{Place}
+use Rattle.scad_ast.specs.Tree.{Expression, Arguments, no_arguments, argument, Element}
+use Rattle.scad_value.specs.Datum.{Datum}
+use Rattle.scad_value.specs.Comparison.{truth}
+use Rattle.scad_value.specs.Index.{indexed}
+use Rattle.scad_scope.specs.Env.{Env}
+use Rattle.scad_machine.specs.State.{Action, pure, ◌>>=◌}
+use Rattle.scad_stack.specs.Meaning.{Below, ranged, ranged_by_one}
+
+-- the arguments from the first one on that has a name
+abbrev pub named_of : Arguments → Arguments
+named_of no_arguments = no_arguments
+named_of (argument None e more) = named_of more
+named_of (argument (Some name) e more) = argument (Some name) e more
+
+module _ (below : Below) where
+  -- the end of a range whose start has its value
+  unfoldable pub range_end : Env → Env → Datum → Expression → Action Datum
+  range_end env along a end = do
+    b ← below.value env along end
+    pure (ranged_by_one a b)
+
+  -- the end of a range whose start and step have their values
+  unfoldable pub stepped_end : Env → Env → Place → Datum → Datum → Expression → Action Datum
+  stepped_end env along at a s end = do
+    b ← below.value env along end
+    ranged at a s b
+
+  -- the step and the end of a range whose start has its value
+  unfoldable pub step_and_end : Env → Env → Place → Datum → Expression → Expression → Action Datum
+  step_and_end env along at a step_by end = do
+    s ← below.value env along step_by
+    stepped_end env along at a s end
+
+  -- the side of a choice whose test has its value
+  unfoldable pub side : Env → Env → Datum → Expression → Expression → Action Datum
+  side env along d a b = if truth d then below.value env along a else below.value env along b
+
+  -- the index of a value
+  unfoldable pub index_of : Env → Env → Datum → Expression → Action Datum
+  index_of env along d i = do
+    e ← below.value env along i
+    pure (indexed d e)
+
+  -- the element of an `if` whose test has its value
+  unfoldable pub element_if : Env → Env → Datum → Element → List Datum → Action (List Datum)
+  element_if env along d e so_far = if truth d then below.element env along e so_far else pure so_far
+
+  -- the elements of an `if` with `else` whose test has its value
+  unfoldable pub either_element : Env → Env → Datum → Element → Element → List Datum → Action (List Datum)
+  either_element env along d e other so_far =
+      if truth d then below.element env along e so_far else below.element env along other so_far
