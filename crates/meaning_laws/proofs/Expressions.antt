@@ -27,7 +27,8 @@ use Rattle.scad_expr.specs.Functions.{Found, function_named}
 use Rattle.scad_expr.specs.Runs.{items, as_elements}
 use Rattle.scad_expr.specs.Arguments.{given, set_all, is_given}
 use Rattle.scad_expr.specs.EchoLines.{echo_line}
-use Rattle.scad_expr.specs.Meaning.{Below, meaning, operated, ranged_by_one, member_of, values, default_value, defaults}
+use Rattle.scad_expr.specs.Meaning.{Below, meaning, values, default_value, defaults}
+use Rattle.scad_expr.specs.Values.{operated, ranged_by_one, member_of}
 use Rattle.scad_expr.specs.Meaning.{bound, called_own, called, bound_in_order, elements, turns, for_variables}
 use Rattle.scad_expr.specs.Meaning.{loop_turns}
 use Rattle.scad_expr.specs.Meaning.{truth_of, right_side, node, value_layer, element_node}

@@ -16,7 +16,7 @@ use Rattle.scad_builtin.specs.declared.fault.BuiltinFault.TheVariants.{ZeroDivis
 use Rattle.scad_scope.specs.Names.{value_of_name}
 use Rattle.scad_expr.specs.State.{pure, fault, fault_of}
 use Rattle.scad_expr.specs.Arguments.{given, are_named, is_none}
-use Rattle.scad_expr.specs.Meaning.{operated, called_builtin, ranged, tested, asserted, judge_named, judge_variables}
+use Rattle.scad_expr.specs.Values.{operated, called_builtin, ranged, tested, asserted, judge_named, judge_variables}
 use Rattle.meaning_laws.proofs.Operators.{Operates}
 use Rattle.meaning_laws.proofs.Builtins.{Computes}
 use Rattle.meaning_laws.proofs.Keeping.{Any, Keeps, either, keeps-pure, keeps-refuse, keeps-fault, keeps-fault_of}

@@ -11,7 +11,8 @@ use Rattle.scad_machine.specs.Functions.{function_named}
 use Rattle.scad_operations.specs.Runs.{items}
 use Rattle.scad_machine.specs.Arguments.{given, set_all, with_children}
 use Rattle.scad_machine.specs.EchoLines.{echo_line}
-use Rattle.scad_stack.specs.Meaning.{operated, called_builtin, ranged, ranged_by_one, member_of, asserted, judge_named, judge_variables, values, default_value, defaults, bound, called_own, called, bound_in_order, elements, turns, for_variables, loop_turns, truth_of, right_side, node, value_layer, element_node, meaning}
+use Rattle.scad_operations.specs.Values.{operated, called_builtin, ranged, ranged_by_one, member_of, asserted, judge_named, judge_variables}
+use Rattle.scad_stack.specs.Meaning.{values, default_value, defaults, bound, called_own, called, bound_in_order, elements, turns, for_variables, loop_turns, truth_of, right_side, node, value_layer, element_node, meaning}
 
 unfoldable pub expressions_on_literals : ⊤
 unfolding digits number_of quotient_of remainder_of half_up half_away root root_in_steps root_after sqrt_of meaning_of

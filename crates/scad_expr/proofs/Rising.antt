@@ -16,7 +16,7 @@ use Rattle.scad_builtin.specs.declared.fault.BuiltinFault.TheVariants.{UnknownFu
 use Rattle.scad_machine.specs.State.{State, Outcome, gives, refuses, Action, pure, and_then, ◌>>=◌, ◌>>◌, fault, fault_of, over, take, step, make, say, step_limit, nesting_limit}
 use Rattle.scad_scope.specs.Names.{value_of_name}
 use Rattle.scad_machine.specs.Arguments.{given, are_named, is_none}
-use Rattle.scad_stack.specs.Meaning.{operated, called_builtin, ranged, tested, asserted, judge_named, judge_variables}
+use Rattle.scad_operations.specs.Values.{operated, called_builtin, ranged, tested, asserted, judge_named, judge_variables}
 use Rattle.scad_expr.specs.Laws.{Within}
 
 abbrev pub Rising : {A : Type 0} → Action A → Type 0
