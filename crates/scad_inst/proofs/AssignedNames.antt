@@ -7,18 +7,17 @@ use Rattle.scad_scope.specs.Env.{Env}
 use Rattle.scad_machine.specs.declared.fault.EvalFault.{EvalFault}
 use Rattle.scad_expr.specs.State.{State, Outcome, gives, refuses, and_then, pure}
 use Rattle.scad_expr.specs.Variables.{Bound, set}
+use Rattle.scad_expr.proofs.Loops.{twice}
 use Rattle.scad_inst.specs.Meaning.{Below, assigned}
 
 -- what comes behind a value
 goes : {A B : Type 0} (o : Outcome A) (f : A → B) (g : B → State → Outcome B) (b : B) (t : State)
     → and_then o (λ a. pure (f a)) ≡ gives b t → and_then o (λ a. g (f a)) ≡ g b t
-goes (gives a s) f g b t e = cc
-goes (refuses x s) f g b t e = absurd (cc)
+goes o f g b t e = sym (twice o (λ a. pure (f a)) g) ∙ ap (λ p. and_then p g) e
 
 stops : {A B : Type 0} (o : Outcome A) (f : A → B) (g : B → State → Outcome B) (x : EvalFault) (t : State)
     → and_then o (λ a. pure (f a)) ≡ refuses x t → and_then o (λ a. g (f a)) ≡ refuses x t
-stops (gives a s) f g x t e = absurd (cc)
-stops (refuses y s) f g x t e = cc
+stops o f g x t e = sym (twice o (λ a. pure (f a)) g) ∙ ap (λ p. and_then p g) e
 
 module _ (below : Below) (scope : Items) (env along : Env) where
   pub names-goes : (all : List Binding) (i : ℕ) (p : Binding) (b c : Bound) (s t : State) → i < length all
