@@ -1,6 +1,6 @@
 //! Each front of outlines and of a printing program: what `verify` says of it. The answers come from an independent program.
 use crate::cases::holds;
-use crate::desks::{ROOM, Setup, answered};
+use crate::desks::{Answer, ROOM, Setup, answered};
 use crate::gate::Meeting;
 use cli_read::{Cli, read};
 use cli_text::{write_end, write_head, write_layer};
@@ -189,24 +189,36 @@ $$POLYLINE/1,1,5,0,0,10000,0,10000,10000,0,10000,0,0\n\
 $$POLYLINE/1,0,5,2000,2000,2000,8000,8000,8000,8000,2000,2000,2000\n\
 $$GEOMETRYEND\n";
 
-/// Tells of each front of the file of this name, beside another file: the whole of it.
+fn verified<'x, R: Threads + Sync + Abort>(
+    rt: &R,
+    alloc: Global,
+    outlines: &'x [u8],
+    program: &'x [u8],
+) -> Answer {
+    let setup = Setup {
+        files: &[("o.cli", outlines), ("o.gcode", program)],
+        fails: &[],
+        room: ROOM,
+    };
+    let words = "verify o.cli o.gcode";
+    answered(rt, alloc, words, &setup, &Meeting::open())
+}
+
+/// Tells of each front of outlines, or of a program over such: the whole of it.
 fn whole_by_fronts<R: Threads + Sync + Abort>(
     rt: &R,
     alloc: Global,
-    name: &str,
     pieces: &[(&str, &str)],
-    other: (&str, &[u8]),
+    outlines: Option<&[u8]>,
 ) -> Vec<u8> {
     let mut text = Vec::new(alloc);
     for &(piece, report) in pieces {
         for &byte in piece.as_bytes() {
             text.push(byte).expect(rt, "memory");
-            let setup = Setup {
-                files: &[(name, text.as_slice()), other],
-                fails: &[],
-                room: ROOM,
+            let answer = match outlines {
+                Some(outlines) => verified(rt, alloc, outlines, &text),
+                None => verified(rt, alloc, &text, b""),
             };
-            let answer = answered(rt, alloc, "verify o.cli o.gcode", &setup, &Meeting::open());
             let is_told = answer.report.as_slice() == report.as_bytes();
             holds(rt, is_told && answer.faults == 0, piece);
         }
@@ -232,14 +244,8 @@ fn written(alloc: Global, cli: &Cli) -> Result<Vec<u8>, AllocError> {
 #[test]
 fn each_front_of_outlines_and_of_a_program(rt: HostRuntime) {
     let alloc = rt.alloc();
-    let outlines = whole_by_fronts(&rt, alloc, "o.cli", &OUTLINES, ("o.gcode", b"".as_slice()));
-    whole_by_fronts(
-        &rt,
-        alloc,
-        "o.gcode",
-        &PROGRAM,
-        ("o.cli", outlines.as_slice()),
-    );
+    let outlines = whole_by_fronts(&rt, alloc, &OUTLINES, None);
+    whole_by_fronts(&rt, alloc, &PROGRAM, Some(outlines.as_slice()));
     let cli = read(alloc, &outlines).expect(&rt, "outlines");
     let text = written(alloc, &cli).expect(&rt, "memory");
     holds(
