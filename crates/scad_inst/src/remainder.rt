@@ -26,7 +26,7 @@ pub(crate) enum Remainder {
 }
 
 /// All that a value runs over.
-#[tactic(auto, using(scad_expr::proofs::RunsLeft::kinds), unfolding(crate::specs::Stack::left_in))]
+#[tactic(auto, using(scad_operations::proofs::RunsLeft::kinds), unfolding(crate::specs::Stack::left_in))]
 pub(crate) fn run_over(alloc: Global, over: &Value) -> Result<Remainder, AllocError>
     ensures { IfOk result (λ r. left_in r ≡ run_over (datum_of over.now)) }
 {
@@ -61,7 +61,7 @@ pub(crate) fn next_value(
 }
 
 /// Values that name the children that the items of a value name. Those of a range are sought where children can be.
-#[tactic(auto, using(crate::proofs::Onward::alike), unfolding(crate::specs::Stack::left_in, scad_expr::specs::Runs::items))]
+#[tactic(auto, using(crate::proofs::Onward::alike), unfolding(crate::specs::Stack::left_in, scad_operations::specs::Runs::items))]
 pub(crate) fn naming(alloc: Global, scope: &Scope, value: &Value) -> Result<Remainder, AllocError>
     ensures { IfOk result (λ r. NameAlike (items scope.now.items) (left_in r) (run_over (datum_of value.now))) }
 {
