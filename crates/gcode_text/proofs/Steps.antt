@@ -6,37 +6,9 @@ use Rattle.std.proofs.Math.ListN.{drop_of_length-le}
 use Rattle.std.proofs.lemmas.List.Sums.{sum_by-cons}
 use Rattle.scad_geom.specs.declared.point.Pt.{Pt}
 use Rattle.gcode_text.specs.declared.rates.Rates.{Rates}
-use Rattle.scad_base.specs.Appends.{BeginsWith}
 use Rattle.gcode_text.specs.Numeral.{last_digits}
 use Rattle.gcode_text.specs.Amount.{move_volume, moves_volume, path_volume, paths_volume, filament}
 use Rattle.gcode_text.specs.Gcode.{print_line, moves_text, path_text, paths_text}
-
--- ---- what a text begins with
-
-pub begins_more : {a b c : List ℕ} (x : List ℕ) → BeginsWith a b → c ≡ b ++ x → BeginsWith a c
-begins_more {a} x p e = record {
-  rest = p.rest ++ x;
-  is = e ∙ ap (λ (ys : List ℕ). ys ++ x) p.is ∙ append_assoc a p.rest
-      x;
-}
-
-pub begins_on : {a b c : List ℕ} → BeginsWith a b → BeginsWith b c → BeginsWith a c
-begins_on p q = begins_more q.rest p q.is
-
-pub begins_still : {a b c : List ℕ} → BeginsWith a b → c ≡ b → BeginsWith a c
-begins_still p e = record { rest = p.rest; is = e ∙ p.is }
-
-pub begins : {a b : List ℕ} (x : List ℕ) → b ≡ a ++ x → BeginsWith a b
-begins x e = record { rest = x; is = e }
-
--- what is appended to an appended text
-pub behind : {b c : List ℕ} (a x y : List ℕ) → b ≡ a ++ x → c ≡ b ++ y → c ≡ a ++ (x ++ y)
-behind a x y p q = q ∙ ap (λ (zs : List ℕ). zs ++ y) p ∙ append_assoc a x y
-
--- where an error is answered it holds what holds
-pub on_err : {T E : Type 0} (r : Result T E) (P : Type 0) → P → OnErr r P
-on_err (Ok x) P p = tt
-on_err (Err e) P p = p
 
 -- ---- digits
 

@@ -1,3 +1,4 @@
+pub mod Appends
 pub mod Integers
 pub mod Lists
 pub mod Memories

@@ -1,7 +1,8 @@
 -- The text of a hatch is appended behind those before.
 use Rattle.scad_base.proofs.Results.{on_err}
 use Rattle.cli_text.specs.Cli.{hatch_text}
-use Rattle.cli_text.proofs.Appended.{begins_more, begins_on, next_item, no_more}
+use Rattle.scad_base.proofs.Appends.{begins_more, begins_on}
+use Rattle.cli_text.proofs.Appended.{next_item, no_more}
 use Rattle.cli_text.proofs.hatches.push_each_hatch.Goals as goal
 
 pub hatches-preserved : goal.hatches-preserved

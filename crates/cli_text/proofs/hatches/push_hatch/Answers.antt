@@ -1,6 +1,6 @@
 -- The second point is appended behind the first; where memory runs out, the text still begins with it.
 use Rattle.std.proofs.lemmas.Result.{on_ok_weaker, on_err_weaker}
-use Rattle.cli_text.proofs.Appended.{begins, begins_on, behind}
+use Rattle.scad_base.proofs.Appends.{begins, begins_on, behind}
 use Rattle.cli_text.proofs.hatches.push_hatch.Goals as goal
 
 pub returns-clause-ok : goal.returns-clause-ok

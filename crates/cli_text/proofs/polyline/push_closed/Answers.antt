@@ -7,7 +7,8 @@ use Rattle.std.proofs.lemmas.Result.{on_ok_weaker, on_err_weaker}
 use Rattle.scad_geom.specs.declared.point.Pt.{Pt}
 use Rattle.scad_base.proofs.Results.{on_err}
 use Rattle.cli_text.specs.Cli.{point_text, closed}
-use Rattle.cli_text.proofs.Appended.{begins_more, begins_on, behind, next_item, no_more}
+use Rattle.scad_base.proofs.Appends.{begins_more, begins_on, behind}
+use Rattle.cli_text.proofs.Appended.{next_item, no_more}
 use Rattle.cli_text.proofs.polyline.push_closed.Goals as goal
 
 closed_none : (ps : List Pt) → length ps < 1 → closed ps ≡ ps

@@ -5,7 +5,7 @@ use Rattle.std.specs.Fmt.{signed_decimal}
 use Rattle.std.proofs.lemmas.Result.{on_ok_weaker, on_err_weaker}
 use Rattle.scad_base.proofs.Results.{on_err}
 use Rattle.scad_geom.proofs.Casts.{casts}
-use Rattle.cli_text.proofs.Appended.{begins, begins_more, begins_still, behind}
+use Rattle.scad_base.proofs.Appends.{begins, begins_more, begins_still, behind}
 use Rattle.cli_text.proofs.polyline.push_point.Goals as goal
 
 pub returns-in_err-push_signed-clause-err : goal.returns-in_err-push_signed-clause-err

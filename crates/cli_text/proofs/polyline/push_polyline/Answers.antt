@@ -1,7 +1,7 @@
 -- Each part is appended behind those before; where memory runs out, the text still begins with them.
 use Rattle.std.proofs.Common.{codes}
 use Rattle.scad_base.proofs.Results.{on_err}
-use Rattle.cli_text.proofs.Appended.{begins, begins_more, begins_still, begins_on, behind}
+use Rattle.scad_base.proofs.Appends.{begins, begins_more, begins_still, begins_on, behind}
 use Rattle.cli_text.proofs.polyline.push_polyline.Goals as goal
 
 pub returns-in_err-push_unsigned-clause-err : goal.returns-in_err-push_unsigned-clause-err

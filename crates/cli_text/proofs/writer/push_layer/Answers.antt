@@ -2,7 +2,7 @@
 use Rattle.std.proofs.Common.{codes}
 use Rattle.std.proofs.lemmas.Result.{on_ok_weaker, on_err_weaker}
 use Rattle.scad_base.proofs.Results.{on_err}
-use Rattle.cli_text.proofs.Appended.{begins, begins_more, begins_still, begins_on, behind}
+use Rattle.scad_base.proofs.Appends.{begins, begins_more, begins_still, begins_on, behind}
 use Rattle.cli_text.proofs.writer.push_layer.Goals as goal
 
 pub returns-in_err-push_unsigned-clause-err : goal.returns-in_err-push_unsigned-clause-err

@@ -3,7 +3,8 @@ use Rattle.std.proofs.Common.{◌++◌, List, ap, ◌∙◌}
 use Rattle.scad_geom.specs.declared.point.Pt.{Pt}
 use Rattle.scad_base.proofs.Results.{on_err}
 use Rattle.cli_text.specs.Cli.{polyline_text}
-use Rattle.cli_text.proofs.Appended.{begins_more, begins_on, next_item, no_more}
+use Rattle.scad_base.proofs.Appends.{begins_more, begins_on}
+use Rattle.cli_text.proofs.Appended.{next_item, no_more}
 use Rattle.cli_text.proofs.writer.push_polylines.Goals as goal
 
 pub loops-preserved : goal.loops-preserved

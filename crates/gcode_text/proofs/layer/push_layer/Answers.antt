@@ -1,12 +1,13 @@
 -- Each part is appended behind those before; where memory runs out, the text still begins with them.
 use Rattle.std.proofs.lemmas.Result.{on_ok_weaker, on_err_weaker}
-use Rattle.gcode_text.proofs.Steps.{begins, begins_more, begins_on, behind, on_err}
+use Rattle.scad_base.proofs.Appends.{begins, begins_more, begins_on, behind}
+use Rattle.scad_base.proofs.Results.{on_err}
 use Rattle.gcode_text.proofs.layer.push_layer.Goals as goal
 
 pub returns-in_err-push_height-clause-err : goal.returns-in_err-push_height-clause-err
 returns-in_err-push_height-clause-err c =
     let number = begins _ c.in_ok-push_layer_number.ensures.ok in
-    on_err c.from_residual-in_err-push_height.result _ (begins_on number c.in_err-push_height.ensures.err)
+    on_err c.from_residual-in_err-push_height.result (begins_on number c.in_err-push_height.ensures.err)
 
 pub returns-clause-err : goal.returns-clause-err
 returns-clause-err c =

@@ -1,6 +1,7 @@
 use Rattle.std.proofs.Common.{arith, ◌∙◌}
 use Rattle.scad_base.proofs.Results.{on_err}
-use Rattle.gcode_text.proofs.Steps.{next_path_text, next_path_volume, next_path_room, no_more_paths, no_more_paths_volume, begins_more, begins_on}
+use Rattle.scad_base.proofs.Appends.{begins_more, begins_on}
+use Rattle.gcode_text.proofs.Steps.{next_path_text, next_path_volume, next_path_room, no_more_paths, no_more_paths_volume}
 use Rattle.gcode_text.proofs.layer.push_paths.Goals as goal
 
 pub paths-preserved : goal.paths-preserved

@@ -1,6 +1,7 @@
 use Rattle.std.proofs.Common.{pos, arith}
 use Rattle.scad_base.proofs.Results.{on_err}
-use Rattle.gcode_text.proofs.Steps.{next_move_text, next_move_volume, no_more_moves, no_more_volume, begins_more, begins_on}
+use Rattle.scad_base.proofs.Appends.{begins_more, begins_on}
+use Rattle.gcode_text.proofs.Steps.{next_move_text, next_move_volume, no_more_moves, no_more_volume}
 use Rattle.gcode_text.proofs.path.push_moves.Goals as goal
 
 pub points-preserved : goal.points-preserved

@@ -2,7 +2,7 @@
 use Rattle.std.proofs.Common.{codes}
 use Rattle.std.proofs.lemmas.Result.{on_ok_weaker, on_err_weaker}
 use Rattle.gcode_text.specs.Gcode.{amount}
-use Rattle.gcode_text.proofs.Steps.{begins, begins_on, behind}
+use Rattle.scad_base.proofs.Appends.{begins, begins_on, behind}
 use Rattle.gcode_text.proofs.word.push_amount.Goals as goal
 
 pub returns-clause-ok : goal.returns-clause-ok

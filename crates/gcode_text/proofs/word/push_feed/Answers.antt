@@ -2,19 +2,20 @@
 use Rattle.std.proofs.Common.{codes}
 use Rattle.std.specs.Fmt.{decimal}
 use Rattle.gcode_text.specs.Gcode.{feed_end}
-use Rattle.gcode_text.proofs.Steps.{begins, begins_more, begins_still, behind, on_err}
+use Rattle.scad_base.proofs.Appends.{begins, begins_more, begins_still, behind}
+use Rattle.scad_base.proofs.Results.{on_err}
 use Rattle.gcode_text.proofs.word.push_feed.Goals as goal
 
 pub returns-in_err-push_unsigned-clause-err : goal.returns-in_err-push_unsigned-clause-err
 returns-in_err-push_unsigned-clause-err c =
     let letter = begins _ c.in_ok-extend_from_slice.ensures.items in
-    on_err c.from_residual-in_err-push_unsigned.result _ (begins_still letter c.in_err-push_unsigned.ensures.err)
+    on_err c.from_residual-in_err-push_unsigned.result (begins_still letter c.in_err-push_unsigned.ensures.err)
 
 pub returns-in_err-push-clause-err : goal.returns-in_err-push-clause-err
 returns-in_err-push-clause-err c =
     let letter = begins _ c.in_ok-extend_from_slice.ensures.items in
     let number = begins_more _ letter c.in_ok-push_unsigned.ensures.ok in
-    on_err c.from_residual-in_err-push.result _ (begins_still number c.in_err-push.ensures.items)
+    on_err c.from_residual-in_err-push.result (begins_still number c.in_err-push.ensures.items)
 
 pub returns-clause-ok : goal.returns-clause-ok
 unfolding feed_end

@@ -2,13 +2,14 @@
 use Rattle.std.proofs.Common.{codes}
 use Rattle.std.proofs.lemmas.Result.{on_ok_weaker, on_err_weaker}
 use Rattle.gcode_text.specs.Gcode.{height_line}
-use Rattle.gcode_text.proofs.Steps.{begins, begins_more, begins_on, behind, on_err}
+use Rattle.scad_base.proofs.Appends.{begins, begins_more, begins_on, behind}
+use Rattle.scad_base.proofs.Results.{on_err}
 use Rattle.gcode_text.proofs.word.push_height.Goals as goal
 
 pub returns-in_err-push_thousandths-clause-err : goal.returns-in_err-push_thousandths-clause-err
 returns-in_err-push_thousandths-clause-err c =
     let letter = begins _ c.in_ok-extend_from_slice.ensures.items in
-    on_err c.from_residual-in_err-push_thousandths.result _ (begins_on letter c.in_err-push_thousandths.ensures.err)
+    on_err c.from_residual-in_err-push_thousandths.result (begins_on letter c.in_err-push_thousandths.ensures.err)
 
 pub returns-clause-ok : goal.returns-clause-ok
 unfolding height_line

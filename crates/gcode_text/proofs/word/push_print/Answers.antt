@@ -1,13 +1,14 @@
 -- Each part is appended behind those before; where memory runs out, the text still begins with them.
 use Rattle.std.proofs.lemmas.Result.{on_ok_weaker, on_err_weaker}
 use Rattle.gcode_text.specs.Gcode.{target, amount, print_line}
-use Rattle.gcode_text.proofs.Steps.{begins, begins_more, begins_on, behind, on_err}
+use Rattle.scad_base.proofs.Appends.{begins, begins_more, begins_on, behind}
+use Rattle.scad_base.proofs.Results.{on_err}
 use Rattle.gcode_text.proofs.word.push_print.Goals as goal
 
 pub returns-in_err-push_amount-clause-err : goal.returns-in_err-push_amount-clause-err
 returns-in_err-push_amount-clause-err c =
     let there = begins _ c.in_ok-push_target.ensures.ok in
-    on_err c.from_residual-in_err-push_amount.result _ (begins_on there c.in_err-push_amount.ensures.err)
+    on_err c.from_residual-in_err-push_amount.result (begins_on there c.in_err-push_amount.ensures.err)
 
 pub returns-clause-ok : goal.returns-clause-ok
 unfolding print_line

@@ -5,19 +5,20 @@ use Rattle.std.proofs.lemmas.Result.{on_ok_weaker, on_err_weaker}
 use Rattle.scad_geom.proofs.Casts.{casts}
 use Rattle.gcode_text.specs.Numeral.{millimetres}
 use Rattle.gcode_text.specs.Gcode.{target}
-use Rattle.gcode_text.proofs.Steps.{begins, begins_more, begins_still, begins_on, behind, on_err}
+use Rattle.scad_base.proofs.Appends.{begins, begins_more, begins_still, begins_on, behind}
+use Rattle.scad_base.proofs.Results.{on_err}
 use Rattle.gcode_text.proofs.word.push_target.Goals as goal
 
 pub returns-in_err-push_millimetres-clause-err : goal.returns-in_err-push_millimetres-clause-err
 returns-in_err-push_millimetres-clause-err c =
     let letter = begins _ c.in_ok-extend_from_slice.ensures.items in
-    on_err c.from_residual-in_err-push_millimetres.result _ (begins_on letter c.in_err-push_millimetres.ensures.err)
+    on_err c.from_residual-in_err-push_millimetres.result (begins_on letter c.in_err-push_millimetres.ensures.err)
 
 pub returns-in_err-extend_from_slice-2-clause-err : goal.returns-in_err-extend_from_slice-2-clause-err
 returns-in_err-extend_from_slice-2-clause-err c =
     let letter = begins _ c.in_ok-extend_from_slice.ensures.items in
     let across = begins_more _ letter c.in_ok-push_millimetres.ensures.ok in
-    on_err c.from_residual-in_err-extend_from_slice-2.result _
+    on_err c.from_residual-in_err-extend_from_slice-2.result
     (begins_still across c.in_err-extend_from_slice-2.ensures.items)
 
 pub returns-clause-ok : goal.returns-clause-ok
