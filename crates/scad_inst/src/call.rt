@@ -26,7 +26,8 @@ use crate::turn::{let_in, looped};
 use crate::work::{Focus, Frame};
 use scad_expr::{EvalFault, Machine, values};
 use scad_fault::FaultKind;
-use scad_leaves::{Call, Operation, Where, named_fault};
+use scad_leaves::{Call, Operation, Where};
+use scad_machine::named_fault;
 use scad_modules::{Module, Name, meaning_of};
 
 /// A call, by what its name means.

@@ -17,7 +17,7 @@ use crate::frames::{depth, go_back, go_deeper, open_frames};
 use scad_ast::{Expr, Item, Scope};
 use scad_expr::{EvalFault, Machine, eval};
 use scad_fault::{BudgetKind, Place};
-use scad_leaves::over;
+use scad_machine::over;
 use scad_scope::{Binding, bindings};
 use scad_value::Value;
 use std::alloc::Global;

@@ -21,7 +21,8 @@ use crate::work::{Focus, Frame};
 use scad_ast::{Expr, Item, Scope, Stmt, StmtBody};
 use scad_expr::{EvalFault, Machine, eval};
 use scad_fault::{BudgetKind, Place};
-use scad_leaves::{Call, Operation, Where, over, profile_count};
+use scad_leaves::{Call, Operation, Where, profile_count};
+use scad_machine::over;
 use scad_tree::Tree;
 use scad_value::truth;
 

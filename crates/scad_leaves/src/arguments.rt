@@ -12,10 +12,9 @@ ghost use Rattle.scad_machine.specs.State.{State};
 ghost use Rattle.scad_leaves.specs.Products.{argument_fault, argued, placed_by};
 ghost use Rattle.scad_leaves.specs.Where.{moved};
 
-use crate::refusals::{fault, named_fault};
 use crate::space::{Where, moved};
 use scad_fault::{FaultKind, Place};
-use scad_machine::EvalFault;
+use scad_machine::{EvalFault, fault, named_fault};
 use scad_matrix::{Matrix, MatrixFault};
 use scad_modules::{ArgumentFault, Outline, Primitive, Resolution};
 use scad_num::Num;

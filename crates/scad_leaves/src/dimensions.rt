@@ -4,10 +4,9 @@ ghost use Rattle.scad_machine.specs.Answers.{Does, nothing};
 ghost use Rattle.scad_machine.specs.State.{State};
 ghost use Rattle.scad_leaves.specs.Products.{judge_solid, judge_flat};
 
-use crate::refusals::fault;
 use crate::space::Space;
 use scad_fault::{FaultKind, Place};
-use scad_machine::EvalFault;
+use scad_machine::{EvalFault, fault};
 use std::alloc::Global;
 
 /// A solid, or an extrusion, stands outside of every extrusion alone: inside one it is refused by MixedDimensions.

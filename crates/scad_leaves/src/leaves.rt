@@ -14,9 +14,8 @@ ghost use Rattle.scad_machine.specs.Machine.{held, state_of};
 ghost use Rattle.scad_machine.specs.State.{State};
 ghost use Rattle.scad_leaves.specs.Products.{count_leaf, count_triangles, placed, leaf};
 
-use crate::refusals::{fault, over};
 use scad_fault::{BudgetKind, FaultKind, Place};
-use scad_machine::{EvalFault, Machine};
+use scad_machine::{EvalFault, Machine, fault, over};
 use scad_matrix::Matrix;
 use scad_modules::{Primitive, solid_of, triangles_of};
 use scad_shapes::ShapeFault;

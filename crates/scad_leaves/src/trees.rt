@@ -8,9 +8,8 @@ ghost use Rattle.scad_leaves.specs.Products.{judged};
 ghost use Rattle.scad_leaves.specs.Operation.{operated};
 
 use crate::operation::Operation;
-use crate::refusals::over;
 use scad_fault::{BudgetKind, Place};
-use scad_machine::EvalFault;
+use scad_machine::{EvalFault, over};
 use scad_tree::{Tree, intersect, subtract, unite};
 use std::alloc::{AllocError, Global};
 

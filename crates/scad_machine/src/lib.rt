@@ -14,6 +14,7 @@ mod machine;
 mod names;
 mod opening;
 mod parameters;
+mod refusals;
 
 pub use fault::EvalFault;
 pub use functions::{Defined, DefinedAt};
@@ -21,3 +22,4 @@ pub use invocation::{Callee, Invocation};
 pub use machine::{DEPTH_LIMIT, Machine, STEP_LIMIT};
 pub use names::are_named;
 pub use opening::Call;
+pub use refusals::{fault, named_fault, over};

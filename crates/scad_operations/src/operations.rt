@@ -1,6 +1,6 @@
 //! Values of operators and functions, and ranges, at a place in the source.
 
-ghost use Rattle.std.specs.Prelude.{◌≡◌, ◌≢◌, ◌≤◌, [], IfOk, IfErr, OnOk, Ok, Err};
+ghost use Rattle.std.specs.Prelude.{◌≡◌, ◌≢◌, ◌≤◌, IfOk, IfErr, OnOk, Ok, Err};
 ghost use Rattle.scad_builtin.specs.Builtin.{builtin};
 ghost use Rattle.scad_value.specs.Datum.{number};
 ghost use Rattle.scad_value.specs.Operators.{op, unary_op};
@@ -14,33 +14,11 @@ ghost use Rattle.scad_machine.specs.State.{State, make, refuses};
 use crate::operation::Bounds;
 use scad_ast::{BinOp, UnOp};
 use scad_builtin::{BuiltinFault, call};
-use scad_fault::{Fault, FaultKind, Place, Text};
-use scad_machine::{EvalFault, Machine};
+use scad_fault::{FaultKind, Place};
+use scad_machine::{EvalFault, Machine, fault, named_fault};
 use scad_num::Num;
 use scad_value::{Value, ValueFault, binary, index, unary};
 use std::alloc::{AllocError, Global};
-
-/// A fault without a name.
-pub(crate) fn fault(alloc: Global, kind: FaultKind, at: Place) -> EvalFault
-    ensures { result ≡ EvalFault.Fault (record { kind = kind; at = at; name = [] }) }
-{
-    EvalFault::Fault(Fault {
-        kind,
-        at,
-        name: Text::empty(alloc),
-    })
-}
-
-/// A fault with a name, or want of memory for it.
-pub(crate) fn named_fault(alloc: Global, kind: FaultKind, at: Place, name: &[u8]) -> EvalFault
-    ensures { result ≢ EvalFault.Memory
-        → result ≡ EvalFault.Fault (record { kind = kind; at = at; name = name.now }) }
-{
-    match Text::of(alloc, name) {
-        Ok(name) => EvalFault::Fault(Fault { kind, at, name }),
-        Err(_) => EvalFault::Memory,
-    }
-}
 
 /// A value for which there is memory.
 pub fn in_memory(value: Result<Value, AllocError>) -> Result<Value, EvalFault>

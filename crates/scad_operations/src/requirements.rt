@@ -10,10 +10,9 @@ ghost use Rattle.scad_operations.specs.Values.{tested, asserted, judge_named, ju
 ghost use Rattle.scad_machine.specs.State.{State};
 ghost use Rattle.scad_operations.specs.Condition.{first_after, test_by};
 
-use crate::operations::{fault, named_fault};
 use scad_ast::Arg;
 use scad_fault::{FaultKind, Place};
-use scad_machine::{EvalFault, are_named};
+use scad_machine::{EvalFault, are_named, fault, named_fault};
 use scad_value::{Value, truth};
 use std::alloc::Global;
 

@@ -2,12 +2,12 @@
 
 ghost use Rattle.std.specs.Prelude.{◌≡◌, ◌≢◌, []};
 
+use crate::fault::EvalFault;
 use scad_fault::{Budget, BudgetKind, Fault, FaultKind, Place, Text};
-use scad_machine::EvalFault;
 use std::alloc::Global;
 
 /// A fault without a name.
-pub(crate) fn fault(alloc: Global, kind: FaultKind, at: Place) -> EvalFault
+pub fn fault(alloc: Global, kind: FaultKind, at: Place) -> EvalFault
     ensures { result ≡ EvalFault.Fault (record { kind = kind; at = at; name = [] }) }
 {
     EvalFault::Fault(Fault {
@@ -19,12 +19,8 @@ pub(crate) fn fault(alloc: Global, kind: FaultKind, at: Place) -> EvalFault
 
 /// A fault with a name, or want of memory for it.
 pub fn named_fault(alloc: Global, kind: FaultKind, at: Place, name: &[u8]) -> EvalFault
-    ensures { result ≢ EvalFault.Memory → result ≡ EvalFault.Fault (record {
-      kind = kind;
-      at = at;
-      name =
-          name.now;
-    }) }
+    ensures { result ≢ EvalFault.Memory
+        → result ≡ EvalFault.Fault (record { kind = kind; at = at; name = name.now }) }
 {
     match Text::of(alloc, name) {
         Ok(name) => EvalFault::Fault(Fault { kind, at, name }),
