@@ -1,16 +1,14 @@
 //! Expressions that go on with another part of them.
 
-ghost use Rattle.std.specs.Prelude.{◌≡◌, ◌≤◌, if◌then◌else◌};
+ghost use Rattle.std.specs.Prelude.{◌≡◌, ◌≤◌, List, if◌then◌else◌};
 ghost use Rattle.scad_ast.specs.View.{expression_of};
-ghost use Rattle.scad_value.specs.Datum.{boolean};
+ghost use Rattle.scad_value.specs.Datum.{Datum, boolean};
 ghost use Rattle.scad_value.specs.View.{datum_of};
 ghost use Rattle.scad_machine.specs.Machine.{Held, held, env_in, along_in, state_of};
 ghost use Rattle.scad_machine.specs.State.{State, and_then, pure};
 ghost use Rattle.scad_stack.specs.Meaning.{meaning, right_side, truth_of};
 ghost use Rattle.scad_stack.specs.Pieces.{side, step_and_end, stepped_end};
 ghost use Rattle.scad_stack.specs.Stack.{Rest, Leads, Below_by, followed, goes_further, goes_on, rank};
-ghost use Rattle.scad_value.specs.Datum.{Datum};
-ghost use Rattle.std.specs.Prelude.{List};
 
 use crate::frame::{Focus, Frame, Further, Right};
 use crate::stack::Stack;
@@ -40,7 +38,10 @@ pub fn further<'p>(
             let more = StepAndEnd { at, step, end };
             range_from(more, depth, v, stack, m)
         }
-        Further::SteppedEnd(at, bounds, end) => range_by(at, bounds, end, depth, v, stack, m),
+        Further::SteppedEnd(at, bounds, end) => {
+            let more = SteppedEnd { at, bounds, end };
+            range_by(more, depth, v, stack, m)
+        }
         Further::Right(right) => right_side(right, depth, v, stack, m),
         Further::Sides(a, b) => Ok(side(&v, a, b, depth)),
         Further::IndexOf(i) => stack.wait(Frame::Operation(Operation::Indexed(v)), i, depth),
@@ -77,23 +78,34 @@ fn range_from<'p>(
     stack.wait(Frame::Further(next, depth), step, depth)
 }
 
-/// A range whose start and step have their values: its end.
-#[tactic(auto, using(crate::proofs::StackTurns::nodes), unfolding(crate::specs::Stack::onto, scad_operations::specs::Operation::operates, crate::specs::Pieces::stepped_end))]
-fn range_by<'p>(
+/// A range with its start, and its end.
+#[derive(Drop)]
+struct SteppedEnd<'p> {
     at: Place,
     bounds: Box<Bounds>,
     end: &'p Expr,
+}
+
+/// A range whose start and step have their values: its end.
+#[tactic(auto, using(crate::proofs::StackTurns::nodes), unfolding(crate::specs::Stack::onto, scad_operations::specs::Operation::operates, crate::specs::Pieces::stepped_end))]
+fn range_by<'p>(
+    more: SteppedEnd<'p>,
     depth: u32,
     step: Value,
     stack: &mut Stack<'p>,
     m: &mut Machine<'p>,
 ) -> Result<Focus<'p>, EvalFault>
-    ensures goes { Leads (followed (stepped_end (meaning depth) (env_in (held m.old)) (along_in (held m.old)) at
-        (datum_of bounds.value.start) (datum_of step) (expression_of end.now)) stack.old m.old) result stack.new m.new }
+    ensures goes { Leads (followed (stepped_end (meaning depth) (env_in (held m.old)) (along_in (held m.old))
+        more.entry.at (datum_of more.entry.bounds.value.start) (datum_of step) (expression_of more.entry.end.now))
+        stack.old m.old) result stack.new m.new }
     ensures less { Below_by 4 result stack.old m.old stack.new m.new }
 {
     let _steps = m.steps_left;
-    let mut bounds = bounds;
+    let SteppedEnd {
+        at,
+        mut bounds,
+        end,
+    } = more;
     bounds.step = step;
     stack.wait(Frame::Operation(Operation::Stepped(at, bounds)), end, depth)
 }
