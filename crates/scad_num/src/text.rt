@@ -114,7 +114,6 @@ fn push_fraction(out: &mut NumText, parts: u64)
     }
 }
 
-#[tactic(auto, using(crate::proofs::Decimals::no_decimals, crate::proofs::Decimals::next_decimal))]
 fn push_decimals(out: &mut NumText, places: u32, parts: u64)
     requires room { length out.old + places ≤ 18 }
     requires range { parts < one }
