@@ -1,5 +1,5 @@
 -- Decimals of a number, one by one.
-use Rattle.std.proofs.Common.{◌≡◌, ◌≢◌, ℕ, zero, suc, ◌+◌, ◌-◌, ◌*◌, ◌/◌, ◌%◌, ◌^◌, ◌<◌, ◌≤◌, length, List, [], ◌∷◌, refl, ap, sym, ◌∙◌, arith, false}
+use Rattle.std.proofs.Common.{◌≡◌, ℕ, zero, suc, ◌+◌, ◌-◌, ◌*◌, ◌/◌, ◌%◌, ◌<◌, ◌≤◌, length, List, [], ◌∷◌, refl, ap, sym, ◌∙◌, arith, false}
 use Rattle.std.proofs.lemmas.Bool.Decides.{nat_tests}
 use Rattle.std.proofs.lemmas.Fmt.{length-decimal-le}
 use Rattle.std.specs.Fmt.{decimal}
@@ -7,13 +7,18 @@ use Rattle.std.specs.Prelude.{◌==◌, if◌then◌else◌}
 use Rattle.scad_num.specs.Number.{one}
 use Rattle.scad_num.specs.Text.{decimals_of}
 
-pub no_decimals : (places : ℕ) → decimals_of places 0 ≡ []
-no_decimals zero = refl
-no_decimals (suc n) = refl
+pub no_places : (places parts : ℕ) → places ≤ 0 → decimals_of places parts ≡ []
+no_places zero parts none = refl
+no_places (suc n) parts none = absurd (omega arith)
 
-pub next_decimal : (places parts : ℕ) → places ≢ 0 → parts ≢ 0
+pub no_parts : (places parts : ℕ) → parts ≤ 0 → decimals_of places parts ≡ []
+no_parts zero parts none = refl
+no_parts (suc n) zero none = refl
+no_parts (suc n) (suc m) none = absurd (omega arith)
+
+pub next_decimal : (places parts : ℕ) → 0 < places → 0 < parts
     → decimals_of places parts ≡ (48 + parts * 10 / one) ∷ decimals_of (places - 1) (parts * 10 % one)
-next_decimal zero parts some more = absurd (some refl)
+next_decimal zero parts some more = absurd (omega arith)
 next_decimal (suc n) parts some more =
     let e : suc n - 1 ≡ n = omega arith in
     let no : (parts == 0) ≡ false = grind (arith, nat_tests) in

@@ -1,37 +1,62 @@
 //! The text of a number.
-ghost use Rattle.std.specs.Prelude.{◌≡◌, ◌<◌, ◌≤◌, ◌+◌, ℕ, List, ◌++◌, OnOk, OnErr};
+ghost use Rattle.std.specs.Prelude.{◌≡◌, ◌<◌, ◌≤◌, ◌+◌, ℕ, List, [], ◌∷◌, ◌++◌, length, take, OnOk, OnErr};
 ghost use Rattle.std.specs.Fmt.{decimal};
-ghost use Rattle.arrayvec.specs.ArrayVec.{array_vec_len};
 ghost use Rattle.scad_num.specs.Number.{one, most};
 ghost use Rattle.scad_num.specs.Text.{decimals_of, fraction_text, size_text, number_text};
 
 use crate::fixed_point::{Num, ONE_PART};
-use arrayvec::ArrayVec;
 use itoa::Buffer;
 use std::alloc::AllocError;
 use std::marker::Model;
 
-/// A sign, ten digits, a point and six decimals: no number's text is longer.
-type Digits = ArrayVec<u8, 18>;
-
 /// The text of a number, which takes no memory: its bytes, all of them ASCII.
 #[derive(Drop)]
 pub struct NumText {
-    digits: Digits,
+    /// A sign, ten digits, a point and six decimals: no number's text is longer.
+    bytes: [u8; 18],
+    count: usize,
 }
 
 impl Model for NumText {
     ghost Value = { List ℕ };
 
-    ghost view = { λ t. t.digits.items };
+    ghost view = { λ t. take t.count t.bytes };
+
+    ghost invariant = { λ t. t.count ≤ 18 };
 }
 
 impl NumText {
+    fn new() -> NumText
+        ensures { result ≡ [] }
+    {
+        NumText {
+            bytes: [0; 18],
+            count: 0,
+        }
+    }
+
+    fn push(&mut self, byte: u8)
+        requires { length self.old < 18 }
+        ensures { self.new ≡ self.old ++ byte ∷ [] }
+    {
+        self.bytes[self.count] = byte;
+        self.count += 1;
+    }
+
+    fn extend_from_slice(&mut self, more: &[u8])
+        requires { length self.old + length more.now ≤ 18 }
+        ensures { self.new ≡ self.old ++ more.now }
+    {
+        let end = self.count + more.len();
+        self.bytes[self.count..end].copy_from_slice(more);
+        self.count = end;
+    }
+
     /// The text's bytes.
     pub fn as_slice(&self) -> &[u8]
         ensures { result.now ≡ self.now }
     {
-        self.digits.as_slice()
+        &self.bytes[..self.count]
     }
 }
 
@@ -41,13 +66,13 @@ impl Num {
     pub fn text(self) -> NumText
         ensures { result ≡ number_text self }
     {
-        let mut digits = ArrayVec::new();
+        let mut digits = NumText::new();
         let millionths = self.millionths();
         if millionths < 0 {
             digits.push(b'-');
         }
         push_size(&mut digits, millionths.unsigned_abs());
-        NumText { digits }
+        digits
     }
 
     /// Appends the number's text, or leaves `out` as it is where there is no memory.
@@ -59,30 +84,29 @@ impl Num {
     }
 }
 
-fn push_size(out: &mut Digits, millionths: u64)
-    requires room { array_vec_len out.old ≤ 1 }
+fn push_size(out: &mut NumText, millionths: u64)
+    requires room { length out.old ≤ 1 }
     requires range { millionths ≤ most }
-    ensures { out.new.items ≡ out.old.items ++ size_text millionths }
+    ensures { out.new ≡ out.old ++ size_text millionths }
 {
     push_whole(out, millionths / ONE_PART);
     push_fraction(out, millionths % ONE_PART);
 }
 
 #[tactic(auto, using(crate::proofs::Decimals::whole_digits))]
-fn push_whole(out: &mut Digits, n: u64)
-    requires room { array_vec_len out.old ≤ 1 }
+fn push_whole(out: &mut NumText, n: u64)
+    requires room { length out.old ≤ 1 }
     requires range { n < 10000000000 }
-    ensures digits { out.new.items ≡ out.old.items ++ decimal n }
-    ensures length { array_vec_len out.new ≤ 11 }
+    ensures digits { out.new ≡ out.old ++ decimal n }
+    ensures length { length out.new ≤ 11 }
 {
-    out.try_extend_from_slice(Buffer::new().format(n).as_bytes())
-        .unwrap();
+    out.extend_from_slice(Buffer::new().format(n).as_bytes());
 }
 
-fn push_fraction(out: &mut Digits, parts: u64)
-    requires room { array_vec_len out.old ≤ 11 }
+fn push_fraction(out: &mut NumText, parts: u64)
+    requires room { length out.old ≤ 11 }
     requires range { parts < one }
-    ensures { out.new.items ≡ out.old.items ++ fraction_text parts }
+    ensures { out.new ≡ out.old ++ fraction_text parts }
 {
     if parts > 0 {
         out.push(b'.');
@@ -90,11 +114,10 @@ fn push_fraction(out: &mut Digits, parts: u64)
     }
 }
 
-#[tactic(auto, using(crate::proofs::Decimals::no_decimals, crate::proofs::Decimals::next_decimal))]
-fn push_decimals(out: &mut Digits, places: u32, parts: u64)
-    requires room { array_vec_len out.old + places ≤ 18 }
+fn push_decimals(out: &mut NumText, places: u32, parts: u64)
+    requires room { length out.old + places ≤ 18 }
     requires range { parts < one }
-    ensures { out.new.items ≡ out.old.items ++ decimals_of places parts }
+    ensures { out.new ≡ out.old ++ decimals_of places parts }
 {
     if places > 0 && parts > 0 {
         out.push(b'0' + (parts * 10 / ONE_PART) as u8);
