@@ -63,8 +63,8 @@ through f g same a xs items is items_are =
 -- it has a fault of theirs
 pub refused_vector : (f : Datum → Answer) (g : Elements → AllAnswers)
     → ((es : Elements) → f (vector es) ≡ as_vector (g es)) → (a : Value) (xs : Rc (Vec Value Global) Global)
-    (items : List Value) (fault : ValueFault) → a ≡ ListValue xs → items ≡ xs.value.items → Refuses (g (elements items)) fault
-    → Refuses (f (datum_of a)) fault
+    (items : List Value) (fault : ValueFault) → a ≡ ListValue xs → items ≡ xs.value.items
+    → Refuses (g (elements items)) fault → Refuses (f (datum_of a)) fault
 refused_vector f g same a xs items fault is items_are refused =
     subst (λ answer. Refuses answer fault) (sym (through f g same a xs items is items_are))
     (vector_refused (g (elements items)) fault refused)
