@@ -3,6 +3,7 @@ pub mod Equality
 mod Examples
 pub mod Others
 pub mod Memory
+pub mod Operands
 pub mod Quotients
 pub mod Rows
 pub mod Steps

@@ -4,7 +4,7 @@ use Rattle.std.specs.declared.rc.Rc.{Rc}
 use Rattle.scad_value.specs.declared.value.Value.{Value, List as ListValue}
 use Rattle.scad_value.specs.declared.fault.ValueFault.{ValueFault}
 use Rattle.scad_value.specs.declared.fault.ValueFault.TheVariants.{ZeroDivisor, NumberRange, Memory}
-use Rattle.scad_value.specs.Datum.{Datum, vector, Elements}
+use Rattle.scad_value.specs.Datum.{Datum, vector, Elements, no_elements}
 use Rattle.scad_value.specs.Elementwise.{Answer, AllAnswers, as_vector, before_all, first_then}
 use Rattle.scad_value.specs.Faults.{Refuses}
 use Rattle.scad_value.specs.View.{datum_of, elements_onto, elements}
@@ -19,6 +19,16 @@ onto_all-push : (made : List Value) (v : Value) (more : AllAnswers) → onto_all
     (before_all (datum_of v) more)
 onto_all-push made v (Ok more) = ap Ok (elements_onto-push made v more)
 onto_all-push made v (Err fault) = refl
+
+-- nothing is made yet
+pub onto_none : (made : List Value) (now : AllAnswers) → made ≡ [] → onto_all made now ≡ now
+onto_none made (Ok more) none = ap (λ all. Ok (elements_onto all more)) none
+onto_none made (Err fault) none = refl
+
+-- all is made
+pub all_made : (made : List Value) (now whole : AllAnswers) → now ≡ Ok no_elements → onto_all made now ≡ whole
+    → whole ≡ Ok (elements made)
+all_made made now whole none so_far = sym so_far ∙ ap (onto_all made) none
 
 -- one more element is made
 pub step_made : (made : List Value) (v : Value) (answer : Answer) (now more whole : AllAnswers)
@@ -43,11 +53,23 @@ vector_refused all ZeroDivisor refused = ap as_vector refused
 vector_refused all NumberRange refused = ap as_vector refused
 vector_refused all Memory refused = tt
 
--- an operation that goes through the elements of a vector has a fault of theirs
+-- an operation on a vector goes through its elements
+pub through : (f : Datum → Answer) (g : Elements → AllAnswers)
+    → ((es : Elements) → f (vector es) ≡ as_vector (g es)) → (a : Value) (xs : Rc (Vec Value Global) Global)
+    (items : List Value) → a ≡ ListValue xs → items ≡ xs.value.items → f (datum_of a) ≡ as_vector (g (elements items))
+through f g same a xs items is items_are =
+    ap f (at_vector a xs is) ∙ same (elements xs.value.items) ∙ ap (λ all. as_vector (g (elements all))) (sym items_are)
+
+-- it has a fault of theirs
 pub refused_vector : (f : Datum → Answer) (g : Elements → AllAnswers)
     → ((es : Elements) → f (vector es) ≡ as_vector (g es)) → (a : Value) (xs : Rc (Vec Value Global) Global)
-    (items : List Value) (fault : ValueFault) → a ≡ ListValue xs → items ≡ xs.value.items → Refuses (g (elements items)) fault
-    → Refuses (f (datum_of a)) fault
+    (items : List Value) (fault : ValueFault) → a ≡ ListValue xs → items ≡ xs.value.items
+    → Refuses (g (elements items)) fault → Refuses (f (datum_of a)) fault
 refused_vector f g same a xs items fault is items_are refused =
-    subst (λ answer. Refuses answer fault) (ap (λ all. as_vector (g (elements all))) items_are ∙ sym
-    (same (elements xs.value.items)) ∙ ap f (sym (at_vector a xs is))) (vector_refused (g (elements items)) fault refused)
+    subst (λ answer. Refuses answer fault) (sym (through f g same a xs items is items_are))
+    (vector_refused (g (elements items)) fault refused)
+
+-- a vector is made of what they give
+pub vector_made : (all : AllAnswers) (made : List Value) (v : Value) → all ≡ Ok (elements made)
+    → datum_of v ≡ vector (elements made) → as_vector all ≡ Ok (datum_of v)
+vector_made all made v found is = ap as_vector found ∙ ap Ok (sym is)

@@ -53,7 +53,6 @@ pub(crate) fn as_number(answer: Result<Num, NumFault>) -> Result<Value, ValueFau
 
 /// The operation at a number and at each element of a vector.
 #[cycle(each)]
-#[tactic(auto, using(crate::proofs::Memory::takings))]
 pub(crate) fn each(alloc: Global, operation: &Action, a: &Value) -> Result<Value, ValueFault>
     ensures found { IfOk result (λ v. each (action operation.now) (datum_of a.now) ≡ Ok (datum_of v)) }
     ensures refused { IfErr result (Refuses (each (action operation.now) (datum_of a.now))) }

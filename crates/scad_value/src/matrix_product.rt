@@ -87,7 +87,6 @@ fn by_rows_and_columns(
 }
 
 /// A vector or a matrix times a vector of so many numbers.
-#[tactic(auto, using(crate::proofs::Memory::takings))]
 fn times_vector(
     alloc: Global,
     left: Factor,
@@ -124,7 +123,6 @@ fn times_vector(
 }
 
 /// A vector or a matrix times a matrix of so many rows and columns.
-#[tactic(auto, using(crate::proofs::Memory::takings))]
 fn times_matrix(
     alloc: Global,
     left: Factor,

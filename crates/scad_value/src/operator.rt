@@ -116,7 +116,6 @@ fn greater_or_equal(a: &Value, b: &Value) -> Value
 
 /// What the operator gives between two values, or the first fault from left to right. `&&` and `||` give the boolean
 /// of the truths. It takes no memory for a number or a boolean.
-#[tactic(auto, using(crate::proofs::Memory::takings))]
 pub fn binary(alloc: Global, kind: BinOp, a: &Value, b: &Value) -> Result<Value, ValueFault>
     ensures found { IfOk result (λ v. op kind (datum_of a.now) (datum_of b.now) ≡ Ok (datum_of v)) }
     ensures refused { IfErr result (Refuses (op kind (datum_of a.now) (datum_of b.now))) }

@@ -34,7 +34,6 @@ impl Pairing {
 
 /// The operation at two numbers, and at each two elements of two vectors up to the shorter length.
 #[cycle(pairs)]
-#[tactic(auto, using(crate::proofs::Memory::takings))]
 pub(crate) fn by_pairs(
     alloc: Global,
     operation: Pairing,

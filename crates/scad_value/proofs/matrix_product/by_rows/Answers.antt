@@ -3,8 +3,8 @@ use Rattle.scad_value.specs.Elementwise.{as_number}
 use Rattle.scad_value.specs.Faults.{Refuses}
 use Rattle.scad_value.specs.Products.{elements_in, dot, by_rows}
 use Rattle.scad_value.specs.View.{datum_of, elements}
-use Rattle.scad_value.proofs.Rows.{elements-drop}
-use Rattle.scad_value.proofs.Steps.{step_made, step_refused}
+use Rattle.scad_value.proofs.Rows.{elements-drop, elements-drop_all}
+use Rattle.scad_value.proofs.Steps.{all_made, onto_none, step_made, step_refused}
 use Rattle.scad_value.proofs.matrix_product.by_rows.Goals as goal
 
 pub rows-preserved : goal.rows-preserved
@@ -25,3 +25,14 @@ returns-in-Err-clause-refused c =
     (ap (λ es. by_rows es ys) (elements-drop c.args.rows.now c.rows.row-index c.row-item.result c.rows-test.true
     c.row-item.is)) (subst (λ r. Refuses (as_number r) c.in-Err.fault)
     (c.dot.ensures ∙ ap (λ es. dot es ys) c.elements_in.ensures) c.in-Err.ensures.refused) c.rows.invariant
+
+pub rows-init : goal.rows-init
+rows-init c = onto_none _ _ c.in_ok-made.ensures.items
+
+pub returns : goal.returns
+returns c =
+    record {
+      found = all_made c.rows.made.items _ _ (ap (λ es. by_rows es (elements c.args.ys.now))
+          (elements-drop_all c.args.rows.now c.rows.row-index c.rows-test.false)) c.rows.invariant;
+      refused = tt;
+    }
