@@ -1,6 +1,7 @@
 -- How great half a size and a part of a length are.
-use Rattle.std.proofs.Common.{◌*◌, ◌≤◌, ℤ, pos, negsuc, ◌-ℤ◌, unsigned_abs, arith}
-use Rattle.std.proofs.lemmas.Int.{ints}
+use Rattle.std.proofs.Common.{◌*◌, ◌≤◌, ℤ, pos, negsuc, ◌-ℤ◌, ◌*ℤ◌, unsigned_abs, arith}
+use Rattle.std.proofs.lemmas.Int.{ints, unsigned_abs-mul}
+use Rattle.std.proofs.lemmas.Nat.{mul-le}
 use Rattle.scad_num.specs.Number.{one, most}
 use Rattle.scad_num.specs.Rounding.{half_up, half_away}
 
@@ -15,3 +16,8 @@ pub part_is_small : (n : ℤ) → unsigned_abs n ≤ most * one → unsigned_abs
 unfolding half_away half_up
 part_is_small (pos n) small = omega (arith, ints)
 part_is_small (negsuc n) small = omega (arith, ints)
+
+-- a length times a cosine or a sine
+pub product_is_small : (r c : ℤ) → unsigned_abs r ≤ most → unsigned_abs c ≤ one → unsigned_abs (r *ℤ c) ≤ most * one
+product_is_small r c length turn =
+    rw (unsigned_abs-mul r c) (mul-le (unsigned_abs r) (unsigned_abs c) most one length turn)

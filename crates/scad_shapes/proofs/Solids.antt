@@ -1,5 +1,5 @@
 -- The solids of faces whose numbers all name points, and rings that are made one by one.
-use Rattle.std.proofs.Common.{◌≡◌, ℕ, zero, suc, ◌+◌, ◌<◌, Bool, true, false, cond, ◌&&◌, ◌==◌, Some, List, [], ◌∷◌, ◌++◌, append_assoc, length, get_or, drop, map, None, Result, Ok, Err, arith, refl, ap, ap₂, sym, ◌∙◌, nat_le, nat_lt, ◌-◌, ℤ}
+use Rattle.std.proofs.Common.{◌≡◌, ℕ, zero, suc, ◌+◌, ◌<◌, ◌≤◌, Bool, true, false, cond, ◌&&◌, ◌==◌, Some, List, [], ◌∷◌, ◌++◌, append_assoc, length, get_or, drop, map, None, Result, Ok, Err, arith, refl, ap, ap₂, sym, ◌∙◌, nat_le, nat_lt, ◌-◌, ℤ}
 use Rattle.std.proofs.lemmas.Bool.{and_parts}
 use Rattle.std.specs.Prelude.{if◌then◌else◌}
 use Rattle.std.specs.List.{find, flat_map, list_all, range_with_len}
@@ -17,7 +17,7 @@ use Rattle.scad_shapes.specs.declared.fault.ShapeFault.{ShapeFault}
 use Rattle.scad_shapes.specs.declared.fault.ShapeFault.TheVariants.{CoordinateRange, NotClosed, Memory}
 use Rattle.scad_shapes.specs.Pushes.{Pushes, Collects}
 use Rattle.std.proofs.lemmas.List.FromFn.{length-range_with_len}
-use Rattle.std.proofs.lemmas.List.{at_drop_more, length-map}
+use Rattle.std.proofs.lemmas.List.{append-nil, at_drop_more, drop_all, length-map}
 use Rattle.scad_matrix.specs.declared.matrix.Matrix.{Matrix}
 use Rattle.scad_solid.specs.Stack.{are_alike}
 use Rattle.scad_shapes.specs.Outline.{sphere_rings}
@@ -151,6 +151,22 @@ module _ {A X : Type 0} (p : X → Bool) (f : A → X) (items : List A) (k : ℕ
 
   pub item_ranged-fails : (all : Bool) → all ≡ list_all p items_left → p (f x) ≡ false → all ≡ false
   item_ranged-fails all = next-ranged p (f x) items_left items_rest items_front all false
+
+-- such a list where none is left
+module _ {A X : Type 0} (p : X → Bool) (f : A → X) (items : List A) (k : ℕ) (none : length items ≤ k) where
+  nothing_left : map f (drop k items) ≡ []
+  nothing_left = ap (map f) (drop_all k items none)
+
+  pub items_made : (old all : List X) → old ++ map f (drop k items) ≡ all → old ≡ all
+  items_made old all so_far = sym (append-nil old) ∙ ap (λ (xs : List X). old ++ xs) (sym nothing_left) ∙ so_far
+
+  pub items_ranged : (all : Bool) → all ≡ list_all p (map f (drop k items)) → all ≡ true
+  items_ranged all so_far = so_far ∙ ap (list_all p) nothing_left
+
+pub ring_makes : (ring points all : List Pt3) → ring ≡ points → points ≡ all → list_all is_in_range all ≡ true
+    → Ok ring ≡ ring_if_in_range all
+ring_makes ring points all is same ranged =
+    ap (λ r. Ok r) (is ∙ same) ∙ sym (ap (λ b. if b then Ok all else Err CoordinateRange) ranged)
 
 -- what isn't pushed isn't collected
 pub fails : (B : Type 0) → {X : Type 0} → (ranged : X → Bool) (old new all : List X) (x : X) (e : ShapeFault) (items : B

@@ -5,7 +5,7 @@ use Rattle.std.specs.List.{list_all}
 use Rattle.scad_geom.specs.PointRange.{is_in_range}
 use Rattle.scad_matrix.specs.Matrix.{placed_point}
 use Rattle.scad_shapes.specs.Rings.{placed_ring}
-use Rattle.scad_shapes.proofs.Solids.{item_made-more, item_ranged-more, item_ranged-fails, ring_fails}
+use Rattle.scad_shapes.proofs.Solids.{item_made-more, item_ranged-more, item_ranged-fails, items_made, items_ranged, ring_fails, ring_makes}
 use Rattle.scad_shapes.proofs.placing.place_ring.Goals as goal
 
 pub points-preserved : goal.points-preserved
@@ -30,3 +30,13 @@ returns-in_err-push_placed c =
     c.in_err-push_placed.ensures
     (item_ranged-fails is_in_range place c.args.outline.now c.points.point-index c.point-item.result
     c.points-test.true c.point-item.is (list_all is_in_range all) c.points.invariant.ranged))
+
+pub returns : goal.returns
+returns c =
+    let place = λ (p : ℤ × ℤ). placed_point c.args.m.now p.0 p.1 c.args.z in
+    let all = placed_ring c.args.m.now c.args.z c.args.outline.now in
+    ring_makes c.from_vec.result c.points.ring.items all c.from_vec.ensures
+    (items_made is_in_range place c.args.outline.now c.points.point-index c.points-test.false c.points.ring.items all
+    c.points.invariant.made)
+    (items_ranged is_in_range place c.args.outline.now c.points.point-index c.points-test.false
+    (list_all is_in_range all) c.points.invariant.ranged)
