@@ -1,5 +1,6 @@
 mod Lists
 mod Keys
+mod Passed
 mod Weakening
 mod Overwriting
 mod Sides

@@ -1,5 +1,5 @@
 -- An edge that goes up gives its ray.
-use Rattle.std.proofs.Common.{◌≡◌, refl, ◌∷◌, [], ◌++◌, ◌+◌, drop, get_or, filter, Bool, sym, ap, ◌∙◌, subst, List, ℕ}
+use Rattle.std.proofs.Common.{◌≡◌, refl, ◌∷◌, [], ◌++◌, ◌+◌, drop, arith, get_or, filter, Bool, sym, ap, ◌∙◌, subst, List, ℕ}
 use Rattle.std.specs.List.{All}
 use Rattle.std.proofs.lemmas.List.Elements.{All-push}
 use Rattle.slice_slab.specs.Bundles.{edge_at, reaches}
@@ -8,6 +8,16 @@ use Rattle.slice_sweep.specs.declared.ray.Ray.{Ray}
 use Rattle.slice_sweep.specs.Rays.{numbers_of, IsRayOf}
 use Rattle.slice_sweep.proofs.leave.gather.Goals as goal
 use Rattle.slice_sweep.proofs.leave.gather.Goals.{then-goes_up+in_ok-push, else-goes_up}
+
+pub numbers-init : goal.numbers-init
+numbers-init c =
+    let s = c.args.step.now in
+    let items = c.clear.ensures.items in
+    record {
+      numbers = ap (λ (rs : List Ray). numbers_of rs
+          ++ filter (λ k. reaches (edge_at s.edges.now k) s.lower.now s.upper.now) c.args.numbers.now) items;
+      rays = subst (All (IsRayOf s.edges.now)) (sym items) (λ k d o. absurd (omega (arith, o)));
+    }
 
 pub numbers-preserved : goal.numbers-preserved
 numbers-preserved c =
@@ -44,3 +54,6 @@ returns-clause-numbers c =
     let s = c.args.step.now in
     last_step (filter (λ k. reaches (edge_at s.edges.now k) s.lower.now s.upper.now)) _ _ c.args.numbers.now
     c.numbers.k-index refl c.numbers-test.false c.numbers.invariant.numbers
+
+pub returns-clause-rays : goal.returns-clause-rays
+returns-clause-rays c = c.numbers.invariant.rays

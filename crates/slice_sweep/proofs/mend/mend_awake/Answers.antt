@@ -1,5 +1,5 @@
 -- A strand alone in which nothing ends stays as it is, and any other group is replaced.
-use Rattle.std.proofs.Common.{◌+◌, ℕ, take, drop, subst, sym, ap, ◌∙◌, List}
+use Rattle.std.proofs.Common.{◌+◌, ℕ, take, drop, refl, arith, subst, sym, ap, ◌∙◌, List}
 use Rattle.slice_sweep.specs.declared.strand.Strand.{Strand}
 use Rattle.slice_sweep.specs.Strands.{AreThere, strand_at}
 use Rattle.slice_sweep.specs.Mending.{AreMendedTo}
@@ -56,3 +56,26 @@ returns-clause-told c all a =
     subst (ArePlacedTo s.edges.now s.lower.now c.in_ok-behind.behind all c.regroup.new.strands.items)
     (sym c.in_ok-tell.ensures)
     (c.in_ok-behind.ensures.told all c.args.changes.now.items c.older-gone.result gone a)
+
+pub returns-then-is_alone-clause-low : goal.returns-then-is_alone-clause-low
+returns-then-is_alone-clause-low c low = low
+
+pub returns-then-is_alone-clause-numbers : goal.returns-then-is_alone-clause-numbers
+returns-then-is_alone-clause-numbers c k reaches = refl
+
+pub returns-then-is_alone-clause-fewer : goal.returns-then-is_alone-clause-fewer
+returns-then-is_alone-clause-fewer c =
+    let there = c.requires.there in
+    omega (arith, there)
+
+pub returns-clause-low : goal.returns-clause-low
+returns-clause-low c = c.in_ok-behind.ensures.low
+
+pub returns-clause-mended : goal.returns-clause-mended
+returns-clause-mended c = c.in_ok-behind.ensures.mended
+
+pub returns-clause-numbers : goal.returns-clause-numbers
+returns-clause-numbers c = c.in_ok-behind.ensures.numbers
+
+pub returns-clause-fewer : goal.returns-clause-fewer
+returns-clause-fewer c = c.in_ok-behind.ensures.fewer
