@@ -1,7 +1,9 @@
--- The sizes of what is handed on.
-use Rattle.std.proofs.Common.{arith}
-use Rattle.scad_geom.proofs.Casts.{sizes}
+-- The sum by the values of the calls, and the sizes of what is handed on.
+use Rattle.std.proofs.Common.{◌∙◌, ap₂, ◌+ℤ◌, ◌-ℤ◌, ◌*ℤ◌, arith}
+use Rattle.std.proofs.lemmas.Int.{to_z-of_z}
+use Rattle.scad_geom.proofs.Casts.{sizes, kept, kept_by_size}
 use Rattle.scad_geom.proofs.nearness.reach.Goals as goal
+use mir.Syntax.{w64}
 
 pub minus-requires : goal.minus-requires
 minus-requires c = record { fits = omega (arith, sizes) }
@@ -23,3 +25,23 @@ times-up-requires-clause-right c = omega (arith, sizes)
 
 pub plus-requires : goal.plus-requires
 plus-requires c = record { fits = omega (arith, sizes) }
+
+pub returns : goal.returns
+returns c =
+    let across = c.args.across in
+    let along = c.args.along in
+    let w = to_z-of_z w64 c.args.w c.ranges.w in
+    let left = kept_by_size w64 across.from (omega arith) in
+    let right = kept_by_size w64 across.to (omega arith) in
+    let below = kept_by_size w64 along.from (omega arith) in
+    let above = kept_by_size w64 along.to (omega arith) in
+    kept w64 c.plus.result c.plus.type_inv ∙ c.plus.ensures.sum
+    ∙ ap₂ (λ right up. right +ℤ up)
+    (kept w64 c.times-right.result c.times-right.type_inv ∙ c.times-right.ensures.product
+    ∙ ap₂ (λ w length. w *ℤ length) w
+    (kept w64 c.minus.result c.minus.type_inv ∙ c.minus.ensures.difference
+    ∙ ap₂ (λ to from. to -ℤ from) right left))
+    (kept w64 c.times-up.result c.times-up.type_inv ∙ c.times-up.ensures.product
+    ∙ ap₂ (λ w length. w *ℤ length) w
+    (kept w64 c.minus-2.result c.minus-2.type_inv ∙ c.minus-2.ensures.difference
+    ∙ ap₂ (λ to from. to -ℤ from) above below))
