@@ -1,4 +1,5 @@
 pub mod TestOrder
+mod Casts
 pub mod Steps
 pub mod Repeats
 pub mod Pairs

@@ -1,4 +1,5 @@
 pub mod Points
+mod Casts
 pub mod Marks
 pub mod LeastEdge
 pub mod LoopClosure
