@@ -1,5 +1,4 @@
 pub mod TestOrder
-mod Casts
 pub mod Steps
 pub mod Repeats
 pub mod Pairs

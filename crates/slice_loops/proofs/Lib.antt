@@ -1,5 +1,4 @@
 pub mod Points
-mod Casts
 pub mod Marks
 pub mod LeastEdge
 pub mod LoopClosure

@@ -1,6 +1,6 @@
 -- The cross product by those of the calls, and the sizes of what is handed on.
-use Rattle.std.proofs.Common.{◌∙◌, ap₂, ◌-ℤ◌, ◌*ℤ◌, FitsSigned, rules, arith}
-use Rattle.scad_geom.proofs.Casts.{sizes, kept, widened}
+use Rattle.std.proofs.Common.{FitsSigned, rules, arith}
+use Rattle.scad_geom.proofs.Casts.{sizes, difference_by, product_by, read_widened}
 use Rattle.scad_geom.proofs.area.cross.Goals as goal
 use mir.Syntax.{w32, w128}
 
@@ -30,9 +30,6 @@ returns-clause-value c =
     let a_y : FitsSigned w32 a.y = search rules in
     let b_x : FitsSigned w32 b.x = search rules in
     let b_y : FitsSigned w32 b.y = search rules in
-    kept w128 c.minus.result c.minus.type_inv ∙ c.minus.ensures.difference
-    ∙ ap₂ (λ left right. left -ℤ right)
-    (kept w128 c.times.result c.times.type_inv ∙ c.times.ensures.product
-    ∙ ap₂ (λ across up. across *ℤ up) (widened a.x a_x) (widened b.y b_y))
-    (kept w128 c.times-2.result c.times-2.type_inv ∙ c.times-2.ensures.product
-    ∙ ap₂ (λ across up. across *ℤ up) (widened b.x b_x) (widened a.y a_y))
+    difference_by w128 c.minus.type_inv c.minus.ensures.difference
+    (product_by w128 c.times.type_inv c.times.ensures.product (read_widened a.x a_x) (read_widened b.y b_y))
+    (product_by w128 c.times-2.type_inv c.times-2.ensures.product (read_widened b.x b_x) (read_widened a.y a_y))

@@ -5,7 +5,7 @@ use Rattle.std.proofs.Math.IntN.{+ℤ_assoc, +ℤ_idl, +ℤ_idr}
 use Rattle.scad_geom.specs.declared.point.Pt.{Pt}
 use Rattle.scad_geom.specs.Area.{cross, cross_sum}
 use Rattle.scad_geom.specs.Loop.{path}
-use Rattle.scad_geom.proofs.Casts.{sizes, kept}
+use Rattle.scad_geom.proofs.Casts.{sizes, by_cast}
 use Rattle.scad_geom.proofs.area.cross_sum_round.Goals as goal
 use mir.Syntax.{w128}
 
@@ -40,8 +40,8 @@ points-preserved c =
       small = omega (arith, sizes);
       sum = c.points.invariant.sum
           ∙ one_more c.args.first c.points.from c.args.rest.now c.points.to-index sum _ _ c.points-test.true
-          (kept w128 c.plus-sum.result c.plus-sum.type_inv ∙ c.plus-sum.ensures.sum
-          ∙ ap (λ z. sum +ℤ z) (kept w128 c.cross.result c.cross.type_inv ∙ c.cross.ensures.value));
+          (by_cast w128 c.plus-sum.type_inv c.plus-sum.ensures.sum
+          ∙ ap (λ z. sum +ℤ z) (by_cast w128 c.cross.type_inv c.cross.ensures.value));
     }
 
 pub plus-requires : goal.plus-requires
@@ -52,5 +52,5 @@ returns c =
     let sum : ℤ = to_z w128 c.points.sum-bits in
     sym (c.points.invariant.sum
     ∙ last_one c.args.first c.points.from c.args.rest.now c.points.to-index sum _ c.points-test.false
-    (kept w128 c.plus.result c.plus.type_inv ∙ c.plus.ensures.sum
-    ∙ ap (λ z. sum +ℤ z) (kept w128 c.cross-2.result c.cross-2.type_inv ∙ c.cross-2.ensures.value)))
+    (by_cast w128 c.plus.type_inv c.plus.ensures.sum
+    ∙ ap (λ z. sum +ℤ z) (by_cast w128 c.cross-2.type_inv c.cross-2.ensures.value)))

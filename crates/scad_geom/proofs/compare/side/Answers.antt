@@ -1,7 +1,7 @@
 -- The side by the values of the calls, and the sizes of what is handed on.
-use Rattle.std.proofs.Common.{◌∙◌, ap, ap₂, ℤ, ◌-ℤ◌, ◌*ℤ◌, arith}
+use Rattle.std.proofs.Common.{◌∙◌, ap, arith}
 use Rattle.scad_geom.specs.Sign.{sign_of}
-use Rattle.scad_geom.proofs.Casts.{sizes, kept}
+use Rattle.scad_geom.proofs.Casts.{sizes, by_cast, difference_by, product_by}
 use Rattle.scad_geom.proofs.CommonDivisor.{side_of_wholes}
 use Rattle.scad_geom.proofs.Coordinates.{x_kept, y_kept}
 use Rattle.scad_geom.proofs.compare.side.Goals as goal
@@ -32,18 +32,12 @@ returns c =
     let b_y = y_kept b c.requires.edge.b in
     let x = x_kept c.args.p c.requires.point in
     let y = y_kept c.args.p c.requires.point in
-    kept w8 c.sign.result c.sign.type_inv ∙ c.sign.ensures
-    ∙ ap sign_of (kept w128 c.minus.result c.minus.type_inv ∙ c.minus.ensures.difference
-    ∙ ap₂ difference
-    (kept w128 c.times-left.result c.times-left.type_inv ∙ c.times-left.ensures.product
-    ∙ ap₂ (λ along up. along *ℤ up)
-    (kept w128 c.span.result c.span.type_inv ∙ c.span.ensures.difference ∙ ap₂ difference b_x a_x)
-    (kept w128 c.span-2.result c.span-2.type_inv ∙ c.span-2.ensures.difference ∙ ap₂ difference y a_y))
-    (kept w128 c.times-right.result c.times-right.type_inv ∙ c.times-right.ensures.product
-    ∙ ap₂ (λ along up. along *ℤ up)
-    (kept w128 c.span-3.result c.span-3.type_inv ∙ c.span-3.ensures.difference ∙ ap₂ difference b_y a_y)
-    (kept w128 c.span-4.result c.span-4.type_inv ∙ c.span-4.ensures.difference ∙ ap₂ difference x a_x))
+    by_cast w8 c.sign.type_inv c.sign.ensures
+    ∙ ap sign_of (difference_by w128 c.minus.type_inv c.minus.ensures.difference
+    (product_by w128 c.times-left.type_inv c.times-left.ensures.product
+    (difference_by w128 c.span.type_inv c.span.ensures.difference b_x a_x)
+    (difference_by w128 c.span-2.type_inv c.span-2.ensures.difference y a_y))
+    (product_by w128 c.times-right.type_inv c.times-right.ensures.product
+    (difference_by w128 c.span-3.type_inv c.span-3.ensures.difference b_y a_y)
+    (difference_by w128 c.span-4.type_inv c.span-4.ensures.difference x a_x))
     ∙ side_of_wholes c.args.p a b)
-  where
-    difference : ℤ → ℤ → ℤ
-    difference to from = to -ℤ from

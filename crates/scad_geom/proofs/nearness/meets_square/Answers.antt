@@ -2,7 +2,7 @@
 use Rattle.std.proofs.Common.{◌∙◌, ap, ap₂, sym, Bool, ◌&&◌, ℤ, neg_ℤ, ◌+ℤ◌, ◌-ℤ◌, ◌*ℤ◌, arith}
 use Rattle.std.specs.Prelude.{int_le}
 use Rattle.std.proofs.lemmas.Int.{to_z-of_z}
-use Rattle.scad_geom.proofs.Casts.{sizes, kept}
+use Rattle.scad_geom.proofs.Casts.{sizes, by_cast}
 use Rattle.scad_geom.proofs.nearness.meets_square.Goals as goal
 use mir.Syntax.{w64}
 
@@ -66,8 +66,8 @@ returns-then-is_along c =
     let is_along = ap (overlaps along.from along.to) (sym w_kept) ∙ sym c.overlaps-is_along.ensures
     ∙ c.if-is_along.true in
     c.is_within-is_on_line.ensures
-    ∙ ap₂ is_within (kept w64 c.cross.result c.cross.type_inv ∙ c.cross.ensures.value)
-    (kept w64 c.reach.result c.reach.type_inv ∙ c.reach.ensures
+    ∙ ap₂ is_within (by_cast w64 c.cross.type_inv c.cross.ensures.value)
+    (by_cast w64 c.reach.type_inv c.reach.ensures
     ∙ ap (reach across.from across.to along.from along.to) w_kept)
     ∙ sym (ap₂ (λ first second. first && (second && is_within (side across.from across.to along.from along.to)
     (reach across.from across.to along.from along.to w))) is_across is_along)

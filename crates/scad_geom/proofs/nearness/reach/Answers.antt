@@ -1,7 +1,7 @@
 -- The sum by the values of the calls, and the sizes of what is handed on.
-use Rattle.std.proofs.Common.{◌∙◌, ap₂, ◌+ℤ◌, ◌-ℤ◌, ◌*ℤ◌, arith}
+use Rattle.std.proofs.Common.{refl, arith}
 use Rattle.std.proofs.lemmas.Int.{to_z-of_z}
-use Rattle.scad_geom.proofs.Casts.{sizes, kept, kept_by_size}
+use Rattle.scad_geom.proofs.Casts.{sizes, sum_by, difference_by, product_by, handed}
 use Rattle.scad_geom.proofs.nearness.reach.Goals as goal
 use mir.Syntax.{w64}
 
@@ -31,17 +31,12 @@ returns c =
     let across = c.args.across in
     let along = c.args.along in
     let w = to_z-of_z w64 c.args.w c.ranges.w in
-    let left = kept_by_size w64 across.from (omega arith) in
-    let right = kept_by_size w64 across.to (omega arith) in
-    let below = kept_by_size w64 along.from (omega arith) in
-    let above = kept_by_size w64 along.to (omega arith) in
-    kept w64 c.plus.result c.plus.type_inv ∙ c.plus.ensures.sum
-    ∙ ap₂ (λ right up. right +ℤ up)
-    (kept w64 c.times-right.result c.times-right.type_inv ∙ c.times-right.ensures.product
-    ∙ ap₂ (λ w length. w *ℤ length) w
-    (kept w64 c.minus.result c.minus.type_inv ∙ c.minus.ensures.difference
-    ∙ ap₂ (λ to from. to -ℤ from) right left))
-    (kept w64 c.times-up.result c.times-up.type_inv ∙ c.times-up.ensures.product
-    ∙ ap₂ (λ w length. w *ℤ length) w
-    (kept w64 c.minus-2.result c.minus-2.type_inv ∙ c.minus-2.ensures.difference
-    ∙ ap₂ (λ to from. to -ℤ from) above below))
+    let left = handed w64 across.from (omega arith) refl in
+    let right = handed w64 across.to (omega arith) refl in
+    let below = handed w64 along.from (omega arith) refl in
+    let above = handed w64 along.to (omega arith) refl in
+    sum_by w64 c.plus.type_inv c.plus.ensures.sum
+    (product_by w64 c.times-right.type_inv c.times-right.ensures.product w
+    (difference_by w64 c.minus.type_inv c.minus.ensures.difference right left))
+    (product_by w64 c.times-up.type_inv c.times-up.ensures.product w
+    (difference_by w64 c.minus-2.type_inv c.minus-2.ensures.difference above below))

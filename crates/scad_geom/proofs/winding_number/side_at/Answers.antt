@@ -1,7 +1,7 @@
 -- The value by those of the calls, and the sizes of what is handed on.
 use Rattle.std.proofs.Common.{◌∙◌, ap₂, ℤ, pos, ◌-ℤ◌, ◌*ℤ◌, arith}
 use Rattle.std.proofs.lemmas.Int.{to_z-of_z}
-use Rattle.scad_geom.proofs.Casts.{sizes, kept}
+use Rattle.scad_geom.proofs.Casts.{sizes, by_cast}
 use Rattle.scad_geom.proofs.Coordinates.{x_kept, y_kept}
 use Rattle.scad_geom.proofs.winding_number.side_at.Goals as goal
 use mir.Syntax.{w64}
@@ -39,16 +39,16 @@ returns-clause-value c =
     let b_y = y_kept edge.b c.requires.edge.b in
     let x = to_z-of_z w64 c.args.x c.ranges.x in
     let y = to_z-of_z w64 c.args.y c.ranges.y in
-    kept w64 c.minus.result c.minus.type_inv ∙ c.minus.ensures.difference
+    by_cast w64 c.minus.type_inv c.minus.ensures.difference
     ∙ ap₂ (λ left right. left -ℤ right)
-    (kept w64 c.times-left.result c.times-left.type_inv ∙ c.times-left.ensures.product
+    (by_cast w64 c.times-left.type_inv c.times-left.ensures.product
     ∙ ap₂ (λ along up. along *ℤ up)
-    (kept w64 c.doubled_span.result c.doubled_span.type_inv ∙ c.doubled_span.ensures.value ∙ ap₂ span b_x a_x)
-    (kept w64 c.gap.result c.gap.type_inv ∙ c.gap.ensures.value ∙ ap₂ gap y a_y))
-    (kept w64 c.times-right.result c.times-right.type_inv ∙ c.times-right.ensures.product
+    (by_cast w64 c.doubled_span.type_inv c.doubled_span.ensures.value ∙ ap₂ span b_x a_x)
+    (by_cast w64 c.gap.type_inv c.gap.ensures.value ∙ ap₂ gap y a_y))
+    (by_cast w64 c.times-right.type_inv c.times-right.ensures.product
     ∙ ap₂ (λ along up. along *ℤ up)
-    (kept w64 c.doubled_span-2.result c.doubled_span-2.type_inv ∙ c.doubled_span-2.ensures.value ∙ ap₂ span b_y a_y)
-    (kept w64 c.gap-2.result c.gap-2.type_inv ∙ c.gap-2.ensures.value ∙ ap₂ gap x a_x))
+    (by_cast w64 c.doubled_span-2.type_inv c.doubled_span-2.ensures.value ∙ ap₂ span b_y a_y)
+    (by_cast w64 c.gap-2.type_inv c.gap-2.ensures.value ∙ ap₂ gap x a_x))
   where
     span : ℤ → ℤ → ℤ
     span to from = pos 2 *ℤ to -ℤ pos 2 *ℤ from

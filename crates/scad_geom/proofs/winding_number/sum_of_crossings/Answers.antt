@@ -6,7 +6,7 @@ use Rattle.std.proofs.Math.IntN.{+ℤ_idl, +ℤ_idr}
 use Rattle.scad_geom.specs.Point.{halves}
 use Rattle.scad_geom.specs.Segment.{segments}
 use Rattle.scad_geom.specs.Winding.{wind}
-use Rattle.scad_geom.proofs.Casts.{sizes, kept}
+use Rattle.scad_geom.proofs.Casts.{sizes, by_cast}
 use Rattle.scad_geom.proofs.Crossings.{wind_more}
 use Rattle.scad_geom.proofs.winding_number.sum_of_crossings.Goals as goal
 use mir.Syntax.{w64}
@@ -43,8 +43,8 @@ edges-preserved c =
       sum = simp to_z-of_z (simp to_z-of_z at c.edges.invariant.sum
           ∙ wind_more c.args.edges.now c.edges.edge-index _ (halves c.args.x c.args.y) sum c.edges-test.true
           ∙ ap (λ z. z +ℤ wind (halves c.args.x c.args.y) (segments (drop (c.edges.edge-index + 1) c.args.edges.now)))
-          (sym (kept w64 c.plus-sum.result c.plus-sum.type_inv ∙ c.plus-sum.ensures.sum
-          ∙ ap (λ z. sum +ℤ z) (kept w64 c.crossing.result c.crossing.type_inv ∙ turned))));
+          (sym (by_cast w64 c.plus-sum.type_inv c.plus-sum.ensures.sum
+          ∙ ap (λ z. sum +ℤ z) (by_cast w64 c.crossing.type_inv turned))));
     }
 
 pub returns : goal.returns

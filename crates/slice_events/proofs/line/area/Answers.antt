@@ -1,7 +1,7 @@
 -- A product of two numbers within twice the limit.
 use Rattle.std.proofs.Common.{◌≡◌, ◌*◌, ℤ, unsigned_abs, to_z, of_z, refl, ap, ap₂, arith}
 use Rattle.std.proofs.lemmas.Nat.{mul-le}
-use Rattle.slice_events.proofs.Casts.{product_by, by_cast, handed}
+use Rattle.scad_geom.proofs.Casts.{product_by, by_cast, handed}
 use mir.Syntax.{w64}
 use Rattle.slice_events.proofs.line.area.Goals as goal
 

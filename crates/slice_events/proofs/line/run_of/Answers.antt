@@ -3,7 +3,7 @@ use Rattle.std.proofs.Common.{◌≡◌, to_z, of_z, ap, arith}
 use Rattle.scad_geom.specs.declared.point.Pt.{Pt}
 use Rattle.scad_geom.specs.Line.{low, high, run}
 use Rattle.scad_geom.proofs.Casts.{sizes}
-use Rattle.slice_events.proofs.Casts.{difference_by, handed}
+use Rattle.scad_geom.proofs.Casts.{difference_by, handed}
 use mir.Syntax.{w32, w64}
 use Rattle.slice_events.proofs.line.run_of.Goals as goal
 

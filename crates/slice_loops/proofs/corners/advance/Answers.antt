@@ -1,7 +1,6 @@
 -- The sizes of what is handed on, and the sum of the two products.
 use Rattle.std.proofs.Common.{◌≡◌, to_z, of_z, arith}
-use Rattle.scad_geom.proofs.Casts.{sizes, casts}
-use Rattle.slice_loops.proofs.Casts.{difference_by, product_by, sum_by}
+use Rattle.scad_geom.proofs.Casts.{sizes, casts, difference_by, product_by, sum_by}
 use Rattle.slice_loops.specs.Corners.{advance}
 use mir.Syntax.{w32, w128}
 use Rattle.slice_loops.proofs.corners.advance.Goals as goal

@@ -2,7 +2,7 @@
 use Rattle.std.proofs.Common.{◌≡◌, to_z, of_z, arith}
 use Rattle.scad_geom.specs.Line.{apart, rise, offset}
 use Rattle.scad_geom.proofs.Casts.{sizes}
-use Rattle.slice_events.proofs.Casts.{difference_by, product_by, widened}
+use Rattle.scad_geom.proofs.Casts.{difference_by, product_by, widened}
 use mir.Syntax.{w64, w128}
 use Rattle.slice_events.proofs.line.Line.apart.Goals as goal
 

@@ -2,7 +2,7 @@
 use Rattle.std.proofs.Common.{◌≡◌, to_z, of_z, arith}
 use Rattle.scad_geom.specs.Line.{lean, run, rise}
 use Rattle.scad_geom.proofs.Casts.{sizes}
-use Rattle.slice_events.proofs.Casts.{difference_by, product_by, handed}
+use Rattle.scad_geom.proofs.Casts.{difference_by, product_by, handed}
 use mir.Syntax.{w64}
 use Rattle.slice_events.proofs.line.Line.lean.Goals as goal
 

@@ -3,7 +3,7 @@ use Rattle.std.proofs.Common.{◌≡◌, ◌+ℤ◌, ◌-ℤ◌, ◌*ℤ◌, to_
 use Rattle.scad_geom.specs.Line.{run, rise, offset}
 use Rattle.scad_geom.proofs.Lines.{left_of_whole}
 use Rattle.scad_geom.proofs.Casts.{sizes}
-use Rattle.slice_events.proofs.Casts.{sum_by, difference_by, product_by, handed, widened}
+use Rattle.scad_geom.proofs.Casts.{sum_by, difference_by, product_by, handed, widened}
 use mir.Syntax.{w32, w64}
 use Rattle.slice_events.proofs.line.Line.left_of.Goals as goal
 
