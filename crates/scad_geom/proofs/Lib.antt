@@ -17,6 +17,7 @@ pub mod Nearest
 mod RoundingExamples
 pub mod Bits
 pub mod Casts
+pub mod Coordinates
 pub mod Crossings
 pub mod Square
 pub mod Points

@@ -8,7 +8,6 @@ use scad_geom::wide::times;
 use std::cmp::Ordering;
 
 /// By x, then by slope, then by number.
-#[tactic(auto, using(scad_geom::proofs::Casts::casts, crate::proofs::Ranking::cmp_tests))]
 pub(crate) fn compare(p: &Passage, q: &Passage) -> Ordering
     ensures { is_lt result ≡ comes_first p.now q.now }
 {

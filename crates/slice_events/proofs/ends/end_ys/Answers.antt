@@ -1,5 +1,5 @@
 -- Each edge gives the heights of its ends.
-use Rattle.std.proofs.Common.{◌≡◌, refl, ◌∷◌, [], ◌++◌, ◌+◌, ℤ, drop, get_or, ap, ◌∙◌, List}
+use Rattle.std.proofs.Common.{refl, ◌∷◌, [], ◌++◌, ◌+◌, ℤ, drop, get_or, ap, ◌∙◌, List}
 use Rattle.std.proofs.lemmas.List.{at_drop_more}
 use Rattle.scad_geom.specs.declared.level.LeafEdge.{LeafEdge}
 use Rattle.slice_events.specs.Collection.{end_ys}

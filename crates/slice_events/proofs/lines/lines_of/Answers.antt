@@ -1,5 +1,5 @@
 -- Each edge gives its line.
-use Rattle.std.proofs.Common.{◌≡◌, ◌∷◌, [], ◌++◌, take, get_or, sym, ap, ap₂, ◌∙◌, List}
+use Rattle.std.proofs.Common.{◌∷◌, [], ◌++◌, take, get_or, sym, ap, ap₂, ◌∙◌, List}
 use Rattle.std.proofs.lemmas.List.{take_all, take_more, map-append}
 use Rattle.scad_geom.specs.declared.point.Edge.{Edge}
 use Rattle.scad_geom.specs.declared.level.LeafEdge.{LeafEdge}

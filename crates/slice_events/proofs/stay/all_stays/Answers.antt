@@ -1,5 +1,5 @@
 -- Each edge gives its stays.
-use Rattle.std.proofs.Common.{◌≡◌, refl, ◌++◌, ◌+◌, drop, ap, ◌∙◌, List}
+use Rattle.std.proofs.Common.{refl, ◌++◌, ◌+◌, drop, ap, ◌∙◌, List}
 use Rattle.slice_events.specs.declared.stay.Stay.{Stay}
 use Rattle.slice_events.specs.Lines.{edges_in}
 use Rattle.slice_events.specs.Stays.{stays_of, all_stays}
