@@ -40,7 +40,7 @@ invariant_of-self-2 g c =
     let es = c.self.inside.entries.items in
     let e : Bor (List ℕ) × g.row.V.Denot = (c.args.name, c.args.value) in
     let none = place-untold name_in c.args.name.now es (c.in_default.ensures.value ∙ c.self.invariant c.args.name.now) in
-    let many = c.len.ensures ∙ c.in_ok-reserve.ensures.len in
+    let many = c.len.ensures ∙ c.in_ok-reserve.ensures.len ∙ c.self.inside.entries.ok.0 in
     let items = c.push_reserved.ensures.items ∙ ap (λ l. l ++ e ∷ []) c.in_ok-reserve.ensures.items in
     λ name. c.in_ok-insert.ensures.updates.0 (record c.args.name { now = name })
     ∙ ap (λ n. if is_same_name c.args.name.now name then Some n else get_by (λ k. is_same_name name k.now)
