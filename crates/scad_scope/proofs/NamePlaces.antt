@@ -1,11 +1,13 @@
 -- Where a name stands in a list, and what it is to put one there and to read it.
-use Rattle.std.proofs.Common.{◌≡◌, ℕ, ◌+◌, ◌<◌, ◌≤◌, suc, Bool, true, false, List, [], ◌∷◌, ◌++◌, length, get_or, set, Option, Some, None, if◌then◌else◌, Bor, refl, sym, ap, ap₂, ◌∙◌, arith}
-use Rattle.std.specs.Prelude.{nat_eq, nat_lt, is_some, unwrap_or}
-use Rattle.std.specs.Cmp.Lexicographic.{pointwise, nat_list_eq_equiv, bytes_decides}
+use Rattle.std.proofs.Common.{◌≡◌, ℕ, ◌+◌, ◌<◌, ◌≤◌, zero, suc, Bool, true, false, List, [], ◌∷◌, ◌++◌, length, get_or, set, Option, Some, None, if◌then◌else◌, Vec, Global, Bor, refl, sym, ap, ap₂, ◌∙◌, arith}
+use Rattle.std.specs.Prelude.{nat_lt, is_some, unwrap_or}
+use Rattle.std.specs.Cmp.Lexicographic.{nat_list_eq_equiv, bytes_decides}
 use Rattle.std.proofs.lemmas.Bool.{ltb-true, ltb-false, lt-ltb, false_from_ne_true, true≢false, false≢true}
-use Rattle.std.proofs.lemmas.List.{length-append}
+use Rattle.std.specs.HashMap.{HashMap, get_by, UpdatesBy}
+use Rattle.std.specs.Map.{KeepsOthers}
+use Rattle.std.proofs.lemmas.List.{length-append, length-set}
 use Rattle.scad_scope.specs.Names.{is_same_name}
-use Rattle.scad_scope.specs.NamePlaces.{put_in, value_in, before, place_in}
+use Rattle.scad_scope.specs.NamePlaces.{put_in, value_in, before, place_in, HasPlaces}
 
 same_turned : (a b : List ℕ) → is_same_name a b ≡ is_same_name b a
 same_turned a b = nat_list_eq_equiv.symm a b
@@ -47,6 +49,14 @@ module _ {A : Type 0} (word : A → List ℕ) where
       by true low told = absurd (false≢true (ap is_some told))
       by false past told = let up = ltb-false _ _ past in let within = before-within name all in omega (arith, up, within)
 
+  pub place-unfound : (name : List ℕ) (all : List A) → false ≡ is_some (place_in word name all)
+      → before word name all ≡ length all
+  place-unfound name all told = by (place_in word name all) refl told
+    where
+      by : (o : Option ℕ) → place_in word name all ≡ o → false ≡ is_some o → before word name all ≡ length all
+      by None is told = place-untold name all (sym is)
+      by (Some i) is told = absurd (false≢true told)
+
   -- ---- one more goes last
   before-found : (name : List ℕ) (all : List A) (a : A) → before word name all < length all
       → before word name (all ++ a ∷ []) ≡ before word name all
@@ -82,12 +92,13 @@ module _ {A : Type 0} (word : A → List ℕ) where
     where
       long : length (all ++ a ∷ []) ≡ length all + 1
       long = length-append all (a ∷ [])
+
       by : (b : Bool) → nat_lt (before word name all) (length all) ≡ b
           → place_in word name (all ++ a ∷ []) ≡ (if b then Some (before word name all) else None)
       by true low =
           let there = before-found name all a (ltb-true _ _ low) in
           let under : before word name (all ++ a ∷ []) < length (all ++ a ∷ [])
-                  = let l = ltb-true _ _ low in omega (arith, there, long, l) in
+          = let l = ltb-true _ _ low in omega (arith, there, long, l) in
           if-below (before word name (all ++ a ∷ [])) (length (all ++ a ∷ [])) under ∙ ap Some there
       by false past =
           let within = before-within name all in
@@ -116,6 +127,64 @@ module _ {A : Type 0} (word : A → List ℕ) where
           sym (place-same name all a (same_turned name (word a) ∙ same)
           (ap (λ n. before word n all) (sym ((bytes_decides (word a) name).0 same)) ∙ none))
       by false other = sym (place-other name all a (same_turned name (word a) ∙ other))
+
+-- ---- one changes, its name stays
+module _ {A : Type 0} (word : A → List ℕ) where
+  before-set : (name : List ℕ) (all : List A) (i : ℕ) (old new : A) → old ≡ get_or all i old → word new ≡ word old
+      → before word name all ≡ before word name (set all i new)
+  before-set name [] i old new is same = refl
+  before-set name (a ∷ all) zero old new is same =
+      ap (λ w. if is_same_name name w then 0 else suc (before word name all)) (sym (same ∙ ap word is))
+  before-set name (a ∷ all) (suc i) old new is same =
+      ap (λ n. if is_same_name name (word a) then 0 else suc n) (before-set name all i old new is same)
+
+  pub place-set : (name : List ℕ) (all : List A) (i : ℕ) (old new : A) → old ≡ get_or all i old → word new ≡ word old
+      → place_in word name all ≡ place_in word name (set all i new)
+  place-set name all i old new is same =
+      ap₂ (λ j n. if nat_lt j n then Some j else None) (before-set name all i old new is same)
+      (sym (length-set all i new))
+
+-- ---- a table that has one name more
+module _ {K S : Type 0} (word : K → List ℕ) (old new : HashMap K ℕ S) (key : K) where
+  kept : KeepsOthers (λ a b. is_same_name (word a) (word b)) (λ k. is_same_name (word key) (word k)) old.entries
+      new.entries → (name : List ℕ) → is_same_name (word key) name ≡ false
+      → get_by (λ k. is_same_name name (word k)) new ≡ get_by (λ k. is_same_name name (word k)) old
+  unfolding KeepsOthers
+  kept keeps name other =
+      keeps (λ k. is_same_name name (word k)) (λ x y. nat_list_eq_equiv.congr name (word x) (word y))
+      (λ k same. nat_list_eq_equiv.symm name (word k) ∙ sym (nat_list_eq_equiv.congr (word key) (word k) name same)
+      ∙ other)
+
+  pub found-after : (i : ℕ) → UpdatesBy (λ a b. is_same_name (word a) (word b))
+      (λ k. is_same_name (word key) (word k)) old new (Some i) → (name : List ℕ)
+      → get_by (λ k. is_same_name name (word k)) new
+      ≡ (if is_same_name (word key) name then Some i else get_by (λ k. is_same_name name (word k)) old)
+  found-after i updates name = by (is_same_name (word key) name) refl
+    where
+      by : (b : Bool) → is_same_name (word key) name ≡ b → get_by (λ k. is_same_name name (word k)) new
+          ≡ (if b then Some i else get_by (λ k. is_same_name name (word k)) old)
+      by true same =
+          ap (λ n. get_by (λ k. is_same_name n (word k)) new) (sym ((bytes_decides (word key) name).0 same)) ∙ updates.1
+      by false other = kept updates.3 name other
+
+-- a list and a table that both have it
+pub places-more : {A K S : Type 0} (word : A → List ℕ) (key : K → List ℕ) (all more : List A) (a : A)
+    (old new : HashMap K ℕ S) (k : K) (i : ℕ) → key k ≡ word a → i ≡ length all → before word (word a) all ≡ length all
+    → more ≡ all ++ a ∷ [] → HasPlaces word key all old
+    → UpdatesBy (λ x y. is_same_name (key x) (key y)) (λ y. is_same_name (key k) (key y)) old new (Some i)
+    → HasPlaces word key more new
+places-more word key all more a old new k i same many none is has updates = λ name.
+    found-after key old new k i updates name
+    ∙ ap₂ (λ w j. if is_same_name w name then Some j else get_by (λ y. is_same_name name (key y)) old) same many
+    ∙ ap (λ o. if is_same_name (word a) name then Some (length all) else o) (has name)
+    ∙ place-more word name all a none ∙ ap (place_in word name) (sym is)
+
+-- ---- names as keys: those that are held, and those that are lent
+abbrev pub word_in : Vec ℕ Global → List ℕ
+word_in w = w.items
+
+abbrev pub lent_name : Bor (List ℕ) → List ℕ
+lent_name n = n.now
 
 -- ---- entries
 module _ {V : Type 0} where

@@ -8,6 +8,7 @@ mod entries;
 mod frame;
 mod frame_names;
 mod frames;
+mod further_names;
 mod home;
 mod kept;
 mod kind;

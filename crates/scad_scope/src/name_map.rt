@@ -76,4 +76,12 @@ impl<'p, V: Drop> NameMap<'p, V> {
     {
         self.entries.as_slice()
     }
+
+    /// The names with their values, taken out of the map.
+    pub fn into_entries(self) -> Vec<(&'p [u8], V)>
+        ensures { result.items ≡ self.entry }
+    {
+        let NameMap { entries, places: _ } = self;
+        entries
+    }
 }
