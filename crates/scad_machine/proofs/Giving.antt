@@ -2,10 +2,7 @@
 use Rattle.std.proofs.Common.{◌≡◌, ℕ, zero, suc, ◌+◌, ◌<◌, ◌≤◌, Bool, true, false, List, [], ◌∷◌, map, length, get_or, drop, Option, Some, None, is_some, if◌then◌else◌, refl, sym, ap, ◌∙◌, arith}
 use Rattle.std.proofs.lemmas.List.{drop_more, drop_all}
 use Rattle.std.specs.Borrow.{Bor}
-use Rattle.std.specs.Map.{lookup}
-use Rattle.std.specs.Prelude.{nat_eq, slice_get}
-use Rattle.std.specs.Cmp.Lexicographic.{pointwise}
-use Rattle.indexmap.specs.IndexMap.{insert_entry}
+use Rattle.std.specs.Prelude.{slice_get}
 use Rattle.scad_ast.specs.declared.expression.Arg.{Arg}
 use Rattle.scad_ast.specs.declared.statement.Param.{Param}
 use Rattle.scad_ast.specs.declared.statement.Item.{Item}
@@ -15,7 +12,8 @@ use Rattle.scad_ast.specs.Scope.{parameter, item_of, items}
 use Rattle.scad_value.specs.Datum.{Datum}
 use Rattle.scad_value.specs.View.{datum_of}
 use Rattle.scad_value.specs.declared.value.Value.{Value}
-use Rattle.scad_scope.specs.Names.{Names, value_of_name, with_name}
+use Rattle.scad_scope.specs.Names.{Names, is_same_name, value_of_name, with_name}
+use Rattle.scad_scope.specs.NamePlaces.{put_in, value_in}
 use Rattle.scad_machine.specs.Arguments.{given_from, is_given, is_statement, statements}
 use Rattle.scad_machine.specs.Given.{parameter_names, shown, taken, counted_on}
 use Rattle.scad_machine.proofs.Homes.{items-drop, items-drop_all}
@@ -59,28 +57,25 @@ names-parameters [] = refl
 names-parameters (p ∷ all) = ap (λ l. p.name ∷ l) (names-parameters all)
 
 -- ---- names in a map
-pub shown_insert : (key : Bor (List ℕ)) (v : Value) (es : List (Bor (List ℕ) × Value))
-    → map shown (insert_entry (λ a b. pointwise nat_eq a.now b.now) es key v) ≡ with_name key.now (datum_of v)
-    (map shown es)
-shown_insert key v [] = refl
-shown_insert key v (e ∷ es) = by (shown_insert key v es) (pointwise nat_eq key.now e.0.now)
+pub shown_put : (key : Bor (List ℕ)) (v : Value) (es : List (Bor (List ℕ) × Value))
+    → map shown (put_in es key v) ≡ with_name key.now (datum_of v) (map shown es)
+shown_put key v [] = refl
+shown_put key v (e ∷ es) = by (shown_put key v es) (is_same_name key.now e.0.now)
   where
-    by : map shown (insert_entry (λ a b. pointwise nat_eq a.now b.now) es key v) ≡ with_name key.now (datum_of v)
-        (map shown es) → (b : Bool)
-        → map shown (if b then (e.0, v) ∷ es else e
-        ∷ insert_entry (λ a b. pointwise nat_eq a.now b.now) es key v)
+    by : map shown (put_in es key v) ≡ with_name key.now (datum_of v) (map shown es) → (b : Bool)
+        → map shown (if b then (e.0, v) ∷ es else e ∷ put_in es key v)
         ≡ (if b then (e.0.now, datum_of v) ∷ map shown es else shown e
         ∷ with_name key.now (datum_of v) (map shown es))
     by rest true = refl
     by rest false = ap (λ l. shown e ∷ l) rest
 
-pub given_lookup : (name : List ℕ) (es : List (Bor (List ℕ) × Value))
-    → is_some (lookup (λ k. pointwise nat_eq name k.now) es) ≡ is_given name (map shown es)
-given_lookup name [] = refl
-given_lookup name (e ∷ es) = by (given_lookup name es) (pointwise nat_eq name e.0.now)
+pub given_in : (name : List ℕ) (es : List (Bor (List ℕ) × Value))
+    → is_some (value_in name es) ≡ is_given name (map shown es)
+given_in name [] = refl
+given_in name (e ∷ es) = by (given_in name es) (is_same_name name e.0.now)
   where
-    by : is_some (lookup (λ k. pointwise nat_eq name k.now) es) ≡ is_given name (map shown es) → (b : Bool)
-        → is_some (if b then Some e.1 else lookup (λ k. pointwise nat_eq name k.now) es)
+    by : is_some (value_in name es) ≡ is_given name (map shown es) → (b : Bool)
+        → is_some (if b then Some e.1 else value_in name es)
         ≡ is_some (if b then Some (datum_of e.1) else value_of_name name (map shown es))
     by rest true = refl
     by rest false = rest

@@ -144,9 +144,9 @@ impl<'p> Machine<'p> {
         ensures does { Does nothing (done_at (state_of self.old)) result (state_of self.new) }
         ensures steps { OnOk result (self.new.steps_left ≡ self.old.steps_left) }
         ensures held { OnOk result (held self.new
-            ≡ set_all_in_last (map shown all.entry.entries) (held self.old)) }
+            ≡ set_all_in_last (map shown all.entry) (held self.old)) }
     {
-        'names: for (name, value) in all {
+        'names: for (name, value) in all.into_entries() {
             self.set(name, value)?;
         }
         Ok(())

@@ -10,14 +10,14 @@ ghost use Rattle.scad_machine.specs.Given.{parameter_names, shown, counted_on, m
 ghost use Rattle.scad_machine.specs.Variables.{is_dollar};
 
 use crate::names::is_dollar;
-use indexmap::IndexMap;
 use scad_ast::{Arg, Item, Param, Scope};
 use scad_num::Num;
+use scad_scope::NameMap;
 use scad_value::Value;
 use std::alloc::{AllocError, Global};
 
 /// The values of parameters and `$` names by their names, in the order in which they are first given.
-pub(crate) type Given<'p> = IndexMap<&'p [u8], Value>;
+pub(crate) type Given<'p> = NameMap<'p, Value>;
 
 /// Whether a parameter has the name.
 #[tactic(auto, using(crate::proofs::Giving::names))]
@@ -33,13 +33,12 @@ fn is_parameter(params: &[Param], name: &[u8]) -> bool
 }
 
 /// The name takes the value.
-#[tactic(auto, using(crate::proofs::Giving::shown_insert))]
+#[tactic(auto, using(crate::proofs::Giving::shown_put))]
 fn put<'p>(got: &mut Given<'p>, name: &'p [u8], value: Value) -> Result<(), AllocError>
-    ensures { OnOk result (map shown got.new.entries
-        ≡ with_name name.now (datum_of value) (map shown got.old.entries)) }
+    ensures { OnOk result (map shown got.new
+        ≡ with_name name.now (datum_of value) (map shown got.old)) }
 {
-    got.insert(name, value)?;
-    Ok(())
+    got.put(name, value)
 }
 
 /// The value of an unnamed argument goes to the parameter of its number.
@@ -50,8 +49,8 @@ fn give_unnamed<'p>(
     value: Value,
     got: &mut Given<'p>,
 ) -> Result<(), AllocError>
-    ensures { OnOk result (map shown got.new.entries ≡ to_parameter
-        (slice_get (parameter_names params.now) i) (datum_of value) (map shown got.old.entries)) }
+    ensures { OnOk result (map shown got.new ≡ to_parameter
+        (slice_get (parameter_names params.now) i) (datum_of value) (map shown got.old)) }
 {
     if i >= params.len() {
         return Ok(());
@@ -73,8 +72,8 @@ fn give_named<'p>(
     value: Value,
     got: &mut Given<'p>,
 ) -> Result<(), AllocError>
-    ensures { OnOk result (map shown got.new.entries ≡ to_name
-        (parameter_names params.now) name.now (datum_of value) (map shown got.old.entries)) }
+    ensures { OnOk result (map shown got.new ≡ to_name
+        (parameter_names params.now) name.now (datum_of value) (map shown got.old)) }
 {
     if takes(params, name) {
         put(got, name, value)
@@ -91,8 +90,8 @@ fn give<'p>(
     value: Value,
     got: &mut Given<'p>,
 ) -> Result<(), AllocError>
-    ensures { OnOk result (map shown got.new.entries ≡ taken (parameter_names params.now) i
-        arg.now.name (datum_of value) (map shown got.old.entries)) }
+    ensures { OnOk result (map shown got.new ≡ taken (parameter_names params.now) i
+        arg.now.name (datum_of value) (map shown got.old)) }
 {
     match &arg.name {
         Some(name) => give_named(params, name.as_slice(), value, got),
@@ -119,10 +118,10 @@ pub(crate) fn given<'p>(
     args: &'p [Arg],
     values: Vec<Value>,
 ) -> Result<Given<'p>, AllocError>
-    ensures { IfOk result (λ got. map shown got.entries
+    ensures { IfOk result (λ got. map shown got
         ≡ given (parameter_names params.now) (arguments args.now) (data_in values)) }
 {
-    let mut got = IndexMap::new(alloc);
+    let mut got = NameMap::new(alloc);
     let mut unnamed = 0;
     let mut at = 0;
     'values: for value in values {
@@ -137,11 +136,11 @@ pub(crate) fn given<'p>(
 }
 
 /// Whether the name is given.
-#[tactic(auto, using(crate::proofs::Giving::given_lookup))]
+#[tactic(auto, using(crate::proofs::Giving::given_in))]
 fn is_given(got: &Given, name: &[u8]) -> bool
-    ensures { result ≡ is_given name.now (map shown got.now.entries) }
+    ensures { result ≡ is_given name.now (map shown got.now) }
 {
-    got.contains_key(name)
+    got.has(name)
 }
 
 /// Puts a parameter behind others, if it isn't given.
@@ -163,7 +162,7 @@ pub(crate) fn missing<'p>(
     got: &Given<'p>,
 ) -> Result<Vec<&'p Param>, AllocError>
     ensures { IfOk result (λ all. map (λ p. parameter p.now) all.items
-        ≡ missing (map shown got.now.entries) (map parameter params.now)) }
+        ≡ missing (map shown got.now) (map parameter params.now)) }
 {
     let mut all = Vec::new(alloc);
     'parameters: for p in params {

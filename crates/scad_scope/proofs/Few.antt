@@ -1,13 +1,12 @@
 -- Where a name stands among the few of a frame, and what it is to set it and to seek it there.
-use Rattle.std.proofs.Common.{◌≡◌, ℕ, ◌+◌, ◌<◌, ◌≤◌, suc, Bool, true, false, List, [], ◌∷◌, ◌++◌, map, length, drop, get_or, set, Some, if◌then◌else◌, Vec, Global, refl, sym, ap, ◌∙◌, arith}
+use Rattle.std.proofs.Common.{◌≡◌, ℕ, ◌+◌, ◌<◌, ◌≤◌, suc, Bool, true, false, List, [], ◌∷◌, ◌++◌, map, length, drop, get_or, set, Some, None, if◌then◌else◌, Vec, Global, refl, sym, ap, ◌∙◌, arith}
 use Rattle.std.proofs.lemmas.List.{map-append, map-set, get_or-map, length-map, append-nil, drop_more, drop_all}
-use Rattle.indexmap.specs.IndexMap.{insert_entry}
 use Rattle.scad_value.specs.Datum.{Datum}
 use Rattle.scad_value.specs.declared.value.Value.{Value}
 use Rattle.scad_value.specs.View.{datum_of}
 use Rattle.scad_scope.specs.Names.{Names, is_same_name, place_in, value_of_name, with_name}
 use Rattle.scad_scope.specs.FrameNames.{named}
-use Rattle.scad_scope.proofs.Outwards.{same_key, named-insert}
+use Rattle.scad_scope.specs.NamePlaces.{before}
 
 -- ---- a name that stands there
 set-placed : (name : List ℕ) (d : Datum) (xs more : Names) (q : List ℕ × Datum) → place_in name xs < length xs
@@ -92,13 +91,47 @@ few-push key v all more past none =
     ∙ set-unplaced key.items (datum_of v) (map named all) [] past
     ∙ ap (λ m. with_name key.items (datum_of v) (map named all ++ m)) (sym none)
 
--- one goes into the map
-pub more-insert : (key : Vec ℕ Global) (v : Value) (xs : Names) (es : List (Vec ℕ Global × Value))
-    → length xs ≤ place_in key.items xs
-    → xs ++ map named (insert_entry same_key es key v)
-    ≡ with_name key.items (datum_of v) (xs ++ map named es)
-more-insert key v xs es past =
-    ap (λ l. xs ++ l) (named-insert es key v) ∙ set-unplaced key.items (datum_of v) xs (map named es) past
+-- ---- those behind the first ones, whose places are in a table
+abbrev pub word_of : Vec ℕ Global × Value → List ℕ
+word_of e = e.0.items
+
+pub before-named : (name : List ℕ) (es : List (Vec ℕ Global × Value))
+    → before word_of name es ≡ place_in name (map named es)
+before-named name [] = refl
+before-named name (e ∷ es) = ap (λ n. if is_same_name name e.0.items then 0 else suc n) (before-named name es)
+
+pub further-set : (name : List ℕ) (v : Value) (es : List (Vec ℕ Global × Value)) (i : ℕ)
+    (old : Vec ℕ Global × Value) → i ≡ before word_of name es → i < length es → old ≡ get_or es i old
+    → map named (set es i (old.0, v)) ≡ with_name name (datum_of v) (map named es)
+further-set name v es i old at low is =
+    sym (append-nil (map named (set es i (old.0, v))))
+    ∙ few-set named name (datum_of v) es [] i old (old.0, v) refl (at ∙ before-named name es) low is
+    ∙ ap (with_name name (datum_of v)) (append-nil (map named es))
+
+pub further-push : (key : Vec ℕ Global) (v : Value) (es : List (Vec ℕ Global × Value))
+    → before word_of key.items es ≡ length es
+    → map named (es ++ (key, v) ∷ []) ≡ with_name key.items (datum_of v) (map named es)
+further-push key v es none =
+    let many = length-map es named in
+    let at = before-named key.items es in
+    sym (append-nil (map named (es ++ (key, v) ∷ [])))
+    ∙ few-push key v es [] (omega (arith, none, many, at)) refl
+    ∙ ap (with_name key.items (datum_of v)) (append-nil (map named es))
+
+pub further-value : (name : List ℕ) (es : List (Vec ℕ Global × Value)) (i : ℕ) (e : Vec ℕ Global × Value)
+    → i ≡ before word_of name es → i < length es → e ≡ get_or es i e
+    → Some (datum_of e.1) ≡ value_of_name name (map named es)
+further-value name es i e at low is =
+    few-value named name es [] i e (at ∙ before-named name es) low is
+    ∙ ap (value_of_name name) (append-nil (map named es))
+
+pub further-none : (name : List ℕ) (es : List (Vec ℕ Global × Value))
+    → before word_of name es ≡ length es → None ≡ value_of_name name (map named es)
+further-none name es none =
+    let many = length-map es named in
+    let at = before-named name es in
+    value-unplaced name (map named es) [] (omega (arith, none, many, at))
+    ∙ ap (value_of_name name) (append-nil (map named es))
 
 -- ---- the search
 next : (name : List ℕ) (all : List (Vec ℕ Global × Value)) (i : ℕ) (e : Vec ℕ Global × Value)

@@ -1,6 +1,6 @@
 -- The names of a frame: those at places, and behind them those by name.
 use Rattle.std.proofs.Common.{◌≡◌, ℕ, ◌≤◌, Bool, true, false, List, [], ◌∷◌, ◌++◌, map, length, Option, Some, None, if◌then◌else◌, refl, sym, ap, ap₂, ◌∙◌, arith}
-use Rattle.std.specs.Prelude.{is_some, ◌&&◌, ◌==◌, ◌↔◌}
+use Rattle.std.specs.Prelude.{is_some, ◌&&◌, ◌==◌}
 use Rattle.std.specs.Cmp.Lexicographic.{bytes_decides}
 use Rattle.std.proofs.lemmas.Bool.{eq-eqb, eqb-true, false_from_ne_true, false≢true}
 use Rattle.std.proofs.lemmas.List.{append-nil}
@@ -133,11 +133,6 @@ module _ {A : Type 0} (view : A → List ℕ × Datum) where
   nil-counted [] n is = eq-eqb n 0 is
   nil-counted (x ∷ xs) n is = false_from_ne_true (n == 0)
       (λ e. let zero = eqb-true n 0 e in let no : ⊥ = omega (arith, is, zero) in no)
-
-  pub nil-tested : (xs : List A) (b : Bool) → (b ≡ true ↔ (length xs ≡ 0)) → b ≡ is_nil (map view xs)
-  nil-tested [] b is = is.1 refl
-  nil-tested (x ∷ xs) b is = false_from_ne_true b
-      (λ e. let zero = is.0 e in let no : ⊥ = omega (arith, zero) in no)
 
 pub ruleset sets = (placed-push, first-more, first-other)
 

@@ -2,6 +2,7 @@ pub mod Few
 pub mod Finding
 pub mod HeldNames
 pub mod Listing
+pub mod NamePlaces
 pub mod Notes
 pub mod OnLiterals
 pub mod Outwards

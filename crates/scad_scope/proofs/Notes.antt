@@ -1,13 +1,12 @@
 -- The names of a scope noted one by one, each with the place of its last assignment so far, are the scope's bindings.
 use Rattle.std.proofs.Common.{◌≡◌, ℕ, ◌+◌, Bool, true, false, cond, not, ◌||◌, List, [], ◌∷◌, ◌++◌, map, filter, Option, Some, None, if◌then◌else◌, refl, sym, ap, ap₂, ◌∙◌, append_assoc}
 use Rattle.std.specs.Borrow.{Bor}
-use Rattle.std.specs.Cmp.Lexicographic.{pointwise, nat_list_eq_equiv, bytes_decides}
-use Rattle.std.specs.Prelude.{nat_eq}
+use Rattle.std.specs.Cmp.Lexicographic.{nat_list_eq_equiv, bytes_decides}
 use Rattle.std.proofs.lemmas.Bool.{or_parts}
-use Rattle.indexmap.specs.IndexMap.{insert_entry}
 use Rattle.scad_ast.specs.Tree.{Items}
 use Rattle.scad_scope.specs.declared.binding.Binding.{Binding}
 use Rattle.scad_scope.specs.Names.{is_same_name}
+use Rattle.scad_scope.specs.NamePlaces.{put_in}
 use Rattle.scad_scope.specs.Notes.{Places, with_place, noted_all, placed, as_binding}
 use Rattle.scad_scope.specs.Assignments.{assigned_by, differs_from, first_assigned, last_place, binding, bindings}
 use Rattle.std.proofs.lemmas.List.{append-nil}
@@ -189,16 +188,14 @@ noted_bindings scope =
     ∙ bindings_of (assigned_by scope) (first_assigned (assigned_by scope))
 
 -- a name in memory is put into a map
-pub placed_insert : (name : Bor (List ℕ)) (place : ℕ) (es : List (Bor (List ℕ) × ℕ))
-    → map placed (insert_entry (λ a b. pointwise nat_eq a.now b.now) es name place) ≡ with_place name.now place
-    (map placed es)
-placed_insert name place [] = refl
-placed_insert name place (e ∷ es) = by (placed_insert name place es) (pointwise nat_eq name.now e.0.now)
+pub placed_put : (name : Bor (List ℕ)) (place : ℕ) (es : List (Bor (List ℕ) × ℕ))
+    → map placed (put_in es name place) ≡ with_place name.now place (map placed es)
+placed_put name place [] = refl
+placed_put name place (e ∷ es) = by (placed_put name place es) (is_same_name name.now e.0.now)
   where
-    by : map placed (insert_entry (λ a b. pointwise nat_eq a.now b.now) es name place) ≡ with_place name.now place
-        (map placed es) → (b : Bool) → map placed (if b then (e.0, place) ∷ es else e ∷ insert_entry
-        (λ a b. pointwise nat_eq a.now b.now) es name place) ≡ (if b then (e.0.now, place) ∷ map placed es else placed e
-        ∷ with_place name.now place (map placed es))
+    by : map placed (put_in es name place) ≡ with_place name.now place (map placed es) → (b : Bool)
+        → map placed (if b then (e.0, place) ∷ es else e ∷ put_in es name place)
+        ≡ (if b then (e.0.now, place) ∷ map placed es else placed e ∷ with_place name.now place (map placed es))
     by rest true = refl
     by rest false = ap (λ l. placed e ∷ l) rest
 

@@ -1,47 +1,16 @@
 -- Frames in memory and the environments that they stand for.
-use Rattle.std.proofs.Common.{◌≡◌, ℕ, ◌+◌, ◌-◌, ◌<◌, ◌≤◌, Bool, true, false, List, [], ◌∷◌, ◌++◌, map, length, take, drop, get_or, set, Option, Some, None, option_map, if◌then◌else◌, Vec, Global, Bor, refl, sym, ap, ◌∙◌, append_assoc, arith}
-use Rattle.std.specs.Prelude.{nat_eq, option_copied}
-use Rattle.std.specs.Cmp.Lexicographic.{pointwise}
+use Rattle.std.proofs.Common.{◌≡◌, ℕ, ◌+◌, ◌-◌, ◌<◌, ◌≤◌, List, [], ◌∷◌, ◌++◌, map, length, take, drop, get_or, set, Option, Some, None, option_map, Bor, refl, sym, ap, ◌∙◌, append_assoc, arith}
+use Rattle.std.specs.Prelude.{option_copied}
 use Rattle.std.proofs.lemmas.List.{map-append, map-set, take-map, length-map, get_or-take, get_or_past, get_or-map, set-get_or, drop_more, length-append, length-take, length-take-le, take-append-drop, take_at, append-nil}
 use Rattle.std.proofs.Math.Seq.{get_or-append_seam, map-set_same}
-use Rattle.std.specs.Map.{lookup}
 use Rattle.scad_value.specs.Datum.{Datum}
-use Rattle.indexmap.specs.IndexMap.{insert_entry}
 use Rattle.scad_value.specs.declared.value.Value.{Value}
 use Rattle.scad_value.specs.View.{datum_of}
 use Rattle.scad_scope.specs.declared.frame.Frame.{Frame}
-use Rattle.scad_scope.specs.Names.{value_of_name, with_name}
+use Rattle.scad_scope.specs.Names.{value_of_name}
 use Rattle.scad_scope.specs.Env.{Env, outside, sought, or_else}
 use Rattle.scad_scope.specs.FrameStore.{Stored, pushed, stored_at, with_name_in, with_name_in_last, env_at, env_round, env_of, envs_onto, envs}
-use Rattle.scad_scope.specs.FrameNames.{named}
 use Rattle.scad_scope.specs.View.{frame_listed, frame_stored}
-
--- ---- names in memory
-abbrev pub same_key : Vec ℕ Global → Vec ℕ Global → Bool
-same_key a b = pointwise nat_eq a.items b.items
-
-pub named-insert : (es : List (Vec ℕ Global × Value)) (key : Vec ℕ Global) (v : Value)
-    → map named (insert_entry same_key es key v) ≡ with_name key.items (datum_of v) (map named es)
-named-insert [] key v = refl
-named-insert (e ∷ es) key v = by (named-insert es key v) (same_key key e.0)
-  where
-    by : map named (insert_entry same_key es key v) ≡ with_name key.items (datum_of v) (map named es) → (b : Bool)
-        → map named (if b then (e.0, v) ∷ es else e ∷ insert_entry same_key es key v)
-        ≡ (if b then (e.0.items, datum_of v) ∷ map named es else named e ∷ with_name key.items (datum_of v)
-        (map named es))
-    by rest true = refl
-    by rest false = ap (λ l. named e ∷ l) rest
-
-pub value_of_name-named : (name : List ℕ) (es : List (Vec ℕ Global × Value))
-    → option_map datum_of (lookup (λ k. pointwise nat_eq name k.items) es) ≡ value_of_name name (map named es)
-value_of_name-named name [] = refl
-value_of_name-named name (e ∷ es) = by (value_of_name-named name es) (pointwise nat_eq name e.0.items)
-  where
-    by : option_map datum_of (lookup (λ k. pointwise nat_eq name k.items) es) ≡ value_of_name name (map named es)
-        → (b : Bool) → option_map datum_of (if b then Some e.1 else lookup (λ k. pointwise nat_eq name k.items) es)
-        ≡ (if b then Some (datum_of e.1) else value_of_name name (map named es))
-    by rest true = refl
-    by rest false = rest
 
 -- ---- one frame of a list is written
 pub stored-written : (fs : List Frame) (i : ℕ) (old new : Frame) (d : Stored) (f : Stored → Stored) → i < length fs

@@ -1,8 +1,7 @@
 -- A name is found in a table exactly where the last item that defines it is found in the scope.
 use Rattle.std.proofs.Common.{◌≡◌, ℕ, ◌+◌, suc, Bool, true, false, List, [], ◌∷◌, map, length, get_or, Option, Some, None, is_some, option_map, IfSome, if◌then◌else◌, Vec, Global, Bor, refl, sym, ap, ◌∙◌, arith}
-use Rattle.std.specs.Prelude.{nat_eq, nat_lt, slice_get, option_and_then}
-use Rattle.std.specs.Cmp.Lexicographic.{pointwise, bytes_decides}
-use Rattle.std.specs.Map.{lookup}
+use Rattle.std.specs.Prelude.{nat_lt, slice_get, option_and_then}
+use Rattle.std.specs.Cmp.Lexicographic.{bytes_decides}
 use Rattle.std.proofs.lemmas.Bool.{ltb-true, ltb-false}
 use Rattle.std.proofs.lemmas.Option.{slice_get_past, slice_get_read}
 use Rattle.scad_fault.specs.declared.place.Place.{Place}
@@ -14,6 +13,7 @@ use Rattle.scad_ast.specs.Scope.{item_of, body_of, items}
 use Rattle.scad_ast.specs.Tree.{Item as TreeItem}
 use Rattle.scad_ast.proofs.ScopeRows.{module_view}
 use Rattle.scad_scope.specs.Names.{is_same_name}
+use Rattle.scad_scope.specs.NamePlaces.{value_in}
 use Rattle.scad_scope.specs.Notes.{Places, with_place, noted, noted_all, placed}
 use Rattle.scad_scope.specs.Definitions.{function_word, module_word, is_word, last_item}
 use Rattle.scad_scope.specs.Tables.{words_by, tabled, place_of, item_at, item_by}
@@ -115,7 +115,6 @@ item-lent all place None there is = sym (ap (option_map item_of) (slice_get_past
 item-lent all place (Some i) there is =
     sym (ap (option_map item_of) (slice_get_read all (length all) place i.now refl (ltb-true place (length all) (sym there)) is))
 
-pub place-got : (name : List ℕ) (es : List (Bor (List ℕ) × ℕ)) → lookup (λ k. pointwise nat_eq name k.now) es
-    ≡ place_of name (map placed es)
+pub place-got : (name : List ℕ) (es : List (Bor (List ℕ) × ℕ)) → value_in name es ≡ place_of name (map placed es)
 place-got name [] = refl
-place-got name (e ∷ es) = ap (λ o. if pointwise nat_eq name e.0.now then Some e.1 else o) (place-got name es)
+place-got name (e ∷ es) = ap (λ o. if is_same_name name e.0.now then Some e.1 else o) (place-got name es)

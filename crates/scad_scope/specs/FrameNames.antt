@@ -25,7 +25,7 @@ or_none (Some all) = all
 
 -- the names behind them
 abbrev pub more_in : NamedValues → Names
-more_in n = or_none (option_map (λ b. map named b.value.entries) n.more)
+more_in n = or_none (option_map (λ b. map named b.value) n.more)
 
 unfoldable pub named_in : NamedValues → Names
 named_in n = few_in n ++ more_in n

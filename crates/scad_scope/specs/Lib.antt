@@ -5,6 +5,7 @@ pub mod Env
 pub mod NameSearch
 pub mod FrameNames
 pub mod Listing
+pub mod NamePlaces
 pub mod Names
 pub mod Notes
 pub mod ListedValues

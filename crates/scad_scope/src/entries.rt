@@ -7,7 +7,7 @@ ghost use Rattle.scad_scope.specs.Notes.{noted, placed};
 ghost use Rattle.scad_scope.specs.Tables.{word_in, tabled, item_by};
 
 use crate::kind::Kind;
-use indexmap::IndexMap;
+use crate::name_map::NameMap;
 use scad_ast::{Item, Scope};
 use std::alloc::{AllocError, Global};
 
@@ -60,18 +60,18 @@ pub fn last_item<'p>(kind: Kind, name: &[u8], scope: &'p Scope) -> Option<&'p It
 }
 
 /// Notes the item at a place: where it defines a name, it is the last one to define it so far.
-#[tactic(auto, using(crate::proofs::Notes::placed_insert))]
+#[tactic(auto, using(crate::proofs::Notes::placed_put))]
 fn note<'p>(
     kind: Kind,
     item: &'p Item,
     place: usize,
-    rows: &mut IndexMap<&'p [u8], usize>,
+    rows: &mut NameMap<'p, usize>,
 ) -> Result<(), AllocError>
-    ensures { OnOk result (map placed rows.new.entries
-        ≡ noted (map placed rows.old.entries) place (word_in kind (item_of item.now))) }
+    ensures { OnOk result (map placed rows.new
+        ≡ noted (map placed rows.old) place (word_in kind (item_of item.now))) }
 {
     if let Some(word) = word_of(kind, item) {
-        rows.insert(word, place)?;
+        rows.put(word, place)?;
     }
     Ok(())
 }
@@ -82,11 +82,11 @@ pub fn rows_of<'p>(
     alloc: Global,
     kind: Kind,
     scope: &'p Scope,
-) -> Result<IndexMap<&'p [u8], usize>, AllocError>
-    ensures { IfOk result (λ rows. map placed rows.entries
+) -> Result<NameMap<'p, usize>, AllocError>
+    ensures { IfOk result (λ rows. map placed rows
         ≡ tabled (word_in kind) (items scope.now.items)) }
 {
-    let mut rows = IndexMap::new(alloc);
+    let mut rows = NameMap::new(alloc);
     let mut place = 0;
     'items: for item in scope {
         note(kind, item, place, &mut rows)?;
@@ -96,15 +96,11 @@ pub fn rows_of<'p>(
 }
 
 /// The item of a name, by the table of its scope.
-pub fn item_by<'p>(
-    scope: &'p Scope,
-    rows: &IndexMap<&'p [u8], usize>,
-    name: &[u8],
-) -> Option<&'p Item>
+pub fn item_by<'p>(scope: &'p Scope, rows: &NameMap<'p, usize>, name: &[u8]) -> Option<&'p Item>
     ensures { option_map (λ i. item_of i.now) result
-        ≡ item_by scope.now.items (map placed rows.now.entries) name.now }
+        ≡ item_by scope.now.items (map placed rows.now) name.now }
 {
-    match rows.get(&name) {
+    match rows.get(name) {
         Some(place) => scope.get(*place),
         None => None,
     }

@@ -4,7 +4,7 @@ ghost use Rattle.std.specs.Prelude.{◌≡◌, map};
 ghost use Rattle.scad_scope.specs.Names.{place_in};
 ghost use Rattle.scad_scope.specs.FrameNames.{named};
 
-use indexmap::IndexMap;
+use crate::further_names::FurtherNames;
 use scad_value::Value;
 use std::alloc::{AllocError, Global};
 
@@ -17,7 +17,7 @@ const FEW_NAMES: usize = 8;
 #[derive(Drop)]
 pub struct NamedValues {
     few: Vec<(Vec<u8>, Value)>,
-    more: Option<Box<IndexMap<Vec<u8>, Value>>>,
+    more: Option<Box<FurtherNames>>,
 }
 
 /// How many names stand before a name in a list: all of them where it isn't there.
@@ -86,7 +86,7 @@ impl NamedValues {
         ensures refused { OnErr result (named_in self.new ≡ named_in self.old) }
     {
         if let Some(held) = &mut self.more {
-            held.insert(name, value)?;
+            held.set(alloc, name, value)?;
             return Ok(());
         }
         if self.few.len() < FEW_NAMES {
@@ -118,8 +118,8 @@ impl NamedValues {
             ≡ with_name name.items (datum_of value) (named_in self.old)) }
         ensures refused { OnErr result (named_in self.new ≡ named_in self.old) }
     {
-        let mut held = IndexMap::new(alloc);
-        held.insert(name, value)?;
+        let mut held = FurtherNames::new(alloc);
+        held.set(alloc, name, value)?;
         self.more = Some(Box::new(alloc, held)?);
         Ok(())
     }

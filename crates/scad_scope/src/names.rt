@@ -1,23 +1,27 @@
 //! The names that a frame can hold.
 
-use indexmap::IndexSet;
 use std::alloc::{AllocError, Global};
+use std::collections::HashMap;
 use std::marker::Model;
 
 /// The names that one frame can hold, each once, seen by contracts as a list. The place of a name is found by its hash.
 #[derive(Drop)]
 pub struct Names {
     alloc: Global,
-    set: IndexSet<Vec<u8>>,
+    words: Vec<Vec<u8>>,
+    places: HashMap<Vec<u8>, usize>,
 }
 
 impl Model for Names {
     ghost use Rattle.std.specs.Prelude.{map};
     ghost use Rattle.scad_scope.specs.Listing.{Listing};
+    ghost use Rattle.scad_scope.specs.NamePlaces.{HasPlaces};
 
     ghost Value = { Listing };
 
-    ghost view = { λ n. map (λ w. w.items) n.set.keys };
+    ghost view = { λ n. map (λ w. w.items) n.words.items };
+
+    ghost invariant = { λ n. HasPlaces (λ w. w.items) (λ k. k.items) n.words.items n.places };
 }
 
 impl Names {
@@ -30,7 +34,8 @@ impl Names {
     {
         Names {
             alloc,
-            set: IndexSet::new(alloc),
+            words: Vec::new(alloc),
+            places: HashMap::new(alloc),
         }
     }
 
@@ -39,8 +44,14 @@ impl Names {
         ensures listed { OnOk result (self.new ≡ with_listed name.now self.old) }
         ensures refused { OnErr result (self.new ≡ self.old) }
     {
+        if self.places.contains_key(name) {
+            return Ok(());
+        }
         let word = Vec::from_slice(self.alloc, name)?;
-        self.set.insert(word)?;
+        let key = Vec::from_slice(self.alloc, name)?;
+        self.words.reserve(1)?;
+        self.places.insert(key, self.words.len())?;
+        self.words.push_reserved(word);
         Ok(())
     }
 
@@ -48,6 +59,9 @@ impl Names {
     pub fn place(&self, name: &[u8]) -> Option<usize>
         ensures { result ≡ place_of name.now self.now }
     {
-        self.set.get_index_of(name)
+        match self.places.get(name) {
+            Some(place) => Some(*place),
+            None => None,
+        }
     }
 }

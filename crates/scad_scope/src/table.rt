@@ -8,7 +8,7 @@ ghost use Rattle.scad_scope.specs.Tables.{tabled};
 
 use crate::entries::{item_by, rows_of};
 use crate::kind::Kind;
-use indexmap::IndexMap;
+use crate::name_map::NameMap;
 use scad_ast::{Item, Scope};
 use std::alloc::{AllocError, Global};
 
@@ -16,10 +16,10 @@ use std::alloc::{AllocError, Global};
 #[derive(Drop)]
 pub struct Table<'p> {
     scope: &'p Scope,
-    functions: IndexMap<&'p [u8], usize>,
-    modules: IndexMap<&'p [u8], usize>,
-    ghost of_functions: { map placed functions.entries ≡ tabled function_word (items scope.now.items) },
-    ghost of_modules: { map placed modules.entries ≡ tabled module_word (items scope.now.items) },
+    functions: NameMap<'p, usize>,
+    modules: NameMap<'p, usize>,
+    ghost of_functions: { map placed functions ≡ tabled function_word (items scope.now.items) },
+    ghost of_modules: { map placed modules ≡ tabled module_word (items scope.now.items) },
 }
 
 impl<'p> Table<'p> {

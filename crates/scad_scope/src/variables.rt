@@ -6,35 +6,35 @@ ghost use Rattle.scad_scope.specs.Assignments.{assigned, bindings};
 ghost use Rattle.scad_scope.specs.Notes.{noted, placed, as_binding};
 
 use crate::binding::{Binding, Bindings};
-use indexmap::IndexMap;
+use crate::name_map::NameMap;
 use scad_ast::{Item, Scope};
 use scad_fault::Text;
 use std::alloc::{AllocError, Global};
 
 /// Notes the item at a place: where it is an assignment, it is the last one to its name so far.
-#[tactic(auto, using(crate::proofs::Notes::placed_insert))]
-fn note<'p>(
-    last: &mut IndexMap<&'p [u8], usize>,
-    item: &'p Item,
-    place: usize,
-) -> Result<(), AllocError>
-    ensures { OnOk result (map placed last.new.entries
-        ≡ noted (map placed last.old.entries) place (assigned (item_of item.now))) }
+#[tactic(auto, using(crate::proofs::Notes::placed_put))]
+fn note<'p>(last: &mut NameMap<'p, usize>, item: &'p Item, place: usize) -> Result<(), AllocError>
+    ensures { OnOk result (map placed last.new
+        ≡ noted (map placed last.old) place (assigned (item_of item.now))) }
 {
     if let Item::Assign(name, _, _) = item {
-        last.insert(name.as_slice(), place)?;
+        last.put(name.as_slice(), place)?;
     }
     Ok(())
 }
 
 /// The names with their places, as a list.
-fn listed<'p>(alloc: Global, last: &IndexMap<&'p [u8], usize>) -> Result<Bindings, AllocError>
-    ensures { IfOk result (λ b. b ≡ map as_binding last.now.entries) }
+fn listed<'p>(alloc: Global, last: &NameMap<'p, usize>) -> Result<Bindings, AllocError>
+    ensures { IfOk result (λ b. b ≡ map as_binding last.now) }
 {
-    let mut list = Vec::with_capacity(alloc, last.len())?;
-    'names: for (name, item) in last.iter() {
-        let name = Text::of(alloc, name)?;
-        list.push(Binding { name, item: *item })?;
+    let entries = last.entries();
+    let mut list = Vec::with_capacity(alloc, entries.len())?;
+    'entries: for entry in entries {
+        let name = Text::of(alloc, entry.0)?;
+        list.push(Binding {
+            name,
+            item: entry.1,
+        })?;
     }
     Ok(Bindings::from_vec(list))
 }
@@ -45,7 +45,7 @@ fn listed<'p>(alloc: Global, last: &IndexMap<&'p [u8], usize>) -> Result<Binding
 pub fn bindings(alloc: Global, scope: &Scope) -> Result<Bindings, AllocError>
     ensures { IfOk result (λ b. b ≡ bindings (items scope.now.items)) }
 {
-    let mut last = IndexMap::new(alloc);
+    let mut last = NameMap::new(alloc);
     let mut place = 0;
     'items: for item in scope {
         note(&mut last, item, place)?;

@@ -10,6 +10,6 @@ pub returns : goal.returns
 returns c =
     let end = given-end (parameter_names c.args.params.now) c.values.unnamed
     (arguments (drop c.values.at c.args.args.now)) (data_of (into_iter_items c.values.value-iterator))
-    (map shown c.values.got.entries)
+    (map shown c.values.got)
     (ap data_of (nothing-left (into_iter_items c.values.value-iterator) (omega (arith, c.in-None.ensures.steps)))) in
     sym end ∙ c.values.invariant.0

@@ -9,6 +9,6 @@ use Rattle.scad_machine.proofs.parameters.given.Given as goal
 abbrev pub invariant-values : goal.invariant-values
 invariant-values l =
     (given_from (parameter_names l.params) l.unnamed (arguments (drop l.at l.args))
-    (data_of (into_iter_items l.value-iterator)) (map shown l.got.entries)
+    (data_of (into_iter_items l.value-iterator)) (map shown l.got)
     ≡ given (parameter_names l.params) (arguments l.args) (data_in l.fn.values))
     × (l.unnamed ≤ l.at) × (l.at ≤ length l.args)

@@ -5,6 +5,6 @@ use Rattle.scad_machine.proofs.parameters.missing.Given as goal
 
 abbrev pub invariant-parameters : goal.invariant-parameters
 invariant-parameters l =
-    map (λ p. parameter p.now) l.all.items ++ missing (map shown l.got.entries)
+    map (λ p. parameter p.now) l.all.items ++ missing (map shown l.got)
     (map parameter (drop l.p-index l.params))
-    ≡ missing (map shown l.got.entries) (map parameter l.params)
+    ≡ missing (map shown l.got) (map parameter l.params)

@@ -11,9 +11,9 @@ returns-in-Some c =
     (c.get-in-Some.ensures.lookup.0 ∙ ap (λ l. nat_lt c.in-Some.place.now (length l)) c.deref.ensures.value)
     (subst (λ l. IfSome c.get-in-Some.result (λ i. i.now ≡ get_or l c.in-Some.place.now i.now)) c.deref.ensures.value
     c.get-in-Some.ensures.lookup.1)
-    ∙ ap (option_and_then (item_at all)) (c.in-Some.ensures.value ∙ place-got c.args.name.now c.args.rows.now.entries)
+    ∙ ap (option_and_then (item_at all)) (c.in-Some.ensures ∙ place-got c.args.name.now c.args.rows.now)
 
 pub returns-in-None : goal.returns-in-None
 returns-in-None c =
     ap (option_and_then (item_at c.args.scope.now.items))
-    (c.in-None.ensures.value ∙ place-got c.args.name.now c.args.rows.now.entries)
+    (c.in-None.ensures ∙ place-got c.args.name.now c.args.rows.now)

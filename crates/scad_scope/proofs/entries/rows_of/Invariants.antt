@@ -5,6 +5,6 @@ use Rattle.scad_scope.specs.Tables.{word_in, words_by, tabled}
 use Rattle.scad_scope.proofs.entries.rows_of.Given as goal
 
 abbrev pub invariant-items : goal.invariant-items
-invariant-items l = (l.place ≡ l.item-index) × (noted_all (map placed l.rows.entries) l.place
+invariant-items l = (l.place ≡ l.item-index) × (noted_all (map placed l.rows) l.place
     (words_by (word_in l.kind) (items (drop l.item-index l.scope.items))) ≡ tabled (word_in l.kind)
     (items l.scope.items))

@@ -2,12 +2,12 @@ use Rattle.std.proofs.Common.{ap, sym, ◌∙◌, map}
 use Rattle.scad_ast.specs.Scope.{item_of}
 use Rattle.scad_scope.specs.Assignments.{assigned}
 use Rattle.scad_scope.specs.Notes.{with_place, noted, placed}
-use Rattle.scad_scope.proofs.Notes.{placed_insert}
+use Rattle.scad_scope.proofs.Notes.{placed_put}
 use Rattle.scad_scope.proofs.variables.note.Goals as goal
 
-pub returns-in_ok-insert : goal.returns-in_ok-insert
-returns-in_ok-insert c =
-    ap (map placed) c.in_ok-insert.ensures.entries
-    ∙ placed_insert c.as_slice.result c.args.place c.args.last.now.entries
-    ∙ ap (λ n. with_place n c.args.place (map placed c.args.last.now.entries)) c.as_slice.ensures
-    ∙ ap (λ i. noted (map placed c.args.last.now.entries) c.args.place (assigned (item_of i))) (sym c.in-Assign.is)
+pub returns-in_ok-put : goal.returns-in_ok-put
+returns-in_ok-put c =
+    ap (map placed) c.in_ok-put.ensures.put
+    ∙ placed_put c.as_slice.result c.args.place c.args.last.now
+    ∙ ap (λ n. with_place n c.args.place (map placed c.args.last.now)) c.as_slice.ensures
+    ∙ ap (λ i. noted (map placed c.args.last.now) c.args.place (assigned (item_of i))) (sym c.in-Assign.is)
