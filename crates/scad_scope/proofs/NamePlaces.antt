@@ -16,7 +16,9 @@ if-below : (i n : ℕ) → i < n → (if nat_lt i n then Some i else None) ≡ S
 if-below i n low = ap (λ b. if b then Some i else None) (lt-ltb i n low)
 
 if-past : (i n : ℕ) → n ≤ i → (if nat_lt i n then Some i else None) ≡ None
-if-past i n past = ap (λ b. if b then Some i else None) (false_from_ne_true (nat_lt i n) (λ e. let low = ltb-true i n e in omega (arith, past, low)))
+if-past i n past =
+    ap (λ b. if b then Some i else None)
+    (false_from_ne_true (nat_lt i n) (λ e. let low = ltb-true i n e in omega (arith, past, low)))
 
 module _ {A : Type 0} (word : A → List ℕ) where
   before-within : (name : List ℕ) (all : List A) → before word name all ≤ length all
@@ -47,7 +49,10 @@ module _ {A : Type 0} (word : A → List ℕ) where
           → None ≡ (if b then Some (before word name all) else None)
           → before word name all ≡ length all
       by true low told = absurd (false≢true (ap is_some told))
-      by false past told = let up = ltb-false _ _ past in let within = before-within name all in omega (arith, up, within)
+      by false past told =
+          let up = ltb-false _ _ past in
+          let within = before-within name all in
+          omega (arith, up, within)
 
   pub place-unfound : (name : List ℕ) (all : List A) → false ≡ is_some (place_in word name all)
       → before word name all ≡ length all
@@ -225,7 +230,8 @@ module _ {V : Type 0} where
   before-kept other name v (e ∷ es) low = by (before-kept other name v es) (is_same_name name.now e.0.now) low
     where
       by : (before name_in name.now es < length es
-          → (before name_in other (put_in es name v) ≡ before name_in other es) × (length (put_in es name v) ≡ length es))
+          → (before name_in other (put_in es name v) ≡ before name_in other es)
+          × (length (put_in es name v) ≡ length es))
           → (b : Bool) → (if b then 0 else suc (before name_in name.now es)) < length (e ∷ es)
           → (before name_in other (if b then (e.0, v) ∷ es else e ∷ put_in es name v) ≡ before name_in other (e ∷ es))
           × (length (if b then (e.0, v) ∷ es else e ∷ put_in es name v) ≡ length (e ∷ es))

@@ -26,4 +26,5 @@ place_in word name all = if nat_lt (before word name all) (length all) then Some
 
 -- a table has the place of each name, and of no other
 abbrev pub HasPlaces : {A K S : Type 0} → (A → List ℕ) → (K → List ℕ) → List A → HashMap K ℕ S → Type 0
-HasPlaces word key all places = (name : List ℕ) → get_by (λ k. is_same_name name (key k)) places ≡ place_in word name all
+HasPlaces word key all places =
+    (name : List ℕ) → get_by (λ k. is_same_name name (key k)) places ≡ place_in word name all

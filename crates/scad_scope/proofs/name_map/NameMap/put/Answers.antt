@@ -47,6 +47,7 @@ pub returns-clause-put : goal.returns-clause-put
 returns-clause-put g c =
     let es = c.self.inside.entries.items in
     let e : Bor (List ℕ) × g.row.V.Denot = (c.args.name, c.args.value) in
-    let none = place-untold name_in c.args.name.now es (c.in_default.ensures.value ∙ c.self.invariant c.args.name.now) in
+    let none = place-untold name_in c.args.name.now es
+    (c.in_default.ensures.value ∙ c.self.invariant c.args.name.now) in
     c.push_reserved.ensures.items ∙ ap (λ l. l ++ e ∷ []) c.in_ok-reserve.ensures.items
     ∙ put-last c.args.name c.args.value es none ∙ ap (λ l. put_in l c.args.name c.args.value) c.self.view_is
