@@ -4,7 +4,8 @@ use std::alloc::{AllocError, Global};
 use std::collections::HashMap;
 use std::marker::Model;
 
-/// Names that are lent, each with a value, in the order in which they were first put. Where a name stands is found by its hash.
+/// Names that are lent, each with a value, in the order in which they were first put. Where a name stands is found by its
+/// hash.
 #[derive(Drop)]
 pub struct NameMap<'p, V: Drop> {
     entries: Vec<(&'p [u8], V)>,
