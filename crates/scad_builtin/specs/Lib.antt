@@ -10,4 +10,5 @@ pub mod Numbers
 pub mod Strings
 pub mod Vectors
 -- What only the steps of the code promise to one another.
+pub mod Groups
 pub mod Ids

@@ -1,7 +1,8 @@
 -- The text of the next value goes behind those before it.
 use Rattle.std.proofs.Common.{◌≡◌, ◌+◌, ◌++◌, drop, ap, sym, ◌∙◌, append_assoc}
+use Rattle.std.proofs.lemmas.List.{append-nil}
 use Rattle.scad_value.specs.View.{datum_of, elements}
-use Rattle.scad_value.proofs.Rows.{elements-drop}
+use Rattle.scad_value.proofs.Rows.{elements-drop, elements-drop_all}
 use Rattle.scad_builtin.specs.Strings.{bare_text, joined_texts}
 use Rattle.scad_builtin.proofs.string.joined_texts.Goals as goal
 
@@ -15,3 +16,11 @@ loop-value-preserved c =
     rw c.in_ok-push_bare.ensures.ok (simp append_assoc) in
     pushed ∙ sym (ap (λ es. chars ++ joined_texts es)
     (elements-drop args i c.value-item.result c.loop-value-test.true c.value-item.is)) ∙ c.loop-value.invariant
+
+pub returns-clause-ok : goal.returns-clause-ok
+returns-clause-ok c =
+    let chars = c.loop-value.chars.items in
+    sym (append-nil chars)
+    ∙ ap (λ es. chars ++ joined_texts es)
+    (sym (elements-drop_all c.args.args.now c.loop-value.value-index c.loop-value-test.false))
+    ∙ c.loop-value.invariant
