@@ -269,6 +269,31 @@ pub call-set : (kept : Option StoredChildren) (here home : ℕ) (name : List ℕ
 call-set kept here home name d h n o e made =
     made ∙ ap (set_in_last name d) e ∙ set_in_last-opened name d kept here home (bound_in h) o
 
+-- ---- frames of a call with the names that it is given
+pub call-set_all : (kept : Option StoredChildren) (here home : ℕ) (all names : Names) (b : Bound) (o h n : Held)
+    → all ≡ names → h ≡ opened kept here home b o → n ≡ set_all_in_last all h
+    → n ≡ opened kept here home (set_all names b) o
+call-set_all kept here home all names b o h n are e made =
+    made ∙ ap (set_all_in_last all) e ∙ set_all_in_last-opened all kept here home b o
+    ∙ ap (λ ns. opened kept here home (set_all ns b) o) are
+
+-- defaults are sought where the definition stands
+pub call-opened : (kept : Option StoredChildren) (home : ℕ) (all names : Names) (b : Bound) (o h n g : Held)
+    → all ≡ names → h ≡ opened kept (length o.frames) home b o → n ≡ set_all_in_last all h
+    → g ≡ record n { here = home } → g ≡ opened kept home home (set_all names b) o
+call-opened kept home all names b o h n g are e made gone =
+    gone
+    ∙ ap {B = Held} (λ (x : Held). record x { here = home })
+    (call-set_all kept (length o.frames) home all names b o h n are e made)
+    ∙ gone-opened kept home (length o.frames) home (set_all names b) o
+
+pub call-inner : (kept : Option StoredChildren) (home inner : ℕ) (all names : Names) (b : Bound) (o h n : Held)
+    → all ≡ names → h ≡ opened kept (length o.frames) home b o → n ≡ set_all_in_last all h
+    → inner ≡ n.here → inner ≡ length o.frames
+unfolding opened
+call-inner kept home inner all names b o h n are e made is =
+    is ∙ ap (λ (x : Held). x.here) (call-set_all kept (length o.frames) home all names b o h n are e made)
+
 pub ruleset inner = (inner-env, inner-along, left-outer, set-inner, set-bound, set-outer)
 
 pub ruleset opening = (open-inner, open-bound, open-outer)
