@@ -7,6 +7,7 @@ use Rattle.std.specs.Cmp.{IsStrictWeakOrder}
 use Rattle.std.specs.List.{AllByRecursion}
 use Rattle.std.specs.List.Sorted.{IsSortedBy}
 use Rattle.std.proofs.lemmas.Int.{ints}
+use Rattle.std.proofs.lemmas.List.{drop_more, get_or_default}
 use Rattle.scad_geom.specs.declared.level.Level.{Level}
 use Rattle.scad_geom.specs.declared.level.LeafEdge.{LeafEdge}
 use Rattle.scad_geom.specs.Line.{low}
@@ -122,3 +123,29 @@ of_numbers edges at t (s ∷ ss) h e = (
   (h.0.there, ap (λ (y : ℤ). int_le (y *ℤ at.d) at.n) (sym h.0.y) ∙ e.0),
   of_numbers edges at t ss h.1 e.1,
 )
+
+-- ---- a start that has begun, and one that hasn't
+module _ (at : Level) (ss : List Start) (i : ℕ) (s : Start) (there : i < length ss) (read : s ≡ get_or ss i s) where
+  here : drop i ss ≡ s ∷ drop (i + 1) ss
+  here = drop_more ss i s there ∙ ap (λ (t : Start). t ∷ drop (i + 1) ss) (sym read)
+
+  pub read_again : (t : Start) → get_or ss i t ≡ s
+  read_again t = get_or_default ss i t s there ∙ sym read
+
+  module _ (begun : is_begun at s ≡ true) where
+    pub begun_on : begun_at at (drop i ss) ≡ s ∷ begun_at at (drop (i + 1) ss)
+    begun_on = ap (begun_at at) here
+        ∙ ap (λ (b : Bool). if b then s ∷ begun_at at (drop (i + 1) ss) else []) begun
+
+    pub pending_on : pending_at at (drop i ss) ≡ pending_at at (drop (i + 1) ss)
+    pending_on = ap (pending_at at) here
+        ∙ ap (λ (b : Bool). if b then pending_at at (drop (i + 1) ss) else s ∷ drop (i + 1) ss) begun
+
+  module _ (later : is_begun at s ≡ false) where
+    pub begun_until : begun_at at (drop i ss) ≡ []
+    begun_until = ap (begun_at at) here
+        ∙ ap (λ (b : Bool). if b then s ∷ begun_at at (drop (i + 1) ss) else []) later
+
+    pub pending_from : pending_at at (drop i ss) ≡ drop i ss
+    pending_from = ap (pending_at at) here
+        ∙ ap (λ (b : Bool). if b then pending_at at (drop (i + 1) ss) else s ∷ drop (i + 1) ss) later ∙ sym here

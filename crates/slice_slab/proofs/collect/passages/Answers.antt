@@ -10,6 +10,30 @@ use Rattle.slice_slab.proofs.Steps.{reaching_yes, reaching_no}
 use Rattle.slice_slab.proofs.collect.passages.Goals as goal
 use Rattle.slice_slab.proofs.collect.passages.Goals.{then-reaches_at+in_ok-push, else-reaches_at}
 
+pub reaches_at-requires-clause-within : goal.reaches_at-requires-clause-within
+reaches_at-requires-clause-within c = c.requires.within
+
+pub reaches_at-requires-clause-lower : goal.reaches_at-requires-clause-lower
+reaches_at-requires-clause-lower c = c.requires.lower
+
+pub reaches_at-requires-clause-upper : goal.reaches_at-requires-clause-upper
+reaches_at-requires-clause-upper c = c.requires.upper
+
+pub reaches_at-requires-clause-there : goal.reaches_at-requires-clause-there
+reaches_at-requires-clause-there c = c.edges-test.true
+
+pub passage-requires-clause-within : goal.passage-requires-clause-within
+passage-requires-clause-within c = c.requires.within
+
+pub passage-requires-clause-few : goal.passage-requires-clause-few
+passage-requires-clause-few c = c.requires.few
+
+pub passage-requires-clause-at : goal.passage-requires-clause-at
+passage-requires-clause-at c = c.requires.lower
+
+pub passage-requires-clause-rises : goal.passage-requires-clause-rises
+passage-requires-clause-rises c = c.reaches_at.ensures.rises c.if-reaches_at.true
+
 pub edges-preserved : goal.edges-preserved
 edges-preserved c =
     let es = c.args.edges.now in
@@ -42,3 +66,6 @@ pub returns-clause-numbers : goal.returns-clause-numbers
 returns-clause-numbers c =
     last_step (λ es. reaching c.edges.i es c.args.lower.now c.args.upper.now) _ _ c.args.edges.now c.edges.i refl
     c.edges-test.false c.edges.invariant.numbers
+
+pub returns-clause-passages : goal.returns-clause-passages
+returns-clause-passages c = c.edges.invariant.passages

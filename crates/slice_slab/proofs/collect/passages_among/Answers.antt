@@ -9,6 +9,27 @@ use Rattle.slice_slab.proofs.Loops.{mapped_step, put_step, pass_step, last_step,
 use Rattle.slice_slab.proofs.collect.passages_among.Goals as goal
 use Rattle.slice_slab.proofs.collect.passages_among.Goals.{then-reaches_at+in_ok-push, else-reaches_at+in_ok-push-2}
 
+pub reaches_at-requires-clause-within : goal.reaches_at-requires-clause-within
+reaches_at-requires-clause-within c = c.requires.within
+
+pub reaches_at-requires-clause-lower : goal.reaches_at-requires-clause-lower
+reaches_at-requires-clause-lower c = c.requires.lower
+
+pub reaches_at-requires-clause-upper : goal.reaches_at-requires-clause-upper
+reaches_at-requires-clause-upper c = c.requires.upper
+
+pub passage-requires-clause-within : goal.passage-requires-clause-within
+passage-requires-clause-within c = c.requires.within
+
+pub passage-requires-clause-few : goal.passage-requires-clause-few
+passage-requires-clause-few c = c.requires.few
+
+pub passage-requires-clause-at : goal.passage-requires-clause-at
+passage-requires-clause-at c = c.requires.lower
+
+pub passage-requires-clause-rises : goal.passage-requires-clause-rises
+passage-requires-clause-rises c = c.reaches_at.ensures.rises c.if-reaches_at.true
+
 pub numbers-preserved : goal.numbers-preserved
 numbers-preserved c =
     let es = c.args.edges.now in
@@ -59,3 +80,6 @@ pub returns-clause-others : goal.returns-clause-others
 returns-clause-others c =
     last_step (filter (λ k. not (reaches (edge_at c.args.edges.now k) c.args.lower.now c.args.upper.now))) _ _
     c.args.numbers.now c.numbers.k-index refl c.numbers-test.false c.numbers.invariant.others
+
+pub returns-clause-passages : goal.returns-clause-passages
+returns-clause-passages c = c.numbers.invariant.passages
