@@ -233,6 +233,27 @@ module _ (xs : List Cell) (c : Cell) (s : AreSound xs) (place : HasPlaceUnder xs
 
   -- the same of the cells that the code sees
   module _ (news : List Cell) (items : news ≡ all) where
+    pub parents_in : ParentsComeFirst news
+    parents_in = subst ParentsComeFirst (sym items) parents_more
+
+    pub operations_in : ParentsAreOperations news
+    operations_in = subst ParentsAreOperations (sym items) operations_more
+
+    pub bare_in_all : map bare news ≡ map bare xs ++ (c ∷ [])
+    bare_in_all = ap (map bare) items ∙ bare_more
+
+    pub all_out : AreOut xs → AreOut news
+    all_out out = subst AreOut (sym items) (out_more out)
+
+    pub reach_in : (p : ℕ) → c.parent ≡ p + 1 → p < length news
+    reach_in p parent = subst (λ (cs : List Cell). p < length cs) (sym items) (reach_more p parent)
+
+    pub few_in : (p : ℕ) → c.parent ≡ p + 1 → length news < 2 ^ 63 → (above : Cell) → above ≡ cell_at news p
+        → above.count + 1 < 2 ^ 64
+    few_in p parent few above e =
+        subst (λ (d : Cell). d.count + 1 < 2 ^ 64) (sym (e ∙ ap (λ (cs : List Cell). cell_at cs p) items))
+        (few_more p parent (subst (λ (cs : List Cell). length cs < 2 ^ 63) items few))
+
     pub settled_in : (c.parent ≡ 0) ⊎ (is_told c ≡ false) → AreSound news
     settled_in h = sound_by all news (ap (map bare) items) parents_more operations_more
         (subst AreCounted (sym items) (counted_more h))

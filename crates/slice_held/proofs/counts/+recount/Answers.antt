@@ -12,7 +12,52 @@ right_next : (cells : List Cell) (at count : ℕ) (cell next : Cell) → cell �
 right_next cells at count cell next is_cell is_next r =
     subst (IsRightFor cells at) (sym (is_next ∙ ap (counting count) is_cell)) r
 
--- src/counts.rt:23:9
+pub cell_at-cell-requires : goal.cell_at-cell-requires
+cell_at-cell-requires t c =
+    subst (λ (items : List Cell). c.args.at < length items) (sym c.deref.ensures.value) c.requires.there
+
+pub cell_at-above-requires : goal.cell_at-above-requires
+cell_at-above-requires t c =
+    let r = c.requires in
+    let cells = c.args.cells.now.items in
+    let at = c.args.at in
+    let cell = c.cell_at-cell.result in
+    let next = c.counting-next.result in
+    let is_cell = c.cell_at-cell.ensures ∙ ap (λ (items : List Cell). cell_at items at) c.deref.ensures.value in
+    let right = right_next cells at c.args.count cell next is_cell c.counting-next.ensures r.right in
+    subst (λ (items : List Cell). cell.parent - 1 < length items) (sym c.deref-then-cell-gt0.ensures.value)
+    (near cells at cell next r.there r.parents r.operations right is_cell
+    (sym c.is_changed.ensures ∙ c.if-is_changed.true) c.if-cell-gt0.true)
+
+pub moved-requires-clause-room : goal.moved-requires-clause-room
+moved-requires-clause-room t c up =
+    let r = c.requires in
+    let cells = c.args.cells.now.items in
+    let at = c.args.at in
+    let cell = c.cell_at-cell.result in
+    let next = c.counting-next.result in
+    let is_cell = c.cell_at-cell.ensures ∙ ap (λ (items : List Cell). cell_at items at) c.deref.ensures.value in
+    let right = right_next cells at c.args.count cell next is_cell c.counting-next.ensures r.right in
+    let is_above = c.cell_at-above.ensures ∙ ap (λ (items : List Cell). cell_at items
+    (cell.parent - 1)) c.deref-then-cell-gt0.ensures.value in
+    few_above cells at cell next r.there r.parents r.operations right is_cell
+    (sym c.is_changed.ensures ∙ c.if-is_changed.true) c.if-cell-gt0.true c.cell_at-above.result is_above r.few
+
+pub moved-requires-clause-some : goal.moved-requires-clause-some
+moved-requires-clause-some t c down =
+    let r = c.requires in
+    let cells = c.args.cells.now.items in
+    let at = c.args.at in
+    let cell = c.cell_at-cell.result in
+    let next = c.counting-next.result in
+    let is_cell = c.cell_at-cell.ensures ∙ ap (λ (items : List Cell). cell_at items at) c.deref.ensures.value in
+    let right = right_next cells at c.args.count cell next is_cell c.counting-next.ensures r.right in
+    let is_above = c.cell_at-above.ensures ∙ ap (λ (items : List Cell). cell_at items
+    (cell.parent - 1)) c.deref-then-cell-gt0.ensures.value in
+    some_above cells at cell next r.there r.parents r.operations right is_cell
+    (sym c.is_changed.ensures ∙ c.if-is_changed.true) c.if-cell-gt0.true c.cell_at-above.result is_above
+    (sym c.is_told.ensures ∙ down)
+
 pub recount-requires : goal.recount-requires
 recount-requires t c =
     let r = c.requires in
@@ -48,7 +93,9 @@ recount-requires t c =
       ),
     )
 
--- src/counts.rt:9:1
+pub returns-then-cell-gt0-clause-counted : goal.returns-then-cell-gt0-clause-counted
+returns-then-cell-gt0-clause-counted t c = c.recount.ensures.counted
+
 pub returns-then-cell-gt0-clause-rest : goal.returns-then-cell-gt0-clause-rest
 returns-then-cell-gt0-clause-rest t c =
     let r = c.requires in
@@ -68,7 +115,6 @@ returns-then-cell-gt0-clause-rest t c =
     (counting c.moved.result (cell_at (set cells at next) (cell.parent - 1))) c.recount.new.cells.items
     c.recount.ensures.rest)
 
--- src/counts.rt:9:1
 pub returns-else-is_changed-clause-counted : goal.returns-else-is_changed-clause-counted
 returns-else-is_changed-clause-counted t c =
     let r = c.requires in
@@ -80,7 +126,6 @@ returns-else-is_changed-clause-counted t c =
     (right_next cells c.args.at c.args.count cell next is_cell c.counting-next.ensures r.right) is_cell
     c.is_changed.result c.is_changed.ensures c.else-is_changed.either
 
--- src/counts.rt:9:1
 pub returns-else-is_changed-clause-rest : goal.returns-else-is_changed-clause-rest
 returns-else-is_changed-clause-rest t c =
     let r = c.requires in
