@@ -1,2 +1,3 @@
 pub mod RoundedProducts
+pub mod Sums
 pub mod Reflection

@@ -1,7 +1,8 @@
 -- How the first bad number of faces is found, and what follows where there is none.
-use Rattle.std.proofs.Common.{◌≡◌, ℕ, ◌+◌, ◌<◌, true, false, cond, ◌&&◌, List, [], ◌∷◌, ◌++◌, length, get_or, drop, map, Some, None, arith, refl, ap, ap₂, sym, ◌∙◌, nat_le, nat_lt, append_assoc}
+use Rattle.std.proofs.Common.{◌≡◌, ℕ, zero, suc, ◌+◌, ◌<◌, true, false, cond, ◌&&◌, List, [], ◌∷◌, ◌++◌, length, get_or, drop, map, Some, None, arith, refl, ap, ap₂, sym, ◌∙◌, nat_le, nat_lt, append_assoc}
 use Rattle.std.specs.List.{find, flat_map}
 use Rattle.std.specs.Option.{option_or}
+use Rattle.std.proofs.lemmas.Bool.{and_parts}
 use Rattle.std.proofs.lemmas.List.Folds.{find-append}
 use Rattle.std.proofs.lemmas.Bool.Decides.{nat_tests}
 use Rattle.std.proofs.lemmas.List.{at_drop_more}
@@ -34,6 +35,16 @@ module _ (count : ℕ) where
     where
       below : (k : ℕ) → nat_le count k ≡ false → nat_lt k count ≡ true
       below k t = grind (arith, nat_tests)
+
+  pub names_points-at : (face : List ℕ) (i : ℕ) → names_points count face ≡ true → i < length face → get_or face i 0
+      < count
+  names_points-at [] i all inside = absurd (omega arith)
+  names_points-at (k ∷ face) zero all inside = below (and_parts (nat_lt k count) (names_points count face) all).0
+    where
+      below : nat_lt k count ≡ true → k < count
+      below t = grind (arith, nat_tests)
+  names_points-at (k ∷ face) (suc i) all inside = names_points-at face i
+      (and_parts (nat_lt k count) (names_points count face) all).1 (omega arith)
 
   -- no bad number at all: none in the first face, and none in the others
   pub first_bad-none : (face : List ℕ) (faces : List (List ℕ)) → first_bad count (face ∷ faces) ≡ None

@@ -1,7 +1,10 @@
 pub mod Multiset
 pub mod SideOrder
 pub mod ClosedSides
+pub mod Collected
 pub mod Faces
+pub mod FanSteps
+pub mod BandSteps
 pub mod NextRings
 pub mod Heights
 pub mod InRange

@@ -1,10 +1,10 @@
 -- The rings of a list that a loop goes through: each is as long as the one before it, and its band follows those so far.
-use Rattle.std.proofs.Common.{◌≡◌, ℕ, ◌+◌, ◌<◌, true, ◌==◌, List, [], ◌∷◌, ◌++◌, append_assoc, length, get_or, drop, arith, ap, sym, ◌∙◌}
+use Rattle.std.proofs.Common.{◌≡◌, ℕ, ◌+◌, ◌<◌, ◌≤◌, true, ◌==◌, List, [], ◌∷◌, ◌++◌, append_assoc, length, get_or, drop, arith, ap, ap₂, sym, ◌∙◌}
 use Rattle.std.specs.List.{list_all}
 use Rattle.std.proofs.lemmas.Bool.{and_parts}
 use Rattle.std.proofs.lemmas.Bool.Decides.{nat_tests}
 use Rattle.std.proofs.lemmas.Grind.{flat_map-append}
-use Rattle.std.proofs.lemmas.List.{at_drop_more}
+use Rattle.std.proofs.lemmas.List.{append-nil, at_drop_all, at_drop_more}
 use Rattle.scad_geom.specs.declared.point3.Pt3.{Pt3}
 use Rattle.scad_solid.specs.declared.triangle.Triangle.{Triangle}
 use Rattle.scad_solid.specs.Solid.{fan, fans}
@@ -48,3 +48,18 @@ module _ (rings : List (List Pt3)) (i : ℕ) (upper next : List Pt3) (inside : i
       → new ++ fans (bands next (rest ++ last ∷ [])) ≡ all
   bands-more last old new all so_far more = fans-next old new (band upper next) (bands next (rest ++ last ∷ [])) more
       ∙ ap (λ ts. old ++ ts) (sym (front (λ rs. fans (bands upper (rs ++ last ∷ []))))) ∙ so_far
+
+-- where no ring is left
+module _ (rings : List (List Pt3)) (i : ℕ) (upper : List Pt3) (none : length rings ≤ i) where
+  pub faces_below-all : (face : List Pt3) (old new all : List Triangle)
+      → old ++ fans (faces_below upper (drop i rings)) ≡ all → face ≡ upper → new ≡ old ++ fan face → new ≡ all
+  faces_below-all face old new all so_far is more = more ∙ ap (λ ps. old ++ fan ps) is
+      ∙ ap (λ ts. old ++ ts) (sym (at_drop_all (λ rs. fans (faces_below upper rs)) rings i none
+      ∙ append-nil (fan upper))) ∙ so_far
+
+  pub bands-all : (above below last : List Pt3) (old new all : List Triangle)
+      → old ++ fans (bands upper (drop i rings ++ last ∷ [])) ≡ all → above ≡ upper → below ≡ last
+      → new ≡ old ++ fans (band above below) → new ≡ all
+  bands-all above below last old new all so_far is end more = more ∙ ap₂ (λ a b. old ++ fans (band a b)) is end
+      ∙ ap (λ ts. old ++ ts) (sym (at_drop_all (λ rs. fans (bands upper (rs ++ last ∷ []))) rings i none
+      ∙ ap fans (append-nil (band upper last)))) ∙ so_far

@@ -1,5 +1,6 @@
-use Rattle.std.proofs.Common.{length, ◌++◌, ap, ◌∙◌}
-use Rattle.scad_solid.specs.Solid.{fan}
+use Rattle.std.proofs.Common.{ℕ, List, length, map, ◌++◌, refl, ap, ◌∙◌}
+use Rattle.scad_solid.specs.Solid.{corners, fan, fans}
+use Rattle.scad_solid.proofs.Collected.{collected-all}
 use Rattle.scad_solid.proofs.Faces.{first_bad-none_at, names_points-found_none, fans-more}
 use Rattle.scad_solid.proofs.fans.fans.Goals as goal
 
@@ -18,3 +19,9 @@ loop-face-preserved c = record {
   named = (first_bad-none_at (length c.args.points.now) c.args.faces.now c.loop-face.face-index c.face-item.result
       c.loop-face-test.true c.face-item.is c.loop-face.invariant.named).1;
 }
+
+pub returns : goal.returns
+returns c =
+    let made = λ (faces : List (List ℕ)). fans (map (corners c.args.points.now) faces) in
+    collected-all made c.args.faces.now c.loop-face.face-index c.loop-face-test.false refl
+    c.loop-face.triangles.items (made c.args.faces.now) c.loop-face.invariant.made
