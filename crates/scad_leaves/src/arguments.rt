@@ -14,7 +14,7 @@ ghost use Rattle.scad_leaves.specs.Where.{moved};
 
 use crate::space::{Where, moved};
 use scad_fault::{FaultKind, Place};
-use scad_machine::{EvalFault, fault, named_fault};
+use scad_machine::{EvalFault, fault_at, named_fault};
 use scad_matrix::{Matrix, MatrixFault};
 use scad_modules::{ArgumentFault, Outline, Primitive, Resolution};
 use scad_num::Num;
@@ -27,7 +27,7 @@ fn argument_fault(alloc: Global, at: Place, name: &[u8], why: ArgumentFault) -> 
     match why {
         ArgumentFault::BadArgument => named_fault(alloc, FaultKind::BadArgument, at, name),
         ArgumentFault::LeftOut => named_fault(alloc, FaultKind::LeftOut, at, name),
-        ArgumentFault::NumberRange => fault(alloc, FaultKind::NumberRange, at),
+        ArgumentFault::NumberRange => fault_at(alloc, FaultKind::NumberRange, at),
         ArgumentFault::Memory => EvalFault::Memory,
     }
 }
@@ -142,6 +142,6 @@ pub fn moved_by(alloc: Global, at: Place, w: &Where, by: &Matrix) -> Result<Wher
 {
     match moved(w, by) {
         Ok(inner) => Ok(inner),
-        Err(MatrixFault::Range) => Err(fault(alloc, FaultKind::NumberRange, at)),
+        Err(MatrixFault::Range) => Err(fault_at(alloc, FaultKind::NumberRange, at)),
     }
 }

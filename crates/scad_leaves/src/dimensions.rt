@@ -6,7 +6,7 @@ ghost use Rattle.scad_leaves.specs.Products.{judge_solid, judge_flat};
 
 use crate::space::Space;
 use scad_fault::{FaultKind, Place};
-use scad_machine::{EvalFault, fault};
+use scad_machine::{EvalFault, fault_at};
 use std::alloc::Global;
 
 /// A solid, or an extrusion, stands outside of every extrusion alone: inside one it is refused by MixedDimensions.
@@ -16,8 +16,8 @@ pub fn judge_solid(alloc: Global, at: Place, space: Space) -> Result<(), EvalFau
 {
     match space {
         Space::Solid => Ok(()),
-        Space::Linear(_, _) => Err(fault(alloc, FaultKind::MixedDimensions, at)),
-        Space::Turned(_) => Err(fault(alloc, FaultKind::MixedDimensions, at)),
+        Space::Linear(_, _) => Err(fault_at(alloc, FaultKind::MixedDimensions, at)),
+        Space::Turned(_) => Err(fault_at(alloc, FaultKind::MixedDimensions, at)),
     }
 }
 
@@ -27,7 +27,7 @@ pub(crate) fn judge_flat(alloc: Global, at: Place, space: Space) -> Result<(), E
     ensures { (s : State) → Does nothing (judge_flat at space s) result s }
 {
     match space {
-        Space::Solid => Err(fault(alloc, FaultKind::MixedDimensions, at)),
+        Space::Solid => Err(fault_at(alloc, FaultKind::MixedDimensions, at)),
         Space::Linear(_, _) => Ok(()),
         Space::Turned(_) => Ok(()),
     }

@@ -23,7 +23,7 @@ use crate::profiles::keep_profile;
 use crate::space::{Space, Turning, Where};
 use scad_extrude::{FlatForm, linear, triangles_of, turned};
 use scad_fault::{BudgetKind, FaultKind, Place};
-use scad_machine::{EvalFault, Machine, fault, named_fault, over};
+use scad_machine::{EvalFault, Machine, fault_at, named_fault, over};
 use scad_matrix::Matrix;
 use scad_modules::{Outline, crosses_axis, points_in, profile_of, ring_of, turns_of};
 use scad_num::Num;
@@ -215,7 +215,7 @@ fn leaf_in<'p>(
     let whole = &w.whole;
     let leaf = FlatLeaf { at, shape, whole };
     match w.space {
-        Space::Solid => Err(fault(alloc, FaultKind::MixedDimensions, at)),
+        Space::Solid => Err(fault_at(alloc, FaultKind::MixedDimensions, at)),
         Space::Linear(height, center) => linear_leaf(alloc, leaf, height, center, m),
         Space::Turned(t) => turned_leaf(alloc, leaf, name, &t, m),
     }

@@ -15,7 +15,7 @@ ghost use Rattle.scad_machine.specs.State.{State};
 ghost use Rattle.scad_leaves.specs.Products.{count_leaf, count_triangles, placed, leaf};
 
 use scad_fault::{BudgetKind, FaultKind, Place};
-use scad_machine::{EvalFault, Machine, fault, over};
+use scad_machine::{EvalFault, Machine, fault_at, over};
 use scad_matrix::Matrix;
 use scad_modules::{Primitive, solid_of, triangles_of};
 use scad_shapes::ShapeFault;
@@ -84,8 +84,8 @@ pub(crate) fn placed(
 {
     match solid {
         Ok(triangles) => Ok(Tree::leaf(triangles)),
-        Err(ShapeFault::CoordinateRange) => Err(fault(alloc, FaultKind::CoordinateRange, at)),
-        Err(ShapeFault::NotClosed) => Err(fault(alloc, FaultKind::NotClosed, at)),
+        Err(ShapeFault::CoordinateRange) => Err(fault_at(alloc, FaultKind::CoordinateRange, at)),
+        Err(ShapeFault::NotClosed) => Err(fault_at(alloc, FaultKind::NotClosed, at)),
         Err(ShapeFault::Memory) => Err(EvalFault::Memory),
     }
 }

@@ -22,4 +22,4 @@ pub use invocation::{Callee, Invocation};
 pub use machine::{DEPTH_LIMIT, Machine, STEP_LIMIT};
 pub use names::are_named;
 pub use opening::Call;
-pub use refusals::{fault, named_fault, over};
+pub use refusals::{fault_at, named_fault, over};

@@ -7,7 +7,7 @@ use scad_fault::{Budget, BudgetKind, Fault, FaultKind, Place, Text};
 use std::alloc::Global;
 
 /// A fault without a name.
-pub fn fault(alloc: Global, kind: FaultKind, at: Place) -> EvalFault
+pub fn fault_at(alloc: Global, kind: FaultKind, at: Place) -> EvalFault
     ensures { result ≡ EvalFault.Fault (record { kind = kind; at = at; name = [] }) }
 {
     EvalFault::Fault(Fault {

@@ -15,7 +15,7 @@ use crate::operation::Bounds;
 use scad_ast::{BinOp, UnOp};
 use scad_builtin::{BuiltinFault, call};
 use scad_fault::{FaultKind, Place};
-use scad_machine::{EvalFault, Machine, fault, named_fault};
+use scad_machine::{EvalFault, Machine, fault_at, named_fault};
 use scad_num::Num;
 use scad_value::{Value, ValueFault, binary, index, unary};
 use std::alloc::{AllocError, Global};
@@ -48,8 +48,8 @@ pub fn binary_at<'p>(
 {
     match binary(alloc, kind, a, b) {
         Ok(value) => m.make(at, value),
-        Err(ValueFault::ZeroDivisor) => Err(fault(alloc, FaultKind::ZeroDivisor, at)),
-        Err(ValueFault::NumberRange) => Err(fault(alloc, FaultKind::NumberRange, at)),
+        Err(ValueFault::ZeroDivisor) => Err(fault_at(alloc, FaultKind::ZeroDivisor, at)),
+        Err(ValueFault::NumberRange) => Err(fault_at(alloc, FaultKind::NumberRange, at)),
         Err(ValueFault::Memory) => Err(EvalFault::Memory),
     }
 }
@@ -104,8 +104,8 @@ pub(crate) fn refusal(alloc: Global, at: Place, name: &[u8], e: BuiltinFault) ->
         BuiltinFault::UnknownFunction => named_fault(alloc, FaultKind::UnknownFunction, at, name),
         BuiltinFault::LeftOut => named_fault(alloc, FaultKind::LeftOut, at, name),
         BuiltinFault::BadArgument => named_fault(alloc, FaultKind::BadArgument, at, name),
-        BuiltinFault::ZeroDivisor => fault(alloc, FaultKind::ZeroDivisor, at),
-        BuiltinFault::NumberRange => fault(alloc, FaultKind::NumberRange, at),
+        BuiltinFault::ZeroDivisor => fault_at(alloc, FaultKind::ZeroDivisor, at),
+        BuiltinFault::NumberRange => fault_at(alloc, FaultKind::NumberRange, at),
         BuiltinFault::Memory => EvalFault::Memory,
     }
 }
@@ -180,7 +180,7 @@ fn range_of(alloc: Global, at: Place, a: Num, s: Num, b: Num) -> Result<Value, E
     ensures { (st : State) → Does datum_of (ranged at (number a) (number s) (number b) st) result st }
 {
     if s.millionths() == 0 {
-        Err(fault(alloc, FaultKind::ZeroStep, at))
+        Err(fault_at(alloc, FaultKind::ZeroStep, at))
     } else {
         Ok(Value::Range(a, s, b))
     }

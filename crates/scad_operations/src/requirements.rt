@@ -12,7 +12,7 @@ ghost use Rattle.scad_operations.specs.Condition.{first_after, test_by};
 
 use scad_ast::Arg;
 use scad_fault::{FaultKind, Place};
-use scad_machine::{EvalFault, are_named, fault, named_fault};
+use scad_machine::{EvalFault, are_named, fault_at, named_fault};
 use scad_value::{Value, truth};
 use std::alloc::Global;
 
@@ -104,7 +104,7 @@ fn tested(alloc: Global, at: Place, test: Option<&Value>) -> Result<(), EvalFaul
             if truth(value) {
                 Ok(())
             } else {
-                Err(fault(alloc, FaultKind::AssertFailed, at))
+                Err(fault_at(alloc, FaultKind::AssertFailed, at))
             }
         }
     }
