@@ -10,7 +10,7 @@ mod Stopping
 mod Shifting
 mod Taking
 mod Valuing
-mod Sought
+mod StrandSearch
 mod Placing
 mod Onward
 mod Covering
