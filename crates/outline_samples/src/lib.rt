@@ -5,6 +5,8 @@
 #[cfg(test)]
 mod cases;
 #[cfg(test)]
+mod grid;
+#[cfg(test)]
 mod levels;
 #[cfg(test)]
 mod loops;

@@ -40,7 +40,10 @@ fn push_outline(edges: &mut Vec<LeafEdge>, leaf: u32, dice: &mut Dice) -> Result
 }
 
 // Three or four leaves of an outline each.
-pub(crate) fn roll_edges(alloc: Global, dice: &mut Dice) -> Result<Vec<LeafEdge>, AllocError>
+pub(crate) fn roll_leaf_outlines(
+    alloc: Global,
+    dice: &mut Dice,
+) -> Result<Vec<LeafEdge>, AllocError>
     ensures { IfOk result (λ v. All (λ e. IsEdgeWithin coordinate_limit e.edge) v.items) }
 {
     let mut edges = Vec::new(alloc);
@@ -134,7 +137,7 @@ impl Told {
 }
 
 fn tell_border(alloc: Global, dice: &mut Dice, told: &mut Told) -> Option<()> {
-    let edges = roll_edges(alloc, dice).ok()?;
+    let edges = roll_leaf_outlines(alloc, dice).ok()?;
     let shape = roll_shape(alloc, dice).ok()?;
     let border = pieces(alloc, &edges, &shape, 100).ok()?;
     told.tell(border.len() as u64);

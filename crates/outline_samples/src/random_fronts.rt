@@ -1,55 +1,20 @@
 //! Random edges, many of them collinear, doubled, flat, empty or through one point.
-ghost use Rattle.std.specs.Prelude.{◌+◌, ◌<◌, ◌≤◌, ◌^◌, length, OnOk, IfOk, All, unsigned_abs};
+ghost use Rattle.std.specs.Prelude.{◌+◌, ◌<◌, ◌≤◌, ◌^◌, length, OnOk, IfOk, All};
 ghost use Rattle.scad_geom.specs.Limits.{coordinate_limit};
-ghost use Rattle.scad_geom.specs.Within.{IsWithin, IsEdgeWithin};
+ghost use Rattle.scad_geom.specs.Within.{IsEdgeWithin};
 ghost use Rattle.scad_geom.specs.Level.{IsLevelWithin};
 ghost use Rattle.slice_events.specs.Levels.{AreLevels};
 ghost use Rattle.slice_sweep.specs.Front.{IsReadyFor};
 ghost use Rattle.slice_bool.specs.Parts.{level_at};
 
+use crate::grid::Grid;
 use sample_dice::Dice;
-use scad_geom::{Edge, LeafEdge, Level, Pt};
+use scad_geom::{Edge, LeafEdge, Level};
 use slice_events::levels;
 use slice_slab::{Bundle, slab};
 use slice_sweep::Front;
 use std::alloc::{AllocError, AllocGlobal, Global};
 use std::process::Abort;
-
-// The points of a grid: so many a side, near to one another or far apart.
-#[derive(Clone, Copy)]
-struct Grid {
-    side: u32,
-    is_wide: bool,
-    ghost some: { 0 < side },
-    ghost few: { side ≤ 10 },
-}
-
-impl Grid {
-    fn roll(dice: &mut Dice) -> Grid {
-        let side = 2 + dice.roll(8);
-        let is_wide = dice.roll(2) == 1;
-        Grid { side, is_wide }
-    }
-
-    fn roll_coordinate(&self, dice: &mut Dice) -> i32
-        ensures { unsigned_abs result ≤ coordinate_limit }
-    {
-        let k = dice.roll(self.side) as i32;
-        if self.is_wide {
-            1_000_000 - k * 200_000
-        } else {
-            1_000_000 - k
-        }
-    }
-
-    fn roll_point(&self, dice: &mut Dice) -> Pt
-        ensures { IsWithin coordinate_limit result }
-    {
-        let x = self.roll_coordinate(dice);
-        let y = self.roll_coordinate(dice);
-        Pt { x, y }
-    }
-}
 
 // So many edges, or up to so many more.
 fn roll_edges(
@@ -64,7 +29,7 @@ fn roll_edges(
 {
     let mut edges = Vec::new(alloc);
     let count = least + dice.roll(more);
-    let grid = Grid::roll(dice);
+    let grid = Grid::roll_downwards(dice);
     'edges: for _i in 0..count {
         let a = grid.roll_point(dice);
         let b = grid.roll_point(dice);

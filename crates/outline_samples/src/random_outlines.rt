@@ -1,11 +1,12 @@
 //! Outlines by the sweep that keeps what doesn't change, beside those from all pieces of the border: of random closed
 //! outlines, many of whose sides are collinear, doubled, flat, empty or through one point.
-ghost use Rattle.std.specs.Prelude.{◌≡◌, ◌++◌, ◌<◌, ◌≤◌, map, OnOk, IfOk, All, unsigned_abs};
+ghost use Rattle.std.specs.Prelude.{◌≡◌, ◌++◌, ◌<◌, ◌≤◌, map, OnOk, IfOk, All};
 ghost use Rattle.scad_geom.specs.Limits.{coordinate_limit};
 ghost use Rattle.scad_geom.specs.Within.{IsWithin, IsEdgeWithin};
 ghost use Rattle.scad_geom.specs.Leaves.{AreLeavesBalanced};
 ghost use Rattle.scad_tree.specs.Sections.{leaf_edge};
 
+use crate::grid::Grid;
 use plan_sides::sides;
 use sample_dice::Dice;
 use scad_geom::{Edge, LeafEdge, Loop, Pt, Shape};
@@ -15,42 +16,6 @@ use std::slice::from_ref;
 
 // More edges than any of the lists has.
 const EDGE_LIMIT: u32 = 1000;
-
-// The points of a grid: so many a side, 1, 7 or 100,000 micrometres apart by its kind.
-#[derive(Clone, Copy)]
-struct Grid {
-    side: u32,
-    kind: u32,
-    ghost some: { 0 < side },
-    ghost few: { side ≤ 10 },
-}
-
-impl Grid {
-    fn roll(dice: &mut Dice) -> Grid {
-        let side = 2 + dice.roll(9);
-        let kind = dice.roll(3);
-        Grid { side, kind }
-    }
-
-    fn roll_coordinate(&self, dice: &mut Dice) -> i32
-        ensures { unsigned_abs result ≤ coordinate_limit }
-    {
-        let k = dice.roll(self.side) as i32;
-        match self.kind {
-            0 => k - 500_000,
-            1 => k * 7 - 500_000,
-            _ => k * 100_000 - 500_000,
-        }
-    }
-
-    fn roll_point(&self, dice: &mut Dice) -> Pt
-        ensures { IsWithin coordinate_limit result }
-    {
-        let x = self.roll_coordinate(dice);
-        let y = self.roll_coordinate(dice);
-        Pt { x, y }
-    }
-}
 
 fn roll_polygon(alloc: Global, dice: &mut Dice, grid: &Grid) -> Result<Loop, AllocError>
     ensures { IfOk result (λ l. All (IsWithin coordinate_limit) l) }
@@ -152,14 +117,14 @@ fn push_outline(
 }
 
 // The sides of up to so many outlines, some of them twice.
-fn roll_edges(alloc: Global, dice: &mut Dice, most: u32) -> Result<Vec<LeafEdge>, AllocError>
+fn roll_sides(alloc: Global, dice: &mut Dice, most: u32) -> Result<Vec<LeafEdge>, AllocError>
     requires some { 0 < most }
     requires few { most ≤ 1000 }
     ensures within { IfOk result (λ v. All (λ e. IsEdgeWithin coordinate_limit e.edge) v.items) }
     ensures balanced { IfOk result (λ v. AreLeavesBalanced v.items) }
 {
     let mut edges = Vec::new(alloc);
-    let grid = Grid::roll(dice);
+    let grid = Grid::roll_upwards(dice);
     let count = 1 + dice.roll(most);
     'outlines: for _i in 0..count {
         push_outline(alloc, &mut edges, dice, &grid)?;
@@ -239,7 +204,7 @@ fn compare(alloc: Global, seed: u64, most: u32) -> Result<bool, AllocError>
     requires few { most ≤ 1000 }
 {
     let mut dice = Dice::of_seed(seed);
-    let edges = roll_edges(alloc, &mut dice, most)?;
+    let edges = roll_sides(alloc, &mut dice, most)?;
     let shape = roll_shape(alloc, &mut dice)?;
     Ok(are_outlines_same(alloc, &edges, &shape))
 }

@@ -7,7 +7,7 @@ ghost use Rattle.slice_events.specs.Levels.{AreLevels};
 ghost use Rattle.slice_slab.specs.Active.{IsReadyFor, StandsAt};
 ghost use Rattle.slice_bool.specs.Parts.{level_at};
 
-use crate::random_borders::roll_edges;
+use crate::random_borders::roll_leaf_outlines;
 use sample_dice::Dice;
 use scad_geom::{LeafEdge, Level};
 use slice_events::levels;
@@ -66,7 +66,7 @@ fn are_like_slabs(alloc: Global, edges: &[LeafEdge], levels: &[Level]) -> Result
 // Whether the random edges of a seed have more than three levels, and those bundles above each.
 fn is_seed_like_slabs(alloc: Global, seed: u64) -> Option<bool> {
     let mut dice = Dice::of_seed(seed);
-    let edges = roll_edges(alloc, &mut dice).ok()?;
+    let edges = roll_leaf_outlines(alloc, &mut dice).ok()?;
     if edges.len() >= 100 {
         return None;
     }

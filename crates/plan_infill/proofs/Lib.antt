@@ -7,7 +7,7 @@ pub mod RowReach
 pub mod StepOrder
 pub mod Edges
 pub mod Stretches
-pub mod Swept
+pub mod StepSums
 pub mod DeepRuns
 pub mod AllRuns
 pub mod Beyond

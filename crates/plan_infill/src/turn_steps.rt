@@ -8,7 +8,7 @@ ghost use Rattle.plan_infill.specs.declared.line.Line.TheVariants.{Row, Column};
 ghost use Rattle.plan_infill.specs.Steps.{Adds, AreTurnSteps};
 ghost use Rattle.plan_infill.specs.Runs.{IsLineWithin};
 ghost use Rattle.plan_infill.specs.Quotient.{IsCeiling};
-ghost use Rattle.plan_infill.specs.Columns.{heading, heights_of, IsPositivePart, IsLastPart, IsFirstPart, IsClamped, IsStretchWithin};
+ghost use Rattle.plan_infill.specs.Columns.{edge_turn, heights_of, IsPositivePart, IsLastPart, IsFirstPart, IsClamped, IsStretchWithin};
 
 use crate::line::Line;
 use crate::quotient::{ceiling, floor};
@@ -38,7 +38,7 @@ fn push_on_row(steps: &mut Vec<Step>, e: &Edge, y: i32) -> Result<(), AllocError
     ensures { OnOk result (Adds (AreTurnSteps (Row y) e.now) steps.old.items steps.new.items) }
 {
     if low(e).y <= y && y < high(e).y {
-        steps.push(Step::of_turns(crossing(e, y), -heading(e)))?;
+        steps.push(Step::of_turns(crossing(e, y), -edge_turn(e)))?;
     }
     Ok(())
 }
@@ -56,8 +56,8 @@ fn crossing(e: &Edge, y: i32) -> i128
 }
 
 // -1 for an edge that runs downwards, else 1.
-fn heading(e: &Edge) -> i128
-    ensures value { result ≡ heading e.now }
+fn edge_turn(e: &Edge) -> i128
+    ensures value { result ≡ edge_turn e.now }
     ensures size { unsigned_abs result ≤ 1 }
 {
     if e.b.y < e.a.y { -1 } else { 1 }
@@ -70,8 +70,8 @@ fn push_on_column(steps: &mut Vec<Step>, e: &Edge, x: i32) -> Result<(), AllocEr
     ensures { OnOk result (Adds (AreTurnSteps (Column x) e.now) steps.old.items steps.new.items) }
 {
     let part = right_part(e, x);
-    steps.push(Step::of_turns(part.from, heading(e)))?;
-    steps.push(Step::of_turns(part.until, -heading(e)))?;
+    steps.push(Step::of_turns(part.from, edge_turn(e)))?;
+    steps.push(Step::of_turns(part.until, -edge_turn(e)))?;
     Ok(())
 }
 

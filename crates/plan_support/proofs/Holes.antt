@@ -24,7 +24,7 @@ use Rattle.plan_support.specs.On.{has_place, is_on}
 use Rattle.plan_support.specs.Spans.{point_at, IsWound}
 use Rattle.plan_support.specs.Near.{IsPlace, AreNear, AreHoles}
 use Rattle.plan_support.proofs.Canonical.{run_there, place_on}
-use Rattle.plan_support.proofs.Wound.{deep_if}
+use Rattle.plan_support.proofs.WoundStretches.{deep_if}
 use Rattle.plan_support.proofs.Wholly.{start_of, end_of}
 use Rattle.plan_support.proofs.HeightRows.{same_height, other_height}
 use Rattle.scad_geom.proofs.Rising.{by_order, order}

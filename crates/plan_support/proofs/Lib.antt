@@ -3,7 +3,7 @@ pub mod Stretches
 pub mod HeightRows
 pub mod Extents
 pub mod Multiples
-pub mod Wound
+pub mod WoundStretches
 pub mod LineRows
 mod Examples
 mod CoverExamples

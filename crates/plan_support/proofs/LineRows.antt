@@ -21,7 +21,7 @@ use Rattle.plan_support.specs.Spans.{IsSpanned, AreSpans, row_of}
 use Rattle.plan_support.proofs.Multiples.{multiples_apart}
 use Rattle.plan_support.proofs.Stretches.{no_stretches, stand_apart}
 use Rattle.plan_support.proofs.HeightRows.{none_above, others_stay, last_row, own_row, upwards_push}
-use Rattle.plan_support.proofs.Wound.{spanned_runs}
+use Rattle.plan_support.proofs.WoundStretches.{spanned_runs}
 
 -- the rows that have stretches are rows whose runs stand apart
 pub rows_apart : (Holds : ℤ → ℤ → Type 0) (rows : List Row) → AreRowsOf Holds 0 rows

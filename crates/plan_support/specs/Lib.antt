@@ -1,5 +1,4 @@
 -- What the public calls promise.
-pub mod Lists
 pub mod Stretches
 pub mod Rows
 pub mod Multiple
@@ -14,3 +13,4 @@ pub mod Shares
 pub mod Free
 pub mod Near
 pub mod Unite
+pub mod Lists

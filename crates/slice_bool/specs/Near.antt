@@ -36,7 +36,7 @@ pub record AreFlats (edges : List LeafEdge) (at : Level) (flats : List ℕ) : Ty
   pub there : All (λ k. k < length edges) flats
 
 -- what was found is that of the level: the edges that meet it are asked for where there are flat ones
-pub record IsNear (edges : List LeafEdge) (at : Level) (near : Near) : Type 0 where
+pub record AreEdgesNear (edges : List LeafEdge) (at : Level) (near : Near) : Type 0 where
   pub flats : AreFlats edges at near.flats.items
   pub touching : 0 < length near.flats.items → near.touching.items ≡ touching_at edges at
   pub within : 0 < length near.flats.items → All (λ e. IsEdgeWithin coordinate_limit e.edge) near.touching.items

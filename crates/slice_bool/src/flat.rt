@@ -4,7 +4,7 @@ ghost use Rattle.scad_geom.specs.Limits.{coordinate_limit};
 ghost use Rattle.scad_geom.specs.Level.{IsLevelWithin};
 ghost use Rattle.slice_bool.specs.Pieces.{flat_pieces};
 ghost use Rattle.slice_bool.specs.Stops.{spots_in};
-ghost use Rattle.slice_bool.specs.Near.{AreFlats, IsNear};
+ghost use Rattle.slice_bool.specs.Near.{AreFlats, AreEdgesNear};
 ghost use Rattle.slice_bool.specs.BothSides.{AreSides};
 ghost use Rattle.slice_bool.specs.Parts.{AreOnLevel, Extends};
 ghost use Rattle.slice_bool.specs.Along.{AreAlong, covered_piece};
@@ -29,7 +29,7 @@ pub(crate) fn push_flat_pieces(
     at: &Level,
 ) -> Result<(), AllocError>
     requires at { IsLevelWithin coordinate_limit at.now }
-    requires near { IsNear sweep.now.edges.now at.now near.now }
+    requires near { AreEdgesNear sweep.now.edges.now at.now near.now }
     requires sides { AreSides sweep.now.edges.now sweep.now.shape.now at.now sides.now }
     ensures { OnOk result
         (Extends (AreOnLevel sweep.now.edges.now sweep.now.shape.now at.now) out.old.items out.new.items) }
@@ -48,7 +48,7 @@ fn push_covered(
     at: &Level,
 ) -> Result<(), AllocError>
     requires at { IsLevelWithin coordinate_limit at.now }
-    requires near { IsNear sweep.now.edges.now at.now near.now }
+    requires near { AreEdgesNear sweep.now.edges.now at.now near.now }
     requires flats { 0 < length near.now.flats.items }
     requires sides { AreSides sweep.now.edges.now sweep.now.shape.now at.now sides.now }
     ensures { OnOk result

@@ -7,7 +7,7 @@ ghost use Rattle.scad_geom.specs.Level.{IsLevelWithin};
 ghost use Rattle.slice_slab.specs.Bundles.{edge_at};
 ghost use Rattle.slice_slab.specs.Touching.{touching};
 ghost use Rattle.slice_bool.specs.Pieces.{is_flat_at};
-ghost use Rattle.slice_bool.specs.Near.{picked, IsNear};
+ghost use Rattle.slice_bool.specs.Near.{picked, AreEdgesNear};
 
 use crate::stops::is_flat_at;
 use scad_geom::{LeafEdge, Level};
@@ -30,7 +30,7 @@ pub(crate) fn edges_near(
     requires within { All (λ e. IsEdgeWithin coordinate_limit e.edge) edges.now }
     requires at { IsLevelWithin coordinate_limit at.now }
     requires numbers { IsPermutation (touching 0 edges.now at.now) numbers.now }
-    ensures { IfOk result (IsNear edges.now at.now) }
+    ensures { IfOk result (AreEdgesNear edges.now at.now) }
 {
     let flats = flats(alloc, edges, numbers, at)?;
     if flats.is_empty() {
@@ -54,7 +54,7 @@ fn near_ascending(
     requires within { All (λ e. IsEdgeWithin coordinate_limit e.edge) edges.now }
     requires at { IsLevelWithin coordinate_limit at.now }
     requires numbers { numbers.now ≡ touching 0 edges.now at.now }
-    ensures { IfOk result (IsNear edges.now at.now) }
+    ensures { IfOk result (AreEdgesNear edges.now at.now) }
 {
     let flats = flats(alloc, edges, numbers, at)?;
     let touching = edges_of(alloc, edges, numbers)?;

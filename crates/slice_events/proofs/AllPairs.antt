@@ -24,7 +24,7 @@ use Rattle.scad_geom.specs.Heights.{meetings, heights}
 use Rattle.scad_geom.proofs.Balance.{once}
 use Rattle.scad_geom.proofs.Heights.{lean_turned, meets_turned, meeting_is, meeting_turned}
 use Rattle.slice_events.specs.declared.stay.Stay.{Stay}
-use Rattle.slice_events.specs.declared.found.Found.{Found}
+use Rattle.slice_events.specs.declared.comparison.Found.{Found}
 use Rattle.slice_events.specs.Levels.{share_end, crosses, crossings, HasHeight}
 use Rattle.slice_events.specs.Lines.{edges_of_leaves}
 use Rattle.slice_events.specs.Boxes.{boxes_meet, comparisons}

@@ -5,7 +5,7 @@ use Rattle.std.proofs.lemmas.List.{drop_more}
 use Rattle.std.proofs.lemmas.List.Elements.{recursion_from_All, All-from_recursion, All-drop}
 use Rattle.scad_geom.specs.declared.point.Edge.{Edge}
 use Rattle.slice_events.specs.declared.stay.Stay.{Stay}
-use Rattle.slice_events.specs.declared.found.Found.{Found}
+use Rattle.slice_events.specs.declared.comparison.Found.{Found}
 use Rattle.slice_events.specs.Boxes.{boxes_meet}
 use Rattle.slice_events.specs.Stays.{comes_before, AreInOrder, IsStayOf, at_home}
 use Rattle.slice_events.specs.Yields.{Yield, and_then, yield_at, yield_with, HasRoom, HasYielded, IsLeft}

@@ -13,7 +13,7 @@ use Rattle.scad_geom.specs.declared.level.LeafEdge.{LeafEdge}
 use Rattle.scad_geom.specs.Line.{low, high}
 use Rattle.slice_events.specs.declared.line.Line.{Line}
 use Rattle.slice_events.specs.declared.stay.Stay.{Stay}
-use Rattle.slice_events.specs.declared.found.Found.{Found}
+use Rattle.slice_events.specs.declared.comparison.Found.{Found}
 use Rattle.slice_events.specs.Boxes.{left_end}
 use Rattle.slice_events.specs.Lines.{edges_in, edges_of_leaves}
 use Rattle.slice_events.specs.Stays.{bucket_of, later_stays, stays_of, all_stays, edge_at, IsStayOf}

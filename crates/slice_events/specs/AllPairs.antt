@@ -4,7 +4,7 @@ use Rattle.std.specs.List.{AllByRecursion}
 use Rattle.scad_geom.specs.declared.level.Level.{Level}
 use Rattle.scad_geom.specs.declared.level.LeafEdge.{LeafEdge}
 use Rattle.scad_geom.specs.Heights.{heights}
-use Rattle.slice_events.specs.declared.found.Found.{Found}
+use Rattle.slice_events.specs.declared.comparison.Found.{Found}
 use Rattle.slice_events.specs.Limits.{crossing_limit}
 use Rattle.slice_events.specs.Levels.{HasHeight, crossings}
 use Rattle.slice_events.specs.Boxes.{comparisons}

@@ -4,7 +4,7 @@ use Rattle.scad_geom.specs.declared.point.Edge.{Edge}
 use Rattle.scad_geom.specs.declared.level.Level.{Level}
 use Rattle.scad_geom.specs.Meeting.{meeting}
 use Rattle.slice_events.specs.declared.stay.Stay.{Stay}
-use Rattle.slice_events.specs.declared.found.Found.{Found}
+use Rattle.slice_events.specs.declared.comparison.Found.{Found}
 use Rattle.slice_events.specs.Limits.{crossing_limit}
 use Rattle.slice_events.specs.Levels.{crosses}
 use Rattle.slice_events.specs.KeptHeights.{is_kept}

@@ -6,7 +6,7 @@ ghost use Rattle.slice_events.specs.Boxes.{left_end, right_end, boxes_meet};
 ghost use Rattle.slice_events.specs.Stays.{edge_at, IsStayOf, are_at_home, at_home, lies_past, AreInOrder};
 ghost use Rattle.slice_events.specs.Yields.{yield_at, yield_of_first, yield_with, yield_among, HasRoom, HasYielded};
 
-use crate::found::{Found, compare};
+use crate::comparison::{Found, compare};
 use crate::line::Line;
 use crate::stay::{Stay, left_end};
 use scad_geom::Edge;

@@ -11,9 +11,9 @@ ghost use Rattle.slice_events.specs.Collection.{levels_in};
 ghost use Rattle.slice_events.specs.AllPairs.{IsEmpty, IsFoundOf, AreOtherHeights};
 
 use crate::buckets::compare_all;
+use crate::comparison::Found;
 use crate::distinct::{distinct, sort};
 use crate::ends::push_ends;
-use crate::found::Found;
 use crate::height::Height;
 use crate::lines::lines_of;
 use crate::stay::{bucket_height, stays};

@@ -5,10 +5,10 @@
 #![tactic(auto, using(scad_geom::proofs::Casts::casts))]
 
 mod buckets;
+mod comparison;
 mod distinct;
 mod ends;
 mod events;
-mod found;
 mod height;
 pub mod laws;
 mod line;

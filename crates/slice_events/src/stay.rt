@@ -7,9 +7,12 @@ ghost use Rattle.slice_events.specs.Lines.{edges_in};
 ghost use Rattle.slice_events.specs.Stays.{bucket_of, later_stays, stays_of, all_stays, stay_cmp, AreInOrder};
 
 use crate::line::Line;
-use scad_geom::Edge;
+use scad_geom::{COORDINATE_LIMIT, Edge};
 use std::alloc::{AllocError, Global};
 use std::cmp::Ordering;
+
+// The greatest rise of an edge, in size.
+const RISE_LIMIT: u32 = 2 * COORDINATE_LIMIT;
 
 /// An edge in one of the buckets that it reaches.
 #[derive(Clone, Copy)]
@@ -112,7 +115,7 @@ fn bucket_of(tall: u32, y: i32) -> u32
     ensures value { result ≡ bucket_of tall y }
     ensures size { result < 2 ^ 31 }
 {
-    (y + 1_100_000).unsigned_abs() / tall
+    (y + COORDINATE_LIMIT as i32).unsigned_abs() / tall
 }
 
 /// The mean rise of the edges: by buckets of this height they have at most about three stays each, taken together. Lower
@@ -122,7 +125,7 @@ pub(crate) fn bucket_height(lines: &[Line]) -> u32
     ensures { 0 < result }
 {
     let mean = sum_of_rises(lines) / (lines.len() as u64 + 1);
-    mean.min(2_200_000) as u32 + 1
+    mean.min(u64::from(RISE_LIMIT)) as u32 + 1
 }
 
 fn sum_of_rises(lines: &[Line]) -> u64
@@ -130,7 +133,7 @@ fn sum_of_rises(lines: &[Line]) -> u64
 {
     let mut sum = 0;
     'lines: for e in lines {
-        sum += u64::from(e.rise.unsigned_abs().min(2_200_000) as u32);
+        sum += e.rise.unsigned_abs().min(u64::from(RISE_LIMIT));
     }
     sum
 }

@@ -12,7 +12,7 @@ use Rattle.scad_solid.specs.Cut.{cuts_of}
 use Rattle.winding_laws.specs.Nearness.{IsProper, IsClearSegment}
 use Rattle.winding_laws.proofs.Farness.{moves_stay_clear}
 use Rattle.winding_laws.proofs.Rounding.{rounded_close}
-use Rattle.slice_section.specs.Section.{nearest_point, rounded}
+use Rattle.winding_laws.specs.Edges.{rounded, rounded_edge}
 use Rattle.slice_layer.proofs.Ends.{cuts_proper}
 
 module _ (q : Point) (d : pos 0 <ℤ q.d) where
@@ -27,9 +27,9 @@ module _ (q : Point) (d : pos 0 <ℤ q.d) where
   one : pos 0 <ℤ pos 1
   one = omega (arith, ints)
 
-  rounded_clear : (c : Segment) → IsProper c → IsClearCut c → IsClearEdge (rounded c)
+  rounded_clear : (c : Segment) → IsProper c → IsClearCut c → IsClearEdge (rounded_edge c)
   rounded_clear c p h =
-      moves_stay_clear (pos 1) (pos 1) q c.from c.to (whole (nearest_point c.from)) (whole (nearest_point c.to)) d
+      moves_stay_clear (pos 1) (pos 1) q c.from c.to (whole (rounded c.from)) (whole (rounded c.to)) d
       p.from p.to one one h
       (rounded_close c.from p.from) (rounded_close c.to p.to)
 
@@ -60,10 +60,10 @@ module _ (q : Point) (d : pos 0 <ℤ q.d) where
 
     -- their rounded edges are clear
     pub edges_clear : (all : List (List Triangle)) → AllByRecursion IsClearCut (flat_map (cuts_of plane) all)
-        → AllByRecursion (λ ts. AllByRecursion (λ c. IsClearEdge (rounded c)) (cuts_of plane ts)) all
+        → AllByRecursion (λ ts. AllByRecursion (λ c. IsClearEdge (rounded_edge c)) (cuts_of plane ts)) all
     edges_clear [] h = tt
     edges_clear (ts ∷ all) h = (
-      both (λ c. IsClearEdge (rounded c)) rounded_clear (cuts_of plane ts) (cuts_proper plane ts)
+      both (λ c. IsClearEdge (rounded_edge c)) rounded_clear (cuts_of plane ts) (cuts_proper plane ts)
           (front IsClearCut (cuts_of plane ts) (flat_map (cuts_of plane) all) h),
       edges_clear all (back IsClearCut (cuts_of plane ts) (flat_map (cuts_of plane) all) h),
     )

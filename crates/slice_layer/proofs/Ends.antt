@@ -17,7 +17,7 @@ use Rattle.scad_solid.specs.Range.{is_triangle_in_range}
 use Rattle.scad_solid.specs.Surface.{sides_of}
 use Rattle.scad_solid.specs.Cut.{falls, rises, is_above, is_below, weighted, point_between, cut_between, cut_of, cuts_of}
 use Rattle.winding_laws.specs.Nearness.{IsProper}
-use Rattle.slice_section.specs.Section.{nearest_point, rounded}
+use Rattle.winding_laws.specs.Edges.{rounded, rounded_edge}
 use Rattle.slice_section.specs.Through.{IsThrough}
 use Rattle.slice_section.proofs.SideCuts.{falls_through_if, rises_through_if}
 use Rattle.slice_section.proofs.WeightedMean.{weighted_range}
@@ -74,7 +74,7 @@ coordinate_within lower upper low high plane small_lower small_upper above below
     (subst (λ (d : ℤ). unsigned_abs (weighted lower upper low high plane) ≤ point_limit * unsigned_abs d) spread mean)
 
 end_within : (plane : ℤ) (lower upper : Pt3) → IsThrough plane lower upper
-    → IsWithin point_limit (nearest_point (point_between lower upper plane))
+    → IsWithin point_limit (rounded (point_between lower upper plane))
 end_within plane lower upper h = record {
   x = coordinate_within lower.x upper.x lower.z upper.z plane h.lower_x h.upper_x h.heights.above h.heights.below;
   y = coordinate_within lower.y upper.y lower.z upper.z plane h.lower_y h.upper_y h.heights.above h.heights.below;
@@ -82,7 +82,7 @@ end_within plane lower upper h = record {
 
 between_within : (plane : ℤ) (f r : Option Side) → IfSome f (λ s. IsThrough plane s.to s.from)
     → IfSome r (λ s. IsThrough plane s.from s.to) → IfSome (cut_between plane f r)
-    (λ c. IsEdgeWithin point_limit (rounded c))
+    (λ c. IsEdgeWithin point_limit (rounded_edge c))
 between_within plane None r falling rising = tt
 between_within plane (Some f) None falling rising = tt
 between_within plane (Some f) (Some r) falling rising = record {
@@ -92,7 +92,7 @@ between_within plane (Some f) (Some r) falling rising = record {
 }
 
 cut_within : (plane : ℤ) (t : Triangle) → is_triangle_in_range t ≡ true
-    → IfSome (cut_of plane t) (λ c. IsEdgeWithin point_limit (rounded c))
+    → IfSome (cut_of plane t) (λ c. IsEdgeWithin point_limit (rounded_edge c))
 cut_within plane t h =
     between_within plane (find (falls plane) (sides_of t)) (find (rises plane) (sides_of t))
     (falls_through_if plane t (find (falls plane) (sides_of t)) h refl)
@@ -122,6 +122,6 @@ pub cuts_proper : (plane : ℤ) (ts : List Triangle) → AllByRecursion IsProper
 cuts_proper plane ts = cuts_have plane IsProper (λ t. Unit {0}) (λ t h. cut_proper plane t) ts (anything ts)
 
 pub cuts_within : (plane : ℤ) (ts : List Triangle) → list_all is_triangle_in_range ts ≡ true
-    → AllByRecursion (λ c. IsEdgeWithin point_limit (rounded c)) (cuts_of plane ts)
-cuts_within plane ts h = cuts_have plane (λ c. IsEdgeWithin point_limit (rounded c)) (λ t. is_triangle_in_range t
+    → AllByRecursion (λ c. IsEdgeWithin point_limit (rounded_edge c)) (cuts_of plane ts)
+cuts_within plane ts h = cuts_have plane (λ c. IsEdgeWithin point_limit (rounded_edge c)) (λ t. is_triangle_in_range t
     ≡ true) (cut_within plane) ts (all_pass is_triangle_in_range ts h)

@@ -19,7 +19,8 @@ use Rattle.scad_solid.specs.Cut.{cuts_of, plane_of, contains}
 use Rattle.winding_laws.specs.Nearness.{IsClearSegment}
 use Rattle.winding_laws.proofs.Rounding.{rounding_keeps_winding}
 use Rattle.winding_laws.proofs.Lengths.{lengths_keep_winding}
-use Rattle.slice_section.specs.Section.{rounded, section_of}
+use Rattle.winding_laws.specs.Edges.{rounded_edge}
+use Rattle.slice_section.specs.Section.{section_of}
 use Rattle.scad_tree.specs.Solid.{Solid}
 use Rattle.scad_tree.specs.Order.{surfaces}
 use Rattle.scad_tree.specs.LeafNumbers.{surface_at}
@@ -42,7 +43,7 @@ module _ (layer h : ℕ) (q : Point) (d : pos 0 <ℤ q.d) where
       ≡ wind q (cuts_of (plane_of layer h) ts)
   section_winds ts closed clear =
       let cuts = cuts_of (plane_of layer h) ts in
-      lengths_keep_winding (map rounded cuts) true true q d
+      lengths_keep_winding (map rounded_edge cuts) true true q d
       ∙ rounding_keeps_winding true true q d cuts (cuts_balanced layer h ts closed)
       (All-from_recursion (IsClearSegment (pos 1) q) cuts (cuts_clear q d (plane_of layer h) ts clear))
 

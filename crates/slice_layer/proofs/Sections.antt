@@ -12,7 +12,8 @@ use Rattle.scad_geom.specs.Leaves.{edges_of, AreLeavesBalanced}
 use Rattle.scad_solid.specs.declared.triangle.Triangle.{Triangle}
 use Rattle.scad_solid.specs.Surface.{is_closed}
 use Rattle.scad_solid.specs.Cut.{cuts_of, plane_of}
-use Rattle.slice_section.specs.Section.{rounded, has_length, section_of}
+use Rattle.winding_laws.specs.Edges.{rounded_edge, has_length}
+use Rattle.slice_section.specs.Section.{section_of}
 use Rattle.slice_section.proofs.Balance.{IsBalanced-section_of}
 use Rattle.scad_tree.specs.Solid.{Solid}
 use Rattle.scad_tree.specs.Order.{surfaces}
@@ -75,10 +76,10 @@ module _ (layer h : ℕ) where
     kept true e es p h = (p, h)
     kept false e es p h = h
 
-    with_length : (cs : List Segment) → AllByRecursion (λ c. P (rounded c)) cs
-        → AllByRecursion P (filter has_length (map rounded cs))
+    with_length : (cs : List Segment) → AllByRecursion (λ c. P (rounded_edge c)) cs
+        → AllByRecursion P (filter has_length (map rounded_edge cs))
     with_length [] h = tt
-    with_length (c ∷ cs) h = kept (has_length (rounded c)) (rounded c) (filter has_length (map rounded cs)) h.0
+    with_length (c ∷ cs) h = kept (has_length (rounded_edge c)) (rounded_edge c) (filter has_length (map rounded_edge cs)) h.0
         (with_length cs h.1)
 
     numbered : (n : ℕ) (es : List Edge) → AllByRecursion P es → AllByRecursion (λ e. P e.edge) (map (leaf_edge n) es)
@@ -86,7 +87,7 @@ module _ (layer h : ℕ) where
     numbered n (e ∷ es) h = (h.0, numbered n es h.1)
 
     abbrev HaveCuts : List (List Triangle) → Type 0
-    HaveCuts all = AllByRecursion (λ ts. AllByRecursion (λ c. P (rounded c)) (cuts_of (plane_of layer h) ts)) all
+    HaveCuts all = AllByRecursion (λ ts. AllByRecursion (λ c. P (rounded_edge c)) (cuts_of (plane_of layer h) ts)) all
 
     pub sections_have : (n : ℕ) (all : List (List Triangle)) → HaveCuts all → AllByRecursion (λ e. P e.edge)
         (sections_from layer h n all)

@@ -14,7 +14,7 @@ use Rattle.scad_tree.specs.Solid.{Solid}
 use Rattle.scad_tree.specs.Order.{surfaces}
 use Rattle.scad_tree.specs.Sections.{tree_section}
 use Rattle.std.specs.List.{AllByRecursion}
-use Rattle.slice_section.specs.Section.{rounded}
+use Rattle.winding_laws.specs.Edges.{rounded_edge}
 use Rattle.scad_tree.specs.Solids.{AreClosed, AreSolids}
 use Rattle.slice_layer.proofs.Ends.{cuts_within}
 use Rattle.slice_layer.proofs.Sections.{sections_have}
@@ -25,7 +25,7 @@ solids_closed s h = All-weaker IsSolid (λ ts. IsTrue (is_closed ts)) (λ ts k. 
 
 -- and the edges of their section are within the limit of points
 surfaces_within : (layer h : ℕ) (all : List (List Triangle)) → AllByRecursion IsSolid all
-    → AllByRecursion (λ ts. AllByRecursion (λ c. IsEdgeWithin point_limit (rounded c)) (cuts_of (plane_of layer h) ts))
+    → AllByRecursion (λ ts. AllByRecursion (λ c. IsEdgeWithin point_limit (rounded_edge c)) (cuts_of (plane_of layer h) ts))
     all
 surfaces_within layer h [] k = tt
 surfaces_within layer h (ts ∷ all) k = (cuts_within (plane_of layer h) ts k.0.in_range, surfaces_within layer h all k.1)

@@ -74,7 +74,7 @@ use Rattle.slice_outlines.proofs.Grouping.{value_end}
 use Rattle.slice_outlines.proofs.Fitting.{named_size}
 use Rattle.slice_outlines.proofs.Few.{bundles_few}
 use Rattle.slice_outlines.proofs.Climbing.{swept_named, swept_few}
-use Rattle.slice_outlines.proofs.Sought.{by_places}
+use Rattle.slice_outlines.proofs.StrandSearch.{by_places}
 use Rattle.slice_outlines.proofs.Apart.{IsPlaced, AreApart, at_group, groups_placed, groups_apart, below-append, above-append}
 use Rattle.slice_outlines.proofs.Cuts.{under_right, over_right, stays_aside, found}
 use Rattle.slice_outlines.proofs.Asides.{beside, cut_left, next_marked}

@@ -42,7 +42,7 @@ use Rattle.slice_outlines.proofs.Placing.{AreNamed, all_append}
 use Rattle.slice_outlines.proofs.LevelAhead.{mark_spot}
 use Rattle.slice_outlines.proofs.GroupHeights.{HeadPasses}
 use Rattle.slice_outlines.proofs.Balancing.{balanced_by, IsFirstRight, right_part}
-use Rattle.slice_outlines.proofs.Sought.{by_places, scaled_order}
+use Rattle.slice_outlines.proofs.StrandSearch.{by_places, scaled_order}
 use Rattle.slice_outlines.proofs.WayCovers.{flat_rise, grouped, by_spot, past_spot}
 use Rattle.slice_outlines.proofs.Across.{IsClosed, left_not, weakly, by_then_left, closed_by, closed_right}
 use Rattle.slice_outlines.proofs.Apart.{IsPlaced, AreApart, at_group, in_group, all_under, all_over, of_bundles, below-append, above-append, bundle_spot}

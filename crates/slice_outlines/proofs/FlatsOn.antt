@@ -31,7 +31,7 @@ use Rattle.slice_outlines.specs.Level.{HasNumber, GoByLeft, AreFlatsOn}
 use Rattle.slice_outlines.proofs.Joining.{comes_before, flat_order}
 use Rattle.slice_outlines.proofs.Placing.{all_append}
 use Rattle.slice_outlines.proofs.Onward.{take_then}
-use Rattle.slice_outlines.proofs.Sought.{by_places, scaled_order}
+use Rattle.slice_outlines.proofs.StrandSearch.{by_places, scaled_order}
 use Rattle.slice_outlines.proofs.WayCovers.{all_take, all_drop}
 use Rattle.slice_outlines.proofs.Cuts.{number_split, found}
 

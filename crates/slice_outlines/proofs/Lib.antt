@@ -10,7 +10,7 @@ mod Stopping
 mod Shifting
 mod Taking
 mod Valuing
-mod Sought
+mod StrandSearch
 mod Placing
 mod Onward
 mod Covering
@@ -23,7 +23,11 @@ mod StretchStops
 mod Beginning
 mod Steady
 mod Counting
+mod ChangesAhead
+mod GroupPassing
+mod NextGroup
 mod Passage
+mod SkippedGroups
 mod LevelAhead
 mod GroupHeights
 mod Balancing

@@ -28,7 +28,7 @@ use Rattle.slice_outlines.specs.Stops.{AllPass}
 use Rattle.slice_outlines.specs.Heights.{MeetAcross, marks_of}
 use Rattle.slice_outlines.specs.Along.{LiesLeftOf, LiesRightOf, IsNextStop, RoundAlike}
 use Rattle.slice_outlines.proofs.EndPoints.{passes_then_rises}
-use Rattle.slice_outlines.proofs.Sought.{by_places}
+use Rattle.slice_outlines.proofs.StrandSearch.{by_places}
 
 neither : (a b : ℤ) → (a <ℤ b → ⊥) → (b <ℤ a → ⊥) → a ≡ b
 neither a b h k = grind (arith, ints)

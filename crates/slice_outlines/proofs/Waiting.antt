@@ -29,7 +29,7 @@ use Rattle.slice_outlines.specs.Heights.{AreInOrder, IsNotRightOf, IsRunOf, mark
 use Rattle.slice_outlines.specs.Stretch.{AreStopsAt, TellWays, Waits}
 use Rattle.slice_outlines.specs.Along.{IsWithinRun, IsNameTo, value_over, least, BeginsBy, goes_on, HasLive, IsNextStop, IsBehindStop, LiesRightOf}
 use Rattle.slice_outlines.proofs.Onward.{take_then}
-use Rattle.slice_outlines.proofs.Sought.{left_true, right_behind, by_places, runs_at}
+use Rattle.slice_outlines.proofs.StrandSearch.{left_true, right_behind, by_places, runs_at}
 
 abbrev Runs : Spot → Type 0
 Runs s = pos 0 <ℤ pos s.run

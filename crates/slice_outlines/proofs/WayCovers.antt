@@ -28,7 +28,7 @@ use Rattle.slice_outlines.specs.Along.{BeginsBy, StartsAfter, goes_on}
 use Rattle.slice_outlines.specs.Stretch.{TellWay}
 use Rattle.slice_outlines.specs.Level.{HasNumber}
 use Rattle.slice_outlines.proofs.Covering.{least_passes}
-use Rattle.slice_outlines.proofs.Sought.{left_true, scaled_order}
+use Rattle.slice_outlines.proofs.StrandSearch.{left_true, scaled_order}
 use Rattle.slice_outlines.proofs.Waiting.{left_is}
 
 -- ---- flat edges of a height

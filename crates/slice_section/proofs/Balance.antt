@@ -14,7 +14,8 @@ use Rattle.scad_solid.specs.declared.triangle.Triangle.{Triangle}
 use Rattle.scad_solid.specs.Surface.{is_closed}
 use Rattle.scad_solid.specs.Cut.{cuts_of, plane_of}
 use Rattle.slice_section.proofs.CutBalance.{marks_balanced}
-use Rattle.slice_section.specs.Section.{nearest_point, rounded, has_length, section_of}
+use Rattle.winding_laws.specs.Edges.{rounded, rounded_edge, has_length}
+use Rattle.slice_section.specs.Section.{section_of}
 
 -- how many edges start at a point, and how many end there
 abbrev starts : Point → List Edge → ℕ
@@ -56,23 +57,23 @@ left_out p (e ∷ es) =
 -- where the rounded cuts start and end, counted among the cuts
 module _ (p : Point) where
   abbrev mark : Point → ℕ
-  mark q = once (is_same_point p (whole (nearest_point q)))
+  mark q = once (is_same_point p (whole (rounded q)))
 
-  rounded_starts : (cs : List Segment) → starts p (map rounded cs) ≡ sum_by (λ c. mark c.from) cs
+  rounded_starts : (cs : List Segment) → starts p (map rounded_edge cs) ≡ sum_by (λ c. mark c.from) cs
   rounded_starts [] = refl
   rounded_starts (c ∷ cs) = omega (
     arith,
-    starts-cons p (rounded c) (map rounded cs),
+    starts-cons p (rounded_edge c) (map rounded_edge cs),
     sum_by-cons
         (λ (x : Segment). mark x.from) c cs,
     rounded_starts cs,
   )
 
-  rounded_ends : (cs : List Segment) → ends p (map rounded cs) ≡ sum_by (λ c. mark c.to) cs
+  rounded_ends : (cs : List Segment) → ends p (map rounded_edge cs) ≡ sum_by (λ c. mark c.to) cs
   rounded_ends [] = refl
   rounded_ends (c ∷ cs) = omega (
     arith,
-    ends-cons p (rounded c) (map rounded cs),
+    ends-cons p (rounded_edge c) (map rounded_edge cs),
     sum_by-cons
         (λ (x : Segment). mark x.to) c cs,
     rounded_ends cs,
@@ -87,7 +88,7 @@ IsBalanced-section_of ts layer h closed = record { each = each }
         let cuts = cuts_of (plane_of layer h) ts in
         omega (
           arith,
-          left_out p (map rounded cuts),
+          left_out p (map rounded_edge cuts),
           rounded_starts p cuts,
           rounded_ends p cuts,
           marks_balanced (mark p)

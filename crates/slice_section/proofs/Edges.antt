@@ -11,18 +11,20 @@ use Rattle.scad_geom.specs.declared.point3.Pt3.{Pt3}
 use Rattle.scad_solid.specs.Range.{is_triangle_in_range}
 use Rattle.scad_geom.specs.Segment.{Segment}
 use Rattle.scad_solid.specs.Cut.{cut_of, cuts_of}
-use Rattle.slice_section.specs.Section.{rounded, has_length, edges_at}
+use Rattle.winding_laws.specs.Edges.{rounded_edge, has_length}
+use Rattle.slice_section.specs.Section.{edges_at}
 
 -- the edges of one cut, where there is one
 abbrev edge_list : Option Segment → List Edge
-edge_list o = filter has_length (map rounded (cons_option o []))
+edge_list o = filter has_length (map rounded_edge (cons_option o []))
 
-edge_list-cons : (o : Option Segment) (cs : List Segment) → filter has_length (map rounded (cons_option o cs))
-    ≡ edge_list o ++ filter has_length (map rounded cs)
+edge_list-cons : (o : Option Segment) (cs : List Segment) → filter has_length (map rounded_edge (cons_option o cs))
+    ≡ edge_list o ++ filter has_length (map rounded_edge cs)
 edge_list-cons None cs = refl
 edge_list-cons (Some c) cs =
-    elim (has_length (rounded c)) as (λ b. cond b (rounded c ∷ filter has_length (map rounded cs))
-    (filter has_length (map rounded cs)) ≡ cond b (rounded c ∷ []) [] ++ filter has_length (map rounded cs))
+    elim (has_length (rounded_edge c)) as (λ b. cond b (rounded_edge c ∷ filter has_length (map rounded_edge cs))
+    (filter has_length (map rounded_edge cs))
+    ≡ cond b (rounded_edge c ∷ []) [] ++ filter has_length (map rounded_edge cs))
     [ true ↦ refl | false ↦ refl ]
 
 pub edges_at-cons : (plane : ℤ) (t : Triangle) (ts : List Triangle) → edges_at plane (t ∷ ts) ≡ edges_at plane (t ∷ [])
@@ -30,32 +32,34 @@ pub edges_at-cons : (plane : ℤ) (t : Triangle) (ts : List Triangle) → edges_
 edges_at-cons plane t ts = edge_list-cons (cut_of plane t) (cuts_of plane ts)
 
 -- what one triangle adds
-some_edge : (o : Option Segment) (e : Edge) → Some e ≡ option_map rounded o → has_length e ≡ true → edge_list o ≡ e ∷ []
+some_edge : (o : Option Segment) (e : Edge) → Some e ≡ option_map rounded_edge o → has_length e ≡ true
+    → edge_list o ≡ e ∷ []
 some_edge None e is long = absurd (cc)
 some_edge (Some c) e is long =
-    let same : e ≡ rounded c = cc in
-    ap (λ b. cond b (rounded c ∷ []) []) (ap has_length (sym same) ∙ long) ∙ ap (λ x. x ∷ []) (sym same)
+    let same : e ≡ rounded_edge c = cc in
+    ap (λ b. cond b (rounded_edge c ∷ []) []) (ap has_length (sym same) ∙ long) ∙ ap (λ x. x ∷ []) (sym same)
 
-flat_edge : (o : Option Segment) (e : Edge) → Some e ≡ option_map rounded o → has_length e ≡ false → edge_list o ≡ []
+flat_edge : (o : Option Segment) (e : Edge) → Some e ≡ option_map rounded_edge o → has_length e ≡ false
+    → edge_list o ≡ []
 flat_edge None e is short = absurd (cc)
 flat_edge (Some c) e is short =
-    let same : e ≡ rounded c = cc in
-    ap (λ b. cond b (rounded c ∷ []) []) (ap has_length (sym same) ∙ short)
+    let same : e ≡ rounded_edge c = cc in
+    ap (λ b. cond b (rounded_edge c ∷ []) []) (ap has_length (sym same) ∙ short)
 
-no_edge : (o : Option Segment) → None ≡ option_map rounded o → edge_list o ≡ []
+no_edge : (o : Option Segment) → None ≡ option_map rounded_edge o → edge_list o ≡ []
 no_edge None is = refl
 no_edge (Some c) is = absurd (cc)
 
-pub edges_at-some : (plane : ℤ) (t : Triangle) (e : Edge) → Some e ≡ option_map rounded (cut_of plane t)
+pub edges_at-some : (plane : ℤ) (t : Triangle) (e : Edge) → Some e ≡ option_map rounded_edge (cut_of plane t)
     → has_length e ≡ true → edges_at plane (t ∷ []) ≡ e ∷ []
 edges_at-some plane t e is long = some_edge (cut_of plane t) e is long
 
-pub edges_at-flat : (plane : ℤ) (t : Triangle) (e : Edge) → Some e ≡ option_map rounded (cut_of plane t)
+pub edges_at-flat : (plane : ℤ) (t : Triangle) (e : Edge) → Some e ≡ option_map rounded_edge (cut_of plane t)
     → has_length e ≡ false → edges_at plane (t ∷ []) ≡ []
 edges_at-flat plane t e is short = flat_edge (cut_of plane t) e is short
 
-pub edges_at-none : (plane : ℤ) (t : Triangle) → None ≡ option_map rounded (cut_of plane t) → edges_at plane (t ∷ [])
-    ≡ []
+pub edges_at-none : (plane : ℤ) (t : Triangle) → None ≡ option_map rounded_edge (cut_of plane t)
+    → edges_at plane (t ∷ []) ≡ []
 edges_at-none plane t is = no_edge (cut_of plane t) is
 
 -- a loop's step

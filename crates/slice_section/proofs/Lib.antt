@@ -1,6 +1,6 @@
 pub mod WeightedMean
 pub mod SideCuts
 pub mod Edges
-pub mod Wound
+pub mod WindingSum
 pub mod CutBalance
 pub mod Balance

@@ -14,7 +14,7 @@ use Rattle.scad_geom.specs.PointRange.{is_in_range}
 use Rattle.scad_solid.specs.Range.{is_triangle_in_range}
 use Rattle.scad_solid.specs.Surface.{sides_of}
 use Rattle.scad_solid.specs.Cut.{falls, rises, is_above, is_below, cut_of, cut_between, point_between}
-use Rattle.slice_section.specs.Section.{nearest_point, rounded}
+use Rattle.winding_laws.specs.Edges.{rounded, rounded_edge}
 use Rattle.slice_section.specs.Through.{IsThrough}
 
 -- what is found passes the test, and any test that all elements pass
@@ -81,20 +81,20 @@ rises_through plane t s all e =
 pub edge-found : (plane : ℤ) (t : Triangle) (f r : Side) → Some f ≡ find (falls plane) (sides_of t)
     → Some r ≡ find (rises plane) (sides_of t)
     → Some (record {
-      a = nearest_point (point_between f.to f.from plane);
-      b = nearest_point
+      a = rounded (point_between f.to f.from plane);
+      b = rounded
           (point_between r.from r.to plane);
-    }) ≡ option_map rounded (cut_of plane t)
-edge-found plane t f r falling rising = ap₂ (λ a b. option_map rounded (cut_between plane a b)) falling rising
+    }) ≡ option_map rounded_edge (cut_of plane t)
+edge-found plane t f r falling rising = ap₂ (λ a b. option_map rounded_edge (cut_between plane a b)) falling rising
 
 pub edge-not_falling : (plane : ℤ) (t : Triangle) → None ≡ find (falls plane) (sides_of t)
-    → None ≡ option_map rounded (cut_of plane t)
-edge-not_falling plane t none = ap (λ a. option_map rounded (cut_between plane a (find (rises plane) (sides_of t))))
+    → None ≡ option_map rounded_edge (cut_of plane t)
+edge-not_falling plane t none = ap (λ a. option_map rounded_edge (cut_between plane a (find (rises plane) (sides_of t))))
     none
 
 pub edge-not_rising : (plane : ℤ) (t : Triangle) (f : Side) → Some f ≡ find (falls plane) (sides_of t)
-    → None ≡ find (rises plane) (sides_of t) → None ≡ option_map rounded (cut_of plane t)
-edge-not_rising plane t f falling none = ap₂ (λ a b. option_map rounded (cut_between plane a b)) falling none
+    → None ≡ find (rises plane) (sides_of t) → None ≡ option_map rounded_edge (cut_of plane t)
+edge-not_rising plane t f falling none = ap₂ (λ a b. option_map rounded_edge (cut_between plane a b)) falling none
 
 pub falls_through_if : (plane : ℤ) (t : Triangle) (o : Option Side) → is_triangle_in_range t ≡ true
     → o ≡ find (falls plane) (sides_of t) → IfSome o (λ s. IsThrough plane s.to s.from)

@@ -6,7 +6,7 @@ ghost use Rattle.scad_geom.specs.Limits.{point_limit};
 ghost use Rattle.scad_solid.specs.Range.{is_triangle_in_range};
 ghost use Rattle.scad_solid.specs.Surface.{sides_of};
 ghost use Rattle.scad_solid.specs.Cut.{falls, rises, cut_of, weighted, point_between};
-ghost use Rattle.slice_section.specs.Section.{nearest_point, rounded};
+ghost use Rattle.winding_laws.specs.Edges.{rounded, rounded_edge};
 ghost use Rattle.slice_section.specs.Through.{IsBetween, IsThrough};
 
 use crate::exact::{apart, weighted};
@@ -17,7 +17,7 @@ use scad_solid::{Side, Triangle};
 /// The triangle's cut at a plane, with both ends rounded, where the plane divides it.
 pub(crate) fn edge_of(triangle: &Triangle, plane: i128) -> Option<Edge>
     requires { IsTrue (is_triangle_in_range triangle.now) }
-    ensures { result ≡ option_map rounded (cut_of plane triangle.now) }
+    ensures { result ≡ option_map rounded_edge (cut_of plane triangle.now) }
 {
     let falling = falling(triangle, plane)?;
     let rising = rising(triangle, plane)?;
@@ -62,7 +62,7 @@ fn first_rising(sides: &[Side], plane: i128) -> Option<Side>
 // Where the side between a point below the plane and one above meets it, rounded.
 fn point_between(lower: Pt3, upper: Pt3, plane: i128) -> Pt
     requires { IsThrough plane lower upper }
-    ensures { result ≡ nearest_point (point_between lower upper plane) }
+    ensures { result ≡ rounded (point_between lower upper plane) }
 {
     Pt {
         x: coordinate_at(lower.x, upper.x, lower.z, upper.z, plane),

@@ -31,7 +31,7 @@ pub fn contains(solid: &Triangles, layer: u32, h: u32, p: Pt, half: Half) -> boo
 }
 
 // The winding number of the cuts round a point whose coordinates are doubled.
-#[tactic(auto, using(scad_geom::proofs::Casts::casts, crate::proofs::Wound::wound_more))]
+#[tactic(auto, using(scad_geom::proofs::Casts::casts, crate::proofs::WindingSum::wound_more))]
 fn winding(triangles: &[Triangle], plane: i128, x: i128, y: i128) -> i128
     requires in_range { list_all is_triangle_in_range triangles.now ≡ true }
     requires x { unsigned_abs x ≤ 2 ^ 33 }
@@ -46,7 +46,7 @@ fn winding(triangles: &[Triangle], plane: i128, x: i128, y: i128) -> i128
 }
 
 // What the cut of a triangle adds to the winding number.
-#[tactic(auto, using(scad_geom::proofs::Casts::casts, crate::proofs::Wound::turns))]
+#[tactic(auto, using(scad_geom::proofs::Casts::casts, crate::proofs::WindingSum::turns))]
 fn turn_of(triangle: &Triangle, plane: i128, x: i128, y: i128) -> i128
     requires in_range { IsTrue (is_triangle_in_range triangle.now) }
     requires x { unsigned_abs x ≤ 2 ^ 33 }

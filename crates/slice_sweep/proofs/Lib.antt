@@ -1,6 +1,6 @@
 mod Lists
 mod Keys
-mod Passed
+mod PassedNumbers
 mod Weakening
 mod Overwriting
 mod Sides

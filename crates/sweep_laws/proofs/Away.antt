@@ -10,7 +10,7 @@ use Rattle.slice_snap.specs.declared.piece.Spot.{Spot}
 use Rattle.slice_snap.specs.Spots.{point_of}
 use Rattle.slice_snap.proofs.Courses.{turn_same}
 use Rattle.sweep_laws.specs.Ways.{Way, piece_of, pieces_of, IsAt, IsAway}
-use Rattle.sweep_laws.specs.Visits.{Visit, outs_of, IsAtOne, Leads, IsPlan}
+use Rattle.sweep_laws.specs.Visits.{Visit, outs_of, IsAtOne, Leads, AreInSweepOrder}
 use Rattle.sweep_laws.proofs.Touches.{LiesAway}
 
 -- a spot lies away from each of these places
@@ -34,7 +34,7 @@ pub all_away : (p : Point) (s : Spot) → IsPoint p → IsPoint (point_of s) →
 all_away p s dp ds h [] a = tt
 all_away p s dp ds h (v ∷ vs) a = (away_from p (point_of v.at) s dp ds h a.0, all_away p s dp ds h vs a.1)
 
-pub points : (vs : List Visit) → IsPlan vs → AllByRecursion (λ v. IsPoint (point_of v.at)) vs
+pub points : (vs : List Visit) → AreInSweepOrder vs → AllByRecursion (λ v. IsPoint (point_of v.at)) vs
 points [] h = tt
 points (v ∷ vs) h = (h.0, points vs h.4)
 
@@ -70,7 +70,7 @@ leads_away p v vs dv d h a (w ∷ ws) l = (
   leads_away p v vs dv d h a ws l.1,
 )
 
-pub outs_away : (p : Point) (vs : List Visit) → IsPlan vs → AreElsewhere p vs
+pub outs_away : (p : Point) (vs : List Visit) → AreInSweepOrder vs → AreElsewhere p vs
     → AllByRecursion (λ w. IsAway p w.near × IsAway p w.far) (outs_of vs)
 outs_away p [] h a = tt
 outs_away p (v ∷ vs) h a = AllByRecursion-append (λ w. IsAway p w.near × IsAway p w.far) v.outs (outs_of vs)

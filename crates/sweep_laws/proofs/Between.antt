@@ -14,7 +14,7 @@ use Rattle.slice_snap.specs.Spots.{point_of}
 use Rattle.slice_snap.specs.Joining.{GoesOn, IsStuck}
 use Rattle.slice_snap.proofs.ChainEnds.{starts_permuted, ends_permuted}
 use Rattle.sweep_laws.specs.Ways.{Way, piece_of, pieces_of, IsAt, IsAway, AreOfDifferentNames}
-use Rattle.sweep_laws.specs.Visits.{OneGoesOn, Visit, outs_of, IsAtOne, Leads, IsPlan}
+use Rattle.sweep_laws.specs.Visits.{OneGoesOn, Visit, outs_of, IsAtOne, Leads, AreInSweepOrder}
 use Rattle.sweep_laws.proofs.Touches.{ComesIn, GoesOut, LiesAway}
 use Rattle.sweep_laws.proofs.OnePlace.{stuck_here}
 use Rattle.sweep_laws.proofs.Meeting.{by_end}
@@ -42,7 +42,7 @@ pub record IsQuiet (vs : List Visit) (all : List Piece) (q : Piece) : Type 0 whe
   pub later : IsAtOne vs q.to ⊎ IsStuck all q
 
 pub record IsBetween (done : List Piece) (opens : List Way) (vs : List Visit) : Type 0 where
-  pub plan : IsPlan vs
+  pub order : AreInSweepOrder vs
   pub opened : AllByRecursion (IsOpen vs) opens
   pub gone : AllByRecursion (IsGone vs) done
   pub quiet : All (IsQuiet vs (state done opens vs)) (state done opens vs)
@@ -83,10 +83,10 @@ module _ (done : List Piece) (opens ins kept : List Way) (v : Visit) (vs : List 
   p = point_of v.at
 
   dp : IsPoint p
-  dp = now.plan.0
+  dp = now.order.0
 
   elsewhere : AreElsewhere p vs
-  elsewhere = now.plan.1
+  elsewhere = now.order.1
 
   abbrev all : List Piece
   all = state done opens (v ∷ vs)
@@ -126,11 +126,11 @@ module _ (done : List Piece) (opens ins kept : List Way) (v : Visit) (vs : List 
   go_out = all_weaker (Leads v.at vs) (GoesOut p) v.outs
       (λ w l. (
         l.near,
-        away_at_one p w.far l.far_point vs (points vs now.plan.4) elsewhere l.far,
+        away_at_one p w.far l.far_point vs (points vs now.order.4) elsewhere l.far,
         l.near_point,
         l.far_point,
       ))
-      now.plan.2
+      now.order.2
 
   pub lie_away : AllByRecursion (LiesAway p) others
   lie_away = AllByRecursion-append (LiesAway p) done (pieces_of kept ++ pieces_of (outs_of vs))
@@ -138,7 +138,7 @@ module _ (done : List Piece) (opens ins kept : List Way) (v : Visit) (vs : List 
       (AllByRecursion-append (LiesAway p) (pieces_of kept) (pieces_of (outs_of vs))
       (pieces_away p kept (all_two (IsOpen (v ∷ vs)) (λ w. IsAway p w.far) (λ w. IsAway p w.near × IsAway p w.far) kept
       (λ w o a. (o.near.0, a)) opened_kept away))
-      (pieces_away p (outs_of vs) (outs_away p vs now.plan.4 elsewhere)))
+      (pieces_away p (outs_of vs) (outs_away p vs now.order.4 elsewhere)))
 
   pub still_open : AllByRecursion (IsOpen vs) kept
   still_open = all_two (IsOpen (v ∷ vs)) (λ w. IsAway p w.far) (IsOpen vs) kept
@@ -200,11 +200,11 @@ module _ (done : List Piece) (opens ins kept : List Way) (v : Visit) (vs : List 
 
   pub after_ended : (OneGoesOn ins v.outs → ⊥) → IsBetween (done ++ pieces_of ins) (v.outs ++ kept) vs
   after_ended none =
-      let stuck = stuck_here p dp all ins v.outs others all_are come_in go_out lie_away different now.plan.3 none in
+      let stuck = stuck_here p dp all ins v.outs others all_are come_in go_out lie_away different now.order.3 none in
       record {
-        plan = now.plan.4;
+        order = now.order.4;
         opened = AllByRecursion-append (IsOpen vs) v.outs kept
-            (all_weaker (Leads v.at vs) (IsOpen vs) v.outs opening now.plan.2) still_open;
+            (all_weaker (Leads v.at vs) (IsOpen vs) v.outs opening now.order.2) still_open;
         gone = AllByRecursion-append (IsGone vs) done (pieces_of ins) still_gone (now_gone ins opened_in at);
         quiet = All-permutation (IsQuiet vs ended) all ended ended_are
             (λ k d l. quiet_permuted vs all ended _ ended_are (stuck_or_later _ (now.quiet k d l) (stuck k d l)));

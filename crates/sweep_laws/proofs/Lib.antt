@@ -8,7 +8,7 @@ pub mod Walking
 pub mod Spots
 pub mod Strands
 pub mod Levels
-pub mod LevelPlan
+pub mod LevelOrder
 pub mod LevelPieces
 pub mod FlatPieces
 pub mod Lifting

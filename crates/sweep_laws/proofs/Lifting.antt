@@ -40,7 +40,7 @@ use Rattle.sweep_laws.specs.Crossing.{Place, spots_of, all_below, all_above, vis
 use Rattle.sweep_laws.proofs.Spots.{spot_at, same_place, left_away}
 use Rattle.sweep_laws.proofs.Strands.{HeadsDiffer, heads_differ}
 use Rattle.sweep_laws.proofs.Levels.{LiesAt, lies_at, ArePlacesApart, IsLevel}
-use Rattle.sweep_laws.proofs.LevelPlan.{EndsAtOne}
+use Rattle.sweep_laws.proofs.LevelOrder.{EndsAtOne}
 use Rattle.sweep_laws.proofs.LevelPieces.{first_is, later_valued, gathered, gathered_below, gathered_above, flats_from, outs_are}
 use Rattle.sweep_laws.proofs.FlatPieces.{all_left, past_all, AreBothValued, flats_are}
 

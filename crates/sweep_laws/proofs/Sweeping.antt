@@ -27,13 +27,13 @@ use Rattle.slice_bool.proofs.Telling.{tell_first}
 use Rattle.slice_bool.proofs.Walk.{UpTo, at_first, at_next, neighbours_next}
 use Rattle.slice_bool.proofs.Winding.{IsSpotAt, stops_at}
 use Rattle.sweep_laws.specs.Ways.{Way, pieces_of, piece_of}
-use Rattle.sweep_laws.specs.Visits.{Visit, outs_of, IsAtOne, IsPlan, Walk, over}
+use Rattle.sweep_laws.specs.Visits.{Visit, outs_of, IsAtOne, AreInSweepOrder, Walk, over}
 use Rattle.sweep_laws.specs.Fronts.{Strand, bundles_of, ways_up, IsFront}
 use Rattle.sweep_laws.specs.Crossing.{Place, spots_of, all_below, all_above, all_closed, visits_at, IsCrossing}
 use Rattle.sweep_laws.specs.Sweeps.{Sweeps, closed_in, SweepsMerge, MergedEdgesMakeOutlines}
 use Rattle.sweep_laws.proofs.Walking.{walks_merge}
 use Rattle.sweep_laws.proofs.Levels.{IsHigher, IsLevel, IsAlong, level_walk}
-use Rattle.sweep_laws.proofs.LevelPlan.{EndsAtOne, level_plan}
+use Rattle.sweep_laws.proofs.LevelOrder.{EndsAtOne, level_order}
 use Rattle.sweep_laws.proofs.LevelPieces.{slab_is}
 use Rattle.sweep_laws.proofs.Lifting.{IsSide, above_side, below_side, no_side, tell_top, is_level, meets_place, level_pieces, all_end}
 
@@ -84,7 +84,7 @@ record IsDone (es : List LeafEdge) (shape : Shape) (l : Level) (ls : List Level)
     (closed : List Way) : Type 0 where
   visits : List Visit
   pieces : List Piece
-  plan : IsPlan visits
+  order : AreInSweepOrder visits
   walk : Walk (ways_up es l false below) visits closed
   from : AllByRecursion (λ v. IsFrom l v.at) visits
   ends : (k : ℕ) → k < length es → passes_at (edge_at es k) l ≡ true → pos 0 <ℤ rise (edge_at es k)
@@ -110,7 +110,7 @@ module _ (es : List LeafEdge) (shape : Shape) where
       record {
         visits = visits_at es l l c ++ [];
         pieces = flat_pieces es shape (spots_of c);
-        plan = level_plan es l l c [] level tt tt (subst (AllByRecursion
+        order = level_order es l l c [] level tt tt (subst (AllByRecursion
             (λ s. EndsAtOne es l l [] s.bundle)) x.above_is tt);
         walk = subst (λ (ws : List Way). Walk ws (visits_at es l l c ++ []) (all_closed c ++ []))
             (append-nil (ways_up es l false (all_below c)) ∙ ap (ways_up es l false) (sym x.below_is))
@@ -146,7 +146,7 @@ module _ (es : List LeafEdge) (shape : Shape) where
         visits = visits_at es l u c ++ vs;
         pieces = (flat_pieces es shape (spots_of c) ++ slab_pieces es shape l u
             (bundles_of (all_above c))) ++ done.pieces;
-        plan = level_plan es l u c vs level done.plan (all_higher l u vs dl du n.in_order done.from)
+        order = level_order es l u c vs level done.order (all_higher l u vs dl du n.in_order done.from)
             (all_end es l u n vs done.ends (all_above c) (live_bundles es l u (bundles_of (all_above c)) f.bundles));
         walk = subst (λ (ws : List Way). Walk ws (visits_at es l u c ++ vs) (all_closed c ++ closed))
             (append-nil (ways_up es l false (all_below c)) ∙ ap (ways_up es l false) (sym x.below_is))
@@ -211,7 +211,7 @@ sweeps_merge es shape (l ∷ ls) cs given v s p =
       merged = pieces_of (closed_in cs);
       are_pieces = record { levels = l ∷ ls; are_levels = v; are_pieces = done.are_pieces };
       are_merged = permuted_merged (pieces_of (outs_of done.visits)) done.pieces (pieces_of (closed_in cs)) done.outs
-          (walks_merge done.visits (closed_in cs) done.plan done.walk);
+          (walks_merge done.visits (closed_in cs) done.order done.walk);
       are_given = p;
     }
 

@@ -15,7 +15,7 @@ use Rattle.slice_snap.specs.Joining.{GoesOn, IsStuck}
 use Rattle.slice_snap.proofs.Pairs.{permuted_merged}
 use Rattle.slice_snap.proofs.ChainEnds.{stays_stuck, none_meet_alone}
 use Rattle.sweep_laws.specs.Ways.{Way, piece_of, pieces_of, IsAt, IsAway, AreOfDifferentNames}
-use Rattle.sweep_laws.specs.Visits.{grown, IsOneCourse, Pass, goes_on, all_end, Visit, outs_of, IsAtOne, Leads, IsPlan, Walk, over, visit, WalksMerge}
+use Rattle.sweep_laws.specs.Visits.{grown, IsOneCourse, Pass, goes_on, all_end, Visit, outs_of, IsAtOne, Leads, AreInSweepOrder, Walk, over, visit, WalksMerge}
 use Rattle.sweep_laws.proofs.Touches.{ComesIn, GoesOut, LiesAway}
 use Rattle.sweep_laws.proofs.OnePlace.{is_joined}
 use Rattle.sweep_laws.proofs.Meeting.{ending, starting, meet_alone, ending_point, starting_point, starts_on, by_end}
@@ -65,7 +65,7 @@ module _ (done : List Piece) (opens kept : List Way) (a b : Way) (course : IsOne
   whole_is = all_are done opens (a ∷ []) kept v vs is (at, tt) away (tt, tt) now
 
   meet : MeetAlone whole first second rest
-  meet = meet_alone (point_of s) now.plan.0 whole a b rest whole_is comes goes rest_away course a.forward refl
+  meet = meet_alone (point_of s) now.order.0 whole a b rest whole_is comes goes rest_away course a.forward refl
 
   abbrev after : List Piece
   after = state done (grown a b ∷ kept) vs
@@ -80,8 +80,8 @@ module _ (done : List Piece) (opens kept : List Way) (a b : Way) (course : IsOne
       by_case : IsAtOne (v ∷ vs) q.to ⊎ IsStuck whole q → IsAtOne vs q.to ⊎ IsStuck after q
       by_case (inl x) = inl (not_first v vs q.to o x)
       by_case (inr stuck) = inr (stays_stuck whole after first second rest meet after_is q h.point
-          (ending_point (point_of s) now.plan.0 whole a b rest whole_is comes goes rest_away course a.forward refl)
-          (starting_point (point_of s) now.plan.0 whole a b rest whole_is comes goes rest_away course a.forward refl)
+          (ending_point (point_of s) now.order.0 whole a b rest whole_is comes goes rest_away course a.forward refl)
+          (starting_point (point_of s) now.order.0 whole a b rest whole_is comes goes rest_away course a.forward refl)
           stuck)
 
   quiet_before : AllByRecursion (IsQuiet (v ∷ vs) whole) (first ∷ (second ∷ rest))
@@ -92,7 +92,7 @@ module _ (done : List Piece) (opens kept : List Way) (a b : Way) (course : IsOne
   quiet_after = (
     quiet_joined vs after first second meet.name
         (later_quiet second
-        (starts_on (point_of s) now.plan.0 whole a b rest whole_is comes goes rest_away course a.forward refl)
+        (starts_on (point_of s) now.order.0 whole a b rest whole_is comes goes rest_away course a.forward refl)
         quiet_before.1.0),
     all_two (LiesAway (point_of s)) (IsQuiet (v ∷ vs) whole) (IsQuiet vs after) rest (λ q l h. later_quiet q l.1 h)
         rest_away quiet_before.1.1,
@@ -100,13 +100,13 @@ module _ (done : List Piece) (opens kept : List Way) (a b : Way) (course : IsOne
 
   after_grown : IsBetween done (grown a b ∷ kept) vs
   after_grown = record {
-    plan = now.plan.4;
+    order = now.order.4;
     opened = (
       record {
         near_point = comes.3;
         far_point = goes.3;
         near = (opened_in done opens (a ∷ []) kept v vs is (at, tt) away (tt, tt) now).0.near.1;
-        far = now.plan.2.0.far;
+        far = now.order.2.0.far;
       },
       still_open done opens (a ∷ []) kept v vs is (at, tt) away (tt, tt) now,
     );
@@ -161,7 +161,7 @@ merging _ _ _ (visit opens ins kept news closed more v vs is at away different p
 abbrev IsWithin : List Visit → Way → Type 0
 IsWithin vs w = IsPoint (point_of w.near) × IsPoint (point_of w.far) × IsAtOne vs w.near × IsAtOne vs w.far
 
-all_within : (vs : List Visit) → IsPlan vs → AllByRecursion (IsWithin vs) (outs_of vs)
+all_within : (vs : List Visit) → AreInSweepOrder vs → AllByRecursion (IsWithin vs) (outs_of vs)
 all_within [] h = tt
 all_within (v ∷ vs) h =
     AllByRecursion-append (IsWithin (v ∷ vs)) v.outs (outs_of vs)
@@ -182,12 +182,12 @@ begin_quiet vs qs (w ∷ ws) h = (
 )
 
 pub walks_merge : WalksMerge
-walks_merge visits closed plan walk =
+walks_merge visits closed order walk =
     merging [] visits closed walk []
     (record {
-      plan = plan;
+      order = order;
       opened = tt;
       gone = tt;
       quiet = All-from_recursion (IsQuiet visits (pieces_of (outs_of visits))) (pieces_of (outs_of visits))
-          (begin_quiet visits (pieces_of (outs_of visits)) (outs_of visits) (all_within visits plan));
+          (begin_quiet visits (pieces_of (outs_of visits)) (outs_of visits) (all_within visits order));
     })

@@ -54,11 +54,11 @@ pub record Leads (at : Spot) (later : List Visit) (w : Way) : Type 0 where
   pub near : IsAt (point_of at) w.near
   pub far : IsAtOne later w.far
 
--- places that differ, each before those to which its ways lead
-abbrev pub IsPlan : List Visit → Type 0
-IsPlan [] = ⊤
-IsPlan (v ∷ vs) = IsPoint (point_of v.at) × AllByRecursion (λ u. IsAway (point_of v.at) u.at) vs
-    × AllByRecursion (Leads v.at vs) v.outs × AreOfDifferentNames v.outs × IsPlan vs
+-- places that differ, in an order in which each comes before those to which its ways lead
+abbrev pub AreInSweepOrder : List Visit → Type 0
+AreInSweepOrder [] = ⊤
+AreInSweepOrder (v ∷ vs) = IsPoint (point_of v.at) × AllByRecursion (λ u. IsAway (point_of v.at) u.at) vs
+    × AllByRecursion (Leads v.at vs) v.outs × AreOfDifferentNames v.outs × AreInSweepOrder vs
 
 -- from some open ways over all places, with those that end on the way
 pub data Walk : List Way → List Visit → List Way → Type 0 where
@@ -74,5 +74,5 @@ pub data Walk : List Way → List Visit → List Way → Type 0 where
 -- Such a sweep merges pieces: those that end on the way are the merged pieces of all that go out.
 abbrev pub WalksMerge : Type 0
 WalksMerge =
-    (visits : List Visit) (closed : List Way) → IsPlan visits → Walk [] visits closed
+    (visits : List Visit) (closed : List Way) → AreInSweepOrder visits → Walk [] visits closed
     → AreMerged (pieces_of (outs_of visits)) (pieces_of closed)

@@ -6,7 +6,7 @@ use Rattle.plan_infill.specs.declared.run.Run.{Run}
 use Rattle.plan_infill.specs.declared.step.Step.{Step}
 use Rattle.plan_infill.specs.Sweep.{is_deep_at, IsOpenWithin, opened, closed}
 use Rattle.plan_infill.proofs.Stretches.{all_ended, open_within}
-use Rattle.plan_infill.proofs.Swept.{Swept, swept_none, swept_more, swept_last, holds_within, turns-size, near-size}
+use Rattle.plan_infill.proofs.StepSums.{Swept, swept_none, swept_more, swept_last, holds_within, turns-size, near-size}
 use Rattle.plan_infill.proofs.sweep.stretches.Goals as goal
 use Rattle.plan_infill.proofs.sweep.stretches.Goals.{then-is_last_there+in_ok-since, else-is_last_there}
 

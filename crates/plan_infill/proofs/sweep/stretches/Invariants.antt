@@ -1,4 +1,4 @@
-use Rattle.plan_infill.proofs.Swept.{Swept}
+use Rattle.plan_infill.proofs.StepSums.{Swept}
 use Rattle.plan_infill.proofs.sweep.stretches.Given as goal
 
 abbrev pub invariant-steps : goal.invariant-steps

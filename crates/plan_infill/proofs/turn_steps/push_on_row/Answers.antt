@@ -5,7 +5,7 @@ use Rattle.scad_geom.specs.Limits.{coordinate_limit}
 use Rattle.scad_geom.specs.Line.{low, high, rise, x_at}
 use Rattle.scad_geom.proofs.Casts.{casts}
 use Rattle.plan_infill.specs.Quotient.{IsCeiling}
-use Rattle.plan_infill.specs.Columns.{heading}
+use Rattle.plan_infill.specs.Columns.{edge_turn}
 use Rattle.plan_infill.proofs.Steps.{step_of, row_turns, row_below, row_above}
 use Rattle.plan_infill.proofs.turn_steps.push_on_row.Goals as goal
 use Rattle.plan_infill.proofs.turn_steps.push_on_row.Goals.{else-low-y-via-then-low-y+else-y-high, else-low-y-via-else-low-y}
@@ -17,7 +17,7 @@ returns-in_ok-push c =
     let k : IsCeiling (x_at c.args.e.now c.args.y (pos 1)) (rise c.args.e.now) c.crossing.result = search (rules, casts) in
     let w : unsigned_abs c.crossing.result ≤ coordinate_limit = search (rules, casts) in
     let steps = row_turns c.args.e.now c.args.y c.crossing.result from until k w in
-    (step_of c.crossing.result (pos 0 -ℤ heading c.args.e.now) ∷ [], steps, search (rules, casts))
+    (step_of c.crossing.result (pos 0 -ℤ edge_turn c.args.e.now) ∷ [], steps, search (rules, casts))
 
 pub returns-else-low-y : goal.returns-else-low-y
 returns-else-low-y c = elim c.else-low-y.branch [

@@ -1,5 +1,5 @@
 use Rattle.std.proofs.Common.{rules}
-use Rattle.slice_work.specs.declared.want.Want.TheVariants.{Plan as IsPlan}
+use Rattle.slice_work.specs.declared.want.Want.TheVariants.{Plan}
 use Rattle.scad_tree.specs.View.{solid_of}
 use Rattle.scad_slice.proofs.SomeParts.{parts_are_there}
 use Rattle.scad_run.specs.SourceReport.{sample_script}
@@ -28,7 +28,7 @@ returns-in-Sample-clause-completes g c =
 
 pub returns-in-Sample-clause-leaves : goal.returns-in-Sample-clause-leaves
 returns-in-Sample-clause-leaves g c =
-    let there = parts_are_there IsPlan c.args.order.now.settings (solid_of c.args.tree.now) c.requires.solids in
+    let there = parts_are_there Plan c.args.order.now.settings (solid_of c.args.tree.now) c.requires.solids in
     record {
       files = search rules;
       later = search rules;

@@ -4,7 +4,7 @@ use Rattle.std.specs.Ordering.{is_lt}
 use Rattle.std.specs.Prelude.{pos, ◌*ℤ◌}
 use Rattle.scad_base.proofs.Tests.{is_lt-int_cmp}
 use Rattle.slice_snap.specs.declared.piece.Spot.{Spot}
-use Rattle.slice_outlines.proofs.Sought.{left_true}
+use Rattle.slice_outlines.proofs.StrandSearch.{left_true}
 use Rattle.slice_outlines.proofs.aside.is_left.Goals as goal
 
 pub returns : goal.returns

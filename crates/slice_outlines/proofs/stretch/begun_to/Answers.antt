@@ -7,7 +7,7 @@ use Rattle.slice_bool.specs.Pieces.{whole_spot, IsLeft}
 use Rattle.slice_outlines.specs.declared.flat.Flat.{Flat}
 use Rattle.slice_outlines.specs.Along.{BeginsBy, StartsAfter}
 use Rattle.slice_outlines.proofs.Parts.{part_none, all_part_more}
-use Rattle.slice_outlines.proofs.Sought.{left_true, left_false}
+use Rattle.slice_outlines.proofs.StrandSearch.{left_true, left_false}
 use Rattle.slice_outlines.proofs.stretch.begun_to.Goals as goal
 
 pub flats-init : goal.flats-init

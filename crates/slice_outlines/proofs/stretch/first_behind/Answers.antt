@@ -2,7 +2,7 @@
 use Rattle.std.proofs.Common.{◌+◌, ◌-◌, ◌/◌, ◌<◌, ◌≤◌, ℕ, List, length, get_or, sym, ◌∙◌, arith}
 use Rattle.slice_outlines.specs.declared.mark.Mark.{Mark}
 use Rattle.slice_outlines.specs.Marks.{no_mark, spot_at}
-use Rattle.slice_outlines.proofs.Sought.{left_true, left_false, right_behind}
+use Rattle.slice_outlines.proofs.StrandSearch.{left_true, left_false, right_behind}
 use Rattle.slice_outlines.proofs.stretch.first_behind.Goals as goal
 
 pub marks-preserved-then-is_behind : goal.marks-preserved-then-is_behind

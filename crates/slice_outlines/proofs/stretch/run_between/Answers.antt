@@ -3,7 +3,7 @@ use Rattle.std.proofs.Common.{◌≡◌, ap, ◌∙◌}
 use lib.IntN.{ℤ}
 use Rattle.slice_bool.specs.Pieces.{whole_spot}
 use Rattle.slice_outlines.proofs.Joining.{whole_cast}
-use Rattle.slice_outlines.proofs.Sought.{lie_between, from_then_to}
+use Rattle.slice_outlines.proofs.StrandSearch.{lie_between, from_then_to}
 use Rattle.slice_outlines.proofs.stretch.run_between.Goals as goal
 
 pub returns-clause-run : goal.returns-clause-run

@@ -7,7 +7,7 @@ use Rattle.slice_outlines.specs.declared.mark.Mark.{Mark}
 use Rattle.slice_outlines.specs.Marks.{no_mark, spot_at}
 use Rattle.slice_outlines.specs.Along.{LiesRightOf}
 use Rattle.slice_outlines.proofs.Parts.{part_none, all_part_more}
-use Rattle.slice_outlines.proofs.Sought.{left_true, left_false}
+use Rattle.slice_outlines.proofs.StrandSearch.{left_true, left_false}
 use Rattle.slice_outlines.proofs.stretch.strands_to.Goals as goal
 
 pub strands-init : goal.strands-init

@@ -3,7 +3,7 @@ use Rattle.std.proofs.lemmas.Int.{to_z-of_z}
 use Rattle.scad_geom.specs.Point.{halves}
 use Rattle.scad_geom.specs.Winding.{turn}
 use Rattle.slice_section.specs.Exact.{point_of}
-use Rattle.slice_section.proofs.Wound.{turn-found}
+use Rattle.slice_section.proofs.WindingSum.{turn-found}
 use Rattle.slice_section.proofs.inside.turn_of.Goals as goal
 use mir.Syntax.{w128}
 

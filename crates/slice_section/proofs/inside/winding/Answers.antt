@@ -1,7 +1,7 @@
 use Rattle.std.proofs.Common.{rules}
 use Rattle.scad_geom.proofs.Casts.{casts}
 use Rattle.slice_section.proofs.Edges.{in_range-here, in_range-later}
-use Rattle.slice_section.proofs.Wound.{wound_more}
+use Rattle.slice_section.proofs.WindingSum.{wound_more}
 use Rattle.slice_section.proofs.inside.winding.Goals as goal
 
 pub turn_of-requires-clause-in_range : goal.turn_of-requires-clause-in_range

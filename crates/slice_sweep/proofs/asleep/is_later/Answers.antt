@@ -1,7 +1,7 @@
 -- The step says below which keys its lower height lies.
 use Rattle.std.proofs.Common.{arith, rules, FitsSigned}
 use Rattle.std.proofs.lemmas.Int.{to_z-of_z}
-use Rattle.slice_sweep.proofs.Passed.{less_by}
+use Rattle.slice_sweep.proofs.PassedNumbers.{less_by}
 use Rattle.slice_sweep.proofs.asleep.is_later.Goals as goal
 use mir.Syntax.{w128}
 

@@ -3,7 +3,7 @@ use Rattle.std.proofs.Common.{arith, ◌-ℤ◌, ◌∙◌, ℤ}
 use Rattle.std.proofs.lemmas.Int.{to_z-of_z}
 use Rattle.scad_geom.proofs.Casts.{sizes}
 use Rattle.scad_geom.specs.Line.{apart}
-use Rattle.slice_sweep.proofs.Passed.{both, product_of}
+use Rattle.slice_sweep.proofs.PassedNumbers.{both, product_of}
 use Rattle.slice_sweep.proofs.key.apart.Goals as goal
 use mir.Syntax.{w128}
 

@@ -2,7 +2,7 @@
 use Rattle.std.proofs.Common.{refl, sym, ◌∙◌, arith, ◌*ℤ◌, to_z, of_z, subst, FitsSigned}
 use Rattle.std.proofs.lemmas.Int.{to_z-of_z}
 use Rattle.slice_sweep.specs.Keys.{parts}
-use Rattle.slice_sweep.proofs.Passed.{both, product_of, less_by}
+use Rattle.slice_sweep.proofs.PassedNumbers.{both, product_of, less_by}
 use Rattle.slice_sweep.proofs.key.is_below.Goals as goal
 use lib.Signed.{lt_z}
 use mir.Syntax.{w64, w128}

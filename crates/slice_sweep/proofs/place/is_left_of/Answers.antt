@@ -3,7 +3,7 @@ use Rattle.std.proofs.Common.{arith, refl, ap, ◌∙◌}
 use Rattle.scad_geom.specs.declared.point.Edge.{Edge}
 use Rattle.scad_geom.specs.Line.{rise, x_at}
 use Rattle.scad_geom.proofs.Casts.{sizes}
-use Rattle.slice_sweep.proofs.Passed.{both, product_of}
+use Rattle.slice_sweep.proofs.PassedNumbers.{both, product_of}
 use Rattle.slice_sweep.proofs.place.is_left_of.Goals as goal
 use lib.Signed.{lt_z}
 

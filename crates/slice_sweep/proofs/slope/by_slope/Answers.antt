@@ -3,7 +3,7 @@ use Rattle.std.proofs.Common.{arith, refl, ◌∙◌, FitsSigned}
 use Rattle.std.specs.Ordering.{int_cmp}
 use Rattle.scad_geom.proofs.Casts.{fits_by_size}
 use Rattle.slice_sweep.specs.declared.ray.Ray.{Ray}
-use Rattle.slice_sweep.proofs.Passed.{both, product_of}
+use Rattle.slice_sweep.proofs.PassedNumbers.{both, product_of}
 use Rattle.slice_sweep.proofs.slope.by_slope.Goals as goal
 use mir.Syntax.{w128}
 

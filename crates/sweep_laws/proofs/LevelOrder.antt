@@ -1,4 +1,4 @@
--- One height: its places are a plan.
+-- One height: its places are in the order of the sweep.
 use Rattle.std.proofs.Common.{ℕ, inl, inr, false, List, [], ◌∷◌, ◌++◌}
 use lib.IntN.{pos}
 use lib.Signed.{◌<ℤ◌}
@@ -17,7 +17,7 @@ use Rattle.slice_bool.specs.Beside.{RisesFirst}
 use Rattle.slice_bool.proofs.Winding.{IsSpotAt}
 use Rattle.slice_bool.proofs.BalanceFlat.{spot_divisor}
 use Rattle.sweep_laws.specs.Ways.{IsAway}
-use Rattle.sweep_laws.specs.Visits.{Visit, IsAtOne, Leads, IsPlan}
+use Rattle.sweep_laws.specs.Visits.{Visit, IsAtOne, Leads, AreInSweepOrder}
 use Rattle.sweep_laws.specs.Fronts.{Strand, value_before, ways_from}
 use Rattle.sweep_laws.specs.Crossing.{Place, all_above, flat_way, visits_at}
 use Rattle.sweep_laws.proofs.Spots.{spot_at, lower_away}
@@ -65,11 +65,11 @@ module _ (es : List LeafEdge) (l u : Level) where
     far = inl (same_itself (point_of q.at));
   }
 
-  pub level_plan : (places : List Place) (vs : List Visit) → IsLevel es l u places → IsPlan vs
+  pub level_order : (places : List Place) (vs : List Visit) → IsLevel es l u places → AreInSweepOrder vs
       → AllByRecursion (λ v. IsHigher l v.at) vs → AllByRecursion (λ s. EndsAtOne vs s.bundle) (all_above places)
-      → IsPlan (visits_at es l u places ++ vs)
-  level_plan [] vs h plan o ends = plan
-  level_plan (p ∷ ps) vs h plan o ends = (
+      → AreInSweepOrder (visits_at es l u places ++ vs)
+  level_order [] vs h order o ends = order
+  level_order (p ∷ ps) vs h order o ends = (
     spot_divisor l p.at h.divisor h.spots.0,
     AllByRecursion-append (λ v. IsAway (point_of p.at) v.at) (visits_at es l u ps) vs (places_away p.at ps h.apart.0)
         (higher_spots p.at vs h.spots.0 o),
@@ -85,7 +85,7 @@ module _ (es : List LeafEdge) (l u : Level) where
         (of_ways_from (IsRisingWay es) es l u (value_before (all_above ps) false) p.above
         (each (λ s. RisesFirst es s.bundle) (λ s. FromHas (IsRisingWay es) es l u s.bundle) p.above
         (λ s r. rising_from es l u s.bundle r) rise)) (flat_ways es l u p.at p ps),
-    level_plan ps vs (next_level es l u p ps h) plan o (back (λ s. EndsAtOne vs s.bundle) p.above (all_above ps) ends),
+    level_order ps vs (next_level es l u p ps h) order o (back (λ s. EndsAtOne vs s.bundle) p.above (all_above ps) ends),
   )
     where
       rise : AllByRecursion (λ s. RisesFirst es s.bundle) p.above

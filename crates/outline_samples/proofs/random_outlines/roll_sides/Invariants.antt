@@ -2,7 +2,7 @@ use Rattle.std.specs.Prelude.{All}
 use Rattle.scad_geom.specs.Within.{IsEdgeWithin}
 use Rattle.scad_geom.specs.Limits.{coordinate_limit}
 use Rattle.scad_geom.specs.Leaves.{AreLeavesBalanced}
-use Rattle.outline_samples.proofs.random_outlines.roll_edges.Given as goal
+use Rattle.outline_samples.proofs.random_outlines.roll_sides.Given as goal
 
 abbrev pub invariant-outlines : goal.invariant-outlines
 invariant-outlines l = record {

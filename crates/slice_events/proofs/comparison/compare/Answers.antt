@@ -1,7 +1,7 @@
 -- Only edges that meet are kept.
 use Rattle.std.proofs.Common.{sym, ◌∙◌}
 use Rattle.slice_events.proofs.AtEnds.{kept_then_meets}
-use Rattle.slice_events.proofs.found.compare.Goals as goal
+use Rattle.slice_events.proofs.comparison.compare.Goals as goal
 
 pub meeting-requires : goal.meeting-requires
 meeting-requires c = record {
