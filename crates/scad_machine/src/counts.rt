@@ -8,7 +8,7 @@ ghost use Rattle.scad_machine.specs.State.{State, gives, take, step, make, say};
 ghost use Rattle.scad_machine.specs.Variables.{variable};
 
 use crate::fault::EvalFault;
-use crate::machine::Machine;
+use crate::machine::{Machine, NESTING_LIMIT};
 use scad_fault::{Budget, BudgetKind, Place, Text};
 use scad_value::{Value, copy, encoded, made, nesting};
 use std::alloc::Global;
@@ -48,7 +48,7 @@ impl<'p> Machine<'p> {
         ensures kept { held self.new ≡ held self.old }
         ensures less { OnOk result (self.new.steps_left ≤ self.old.steps_left) }
     {
-        if nesting(&value) > 200 {
+        if nesting(&value) > NESTING_LIMIT {
             return Err(EvalFault::Over(Budget::placed(BudgetKind::Depth, at)));
         }
         self.take(made(&value), at)?;
