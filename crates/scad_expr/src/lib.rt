@@ -1,4 +1,5 @@
-//! Expressions of a program to their values: `specs/Meaning.antt` says what each gives, one rule for each kind of node.
+//! Expressions of a program to their values: `specs/Meaning.antt` of scad_stack says what each gives, one rule for each kind
+//! of node.
 //! `eval`, `values` and `bind` are proved to be that meaning: the value, or the first fault or budget with its place and the
 //! lines of `echo` before it; only want of memory isn't promised away.
 #![tactic(auto)]

@@ -13,9 +13,8 @@ abbrev pub last_of : List Stored → Option ℕ
 last_of [] = None
 last_of (f ∷ more) = Some (length more)
 
--- two frames more, with these names: one inside the frame of a number `home`, one inside the last of the `$` names; and
--- names
--- are sought from a frame
+-- two frames more, with these names: one inside the frame of a number `home`, one inside the last of the `$` names;
+-- and names are sought from a frame
 unfoldable pub opened : Option StoredChildren → ℕ → ℕ → Bound → Held → Held
 opened kept here home b h = record {
   frames = h.frames ++ record { names = b.names; parent = Some home; scope = None; kept = kept } ∷ [];
