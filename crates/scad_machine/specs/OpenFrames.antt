@@ -68,8 +68,8 @@ outer h = left (or_zero (last_frame h.frames).parent) h
 pub record IsInner (h : Held) : Type 0 where
   pub is : h ≡ opened None (length (outer h).frames) (outer h).here (bound_in h) (outer h)
 
--- what a call opens: the environment of its parameters, with its children where it keeps some, and that of its `$`
--- names
+-- what a call opens: the environment of its parameters, with its children where it keeps some, and that of its
+-- `$` names
 pub record Opened : Type 0 where
   pub env : Env
   pub along : Env
