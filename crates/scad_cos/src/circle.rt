@@ -1,5 +1,6 @@
 //! Circles: how many sides stand for one, and the angles of its vertices (OpenSCAD manual, `$fa`, `$fs` and `$fn`).
 ghost use Rattle.std.specs.Prelude.{◌≡◌, ◌<◌, ◌≤◌, pos, ◌<ℤ◌, ◌≤ℤ◌, unsigned_abs};
+ghost use Rattle.scad_num.specs.Number.{most};
 ghost use Rattle.scad_cos.specs.Circle.{least_step, fragments_by_steps, fragments_of, vertex_angle_of};
 
 use scad_num::{Num, half_up};
@@ -12,7 +13,7 @@ const ONE: u128 = 1_000_000;
 fn least_step(step: Num) -> u128
     ensures value { result ≡ least_step step }
     ensures positive { 10000 ≤ result }
-    ensures small { result ≤ 1000000000000000 }
+    ensures small { result ≤ most }
 {
     step.millionths().max(10_000) as u128
 }
@@ -20,11 +21,11 @@ fn least_step(step: Num) -> u128
 /// The fragments where neither a small radius nor `$fn` decides.
 #[tactic(auto, unfolding(crate::specs::Circle::fragments_by_steps))]
 fn fragments_by_steps(r: u128, angle: u128, size: u128) -> u128
-    requires radius { r ≤ 1000000000000000 }
+    requires radius { r ≤ most }
     requires angle_step { 10000 ≤ angle }
-    requires angle_small { angle ≤ 1000000000000000 }
+    requires angle_small { angle ≤ most }
     requires size_step { 10000 ≤ size }
-    requires size_small { size ≤ 1000000000000000 }
+    requires size_small { size ≤ most }
     ensures value { result ≡ fragments_by_steps r angle size }
     ensures at_least_five { 5 ≤ result }
     ensures small { result ≤ 1000000000000 }
