@@ -7,13 +7,13 @@
 mod answer;
 mod call;
 pub mod laws;
+mod let_bindings;
 mod nodes;
 mod run;
 mod walk;
-mod within;
 
 pub use call::{bind, values};
+pub use let_bindings::let_names;
 pub use scad_machine::{Callee, DEPTH_LIMIT, EvalFault, Machine, STEP_LIMIT};
 pub use scad_operations::{asserted, items_of, judge_named, judge_variables, next_number};
 pub use walk::eval;
-pub use within::let_names;

@@ -8,7 +8,7 @@ ghost use Rattle.scad_expr.specs.Runs.{items as run_over};
 ghost use Rattle.scad_inst.specs.Near.{NameAlike};
 ghost use Rattle.scad_inst.specs.Stack.{left_in, NamesNext};
 
-use crate::near::near;
+use crate::child_range::near;
 use crate::selection::child_named;
 use scad_ast::{Item, Scope};
 use scad_expr::{items_of, next_number};

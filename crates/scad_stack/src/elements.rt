@@ -17,7 +17,7 @@ ghost use Rattle.scad_machine.specs.State.{and_then, make, step};
 ghost use Rattle.scad_stack.specs.Stack.{Leads, Below_by, followed_list, loop_of, onto, added, rest, made_in};
 
 use crate::frame::{Focus, Frame, Gathering, Inside, Loop, Within};
-use crate::named::bind_more;
+use crate::name_bindings::bind_more;
 use crate::stack::Stack;
 use crate::turns::variables;
 use scad_ast::{Arg, Elem, Expr};
