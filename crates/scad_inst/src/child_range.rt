@@ -1,6 +1,6 @@
 //! The part of a range whose numbers can name children.
 
-ghost use Rattle.std.specs.Prelude.{◌≡◌, ◌<ℤ◌, pos};
+ghost use Rattle.std.specs.Prelude.{◌<ℤ◌, pos};
 ghost use Rattle.scad_ast.specs.Scope.{items};
 ghost use Rattle.scad_ast.specs.Tree.{Items};
 ghost use Rattle.scad_value.specs.Datum.{range};

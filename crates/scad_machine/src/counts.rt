@@ -3,14 +3,13 @@
 ghost use Rattle.std.specs.Prelude.{◌≡◌, ◌+◌, ◌≤◌, OnOk};
 ghost use Rattle.scad_value.specs.View.{datum_of};
 ghost use Rattle.scad_machine.specs.Answers.{Does, nothing};
-ghost use Rattle.scad_machine.specs.Machine.{held, env_in, along_in, state_of};
-ghost use Rattle.scad_machine.specs.State.{State, gives, take, step, make, say};
-ghost use Rattle.scad_machine.specs.Variables.{variable};
+ghost use Rattle.scad_machine.specs.Machine.{held, state_of};
+ghost use Rattle.scad_machine.specs.State.{State, take, step, make, say};
 
 use crate::fault::EvalFault;
 use crate::machine::{Machine, NESTING_LIMIT};
-use scad_fault::{Budget, BudgetKind, Place, Text};
-use scad_value::{Value, copy, encoded, made, nesting};
+use scad_fault::{Budget, BudgetKind, Place};
+use scad_value::{Value, encoded, made, nesting};
 use std::alloc::Global;
 
 impl<'p> Machine<'p> {
