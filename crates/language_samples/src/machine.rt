@@ -1,7 +1,7 @@
 //! A machine at the start of a program, and the variables of the program's scope.
 
 use scad_ast::{Item, Scope};
-use scad_expr::{EvalFault, Machine, eval};
+use scad_expr::{DEPTH_LIMIT, EvalFault, Machine, STEP_LIMIT, eval};
 use scad_fault::{Budget, BudgetKind, Text};
 use scad_num::Num;
 use scad_scope::{Frames, bindings};
@@ -31,8 +31,8 @@ pub(crate) fn start<'p>(alloc: Global, scope: &'p Scope) -> Result<Machine<'p>, 
         frames,
         along: dollars(alloc)?,
         here,
-        steps_left: 5_000_000,
-        depth_left: 99_999,
+        steps_left: STEP_LIMIT,
+        depth_left: DEPTH_LIMIT - 1,
         leaves: 0,
         triangles: 0,
         profiles: Vec::new(alloc),

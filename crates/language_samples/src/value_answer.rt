@@ -4,7 +4,7 @@ ghost use Rattle.std.specs.Prelude.{◌<◌, length};
 
 use crate::machine::{last_value, start};
 use scad_ast::Program;
-use scad_expr::{EvalFault, Machine};
+use scad_expr::{EvalFault, Machine, STEP_LIMIT};
 use scad_fault::{Fault, Text};
 use scad_lex::lex;
 use scad_parse::parse;
@@ -61,7 +61,7 @@ fn evaluated(alloc: Global, program: &Program) -> Result<Vec<u8>, AllocError> {
     let mut m = start(alloc, &program.scope)?;
     let answer = last_value(alloc, &program.scope, &mut m);
     lines(&m, &mut out)?;
-    let taken = 5_000_000 - m.steps_left;
+    let taken = STEP_LIMIT - m.steps_left;
     outcome(alloc, &answer, taken, &mut out)?;
     Ok(out)
 }

@@ -20,6 +20,10 @@ fewest = 3
 abbrev pub fewest_by_steps : ℕ
 fewest_by_steps = 5
 
+-- the most sides of any circle: as many as the greatest number says
+abbrev pub fragment_limit : ℕ
+fragment_limit = 1000000000
+
 -- the circumference of the circle of radius 1, in millionths
 abbrev pub circumference : ℕ
 circumference = 6283185

@@ -1,6 +1,7 @@
 //! Circles: how many sides stand for one, and the angles of its vertices (OpenSCAD manual, `$fa`, `$fs` and `$fn`).
 ghost use Rattle.std.specs.Prelude.{◌≡◌, ◌<◌, ◌≤◌, pos, ◌<ℤ◌, ◌≤ℤ◌, unsigned_abs};
-ghost use Rattle.scad_cos.specs.Circle.{least_step, fragments_by_steps, fragments_of, vertex_angle_of};
+ghost use Rattle.scad_num.specs.Number.{most};
+ghost use Rattle.scad_cos.specs.Circle.{fragment_limit, least_step, fragments_by_steps, fragments_of, vertex_angle_of};
 
 use scad_num::{Num, half_up};
 
@@ -12,7 +13,7 @@ const ONE: u128 = 1_000_000;
 fn least_step(step: Num) -> u128
     ensures value { result ≡ least_step step }
     ensures positive { 10000 ≤ result }
-    ensures small { result ≤ 1000000000000000 }
+    ensures small { result ≤ most }
 {
     step.millionths().max(10_000) as u128
 }
@@ -20,11 +21,11 @@ fn least_step(step: Num) -> u128
 /// The fragments where neither a small radius nor `$fn` decides.
 #[tactic(auto, unfolding(crate::specs::Circle::fragments_by_steps))]
 fn fragments_by_steps(r: u128, angle: u128, size: u128) -> u128
-    requires radius { r ≤ 1000000000000000 }
+    requires radius { r ≤ most }
     requires angle_step { 10000 ≤ angle }
-    requires angle_small { angle ≤ 1000000000000000 }
+    requires angle_small { angle ≤ most }
     requires size_step { 10000 ≤ size }
-    requires size_small { size ≤ 1000000000000000 }
+    requires size_small { size ≤ most }
     ensures value { result ≡ fragments_by_steps r angle size }
     ensures at_least_five { 5 ≤ result }
     ensures small { result ≤ 1000000000000 }
@@ -55,7 +56,7 @@ pub fn fragments(r: Num, fn_: Num, fa: Num, fs: Num) -> i64
 #[tactic(auto, unfolding(crate::specs::Circle::vertex_angle_of))]
 fn rounded_share(i: u64, n: u64) -> u64
     requires below { i < n }
-    requires few { n ≤ 1000000000 }
+    requires few { n ≤ fragment_limit }
     ensures value { result ≡ vertex_angle_of i n }
     ensures within { result ≤ 360000 }
 {
@@ -66,7 +67,7 @@ fn rounded_share(i: u64, n: u64) -> u64
 pub fn vertex_angle(i: i64, n: i64) -> i64
     requires not_negative { pos 0 ≤ℤ i }
     requires below { i <ℤ n }
-    requires few { n ≤ℤ pos 1000000000 }
+    requires few { n ≤ℤ pos fragment_limit }
     ensures value { result ≡ pos (vertex_angle_of (unsigned_abs i) (unsigned_abs n)) }
     ensures within { unsigned_abs result ≤ 360000 }
 {

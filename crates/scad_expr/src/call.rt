@@ -1,6 +1,6 @@
 //! The values of arguments, and the frames of a call.
 
-ghost use Rattle.std.specs.Prelude.{◌≡◌, ◌∷◌, [], ◌<◌, length, map, option_map, IfOk, OnOk};
+ghost use Rattle.std.specs.Prelude.{◌≡◌, [], ◌<◌, length, map, option_map, IfOk, OnOk};
 ghost use Rattle.scad_ast.specs.Scope.{parameter};
 ghost use Rattle.scad_ast.specs.View.{expression_of, arguments};
 ghost use Rattle.scad_value.specs.View.{datum_of, data_in};

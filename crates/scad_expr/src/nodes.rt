@@ -5,7 +5,7 @@ ghost use Rattle.scad_ast.specs.Tree.{name, vector, index, member, call, let_in}
 ghost use Rattle.scad_ast.specs.View.{expression_of, arguments};
 ghost use Rattle.scad_ast.specs.View.{elements as tree_elements};
 ghost use Rattle.scad_value.specs.Datum.{string};
-ghost use Rattle.scad_machine.specs.Machine.{held, env_in, along_in, state_of};
+ghost use Rattle.scad_machine.specs.Machine.{held, env_in, along_in};
 ghost use Rattle.scad_stack.specs.Meaning.{node, value, meaning};
 ghost use Rattle.scad_stack.specs.Stack.{Leads, Below_by, followed, written_node, height, size};
 ghost use Rattle.scad_machine.specs.Answers.{Does};

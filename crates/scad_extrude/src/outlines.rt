@@ -1,5 +1,6 @@
 //! The outlines of flat shapes.
 ghost use Rattle.std.specs.Prelude.{◌≡◌, ◌≤◌, IfOk};
+ghost use Rattle.scad_cos.specs.Circle.{fragment_limit};
 ghost use Rattle.scad_shapes.specs.Outline.{rectangle, circle};
 
 use scad_num::Num;
@@ -8,7 +9,7 @@ use std::alloc::{AllocError, Global};
 
 /// The `n` vertices of a circle round the origin, counter-clockwise.
 pub fn circle_ring(alloc: Global, r: Num, n: u32) -> Result<Vec<(Num, Num)>, AllocError>
-    requires { n ≤ 1000000000 }
+    requires { n ≤ fragment_limit }
     ensures { IfOk result (λ v. v.items ≡ circle r n) }
 {
     circle(alloc, r, n)

@@ -66,8 +66,8 @@ module _ (points : List (ℤ × ℤ)) where
       → length (sorted points) ≤ point_count_limit → answer_by points many line ≡ Ok (Some ring)
   is_hull ring h true line m l f = absurd (more (length (sorted points)) f m)
     where
-      more : (n : ℕ) → n ≤ 20000 → nat_lt 20000 n ≡ true → ⊥
-      more n f m = let g : 20000 < n = ltb-true 20000 n m in omega arith
+      more : (n : ℕ) → n ≤ point_count_limit → nat_lt point_count_limit n ≡ true → ⊥
+      more n f m = let g : point_count_limit < n = ltb-true point_count_limit n m in omega arith
   is_hull ring h false true m l f = absurd (not_on_line ring h l)
   is_hull ring h false false m l f =
       ap (λ r. Ok (Some r))

@@ -82,11 +82,11 @@ pub none_told : (ps : List Pt3) → are_flat ps ≡ true
     → None ≡ (if are_flat ps then None else Some (fans (faces_of ps)))
 none_told ps e = sym (ap (λ (b : Bool). if b then None else Some (fans (faces_of ps))) e)
 
-past_none : (n : ℕ) → n ≤ 20000 → nat_lt point_count_limit n ≡ false
+past_none : (n : ℕ) → n ≤ point_count_limit → nat_lt point_count_limit n ≡ false
 past_none n h = grind (arith, nat_tests)
 
 pub hull_told : (points qs : List Pt3) (o : Option (List Triangle)) → qs ≡ distinct space_cmp points
-    → length qs ≤ 20000
+    → length qs ≤ point_count_limit
     → o ≡ (if are_flat qs then None else Some (fans (faces_of qs)))
     → ◌≡◌ {A = Result (Option (List Triangle)) HullFault} (Ok o) (hull_of points)
 hull_told points qs o e few is =

@@ -4,6 +4,7 @@ use Rattle.std.specs.List.{Contains}
 use Rattle.std.specs.Ordering.{int_cmp, ordering_then}
 use Rattle.std.specs.declared.cmp.Ordering.{Ordering}
 use Rattle.std.specs.declared.cmp.Ordering.TheVariants.{Less}
+use Rattle.scad_geom.specs.Limits.{point_limit}
 use Rattle.scad_geom.specs.Sign.{is_zero}
 use Rattle.scad_geom.specs.declared.point3.Pt3.{Pt3}
 use Rattle.scad_hull.specs.declared.turning.Normal.{Normal}
@@ -83,7 +84,7 @@ pub record IsSmall (p : Pt3) : Type 0 where
 
 -- there is room for a point beside it
 pub record HasRoom (p : Pt3) : Type 0 where
-  pub x : unsigned_abs p.x ≤ 1000000
+  pub x : unsigned_abs p.x ≤ point_limit
 
 pub record IsNarrow (n : Normal) : Type 0 where
   pub x : unsigned_abs n.x ≤ 2 ^ 44

@@ -14,6 +14,9 @@ use crate::spot::in_order;
 use scad_num::Num;
 use std::alloc::Global;
 
+/// The most distinct points of a hull.
+pub(crate) const POINT_COUNT_LIMIT: usize = 20_000;
+
 /// The ring round points (x, y), counter-clockwise from the lowest and then leftmost of them; None
 /// exactly where they lie on one line. More than 20,000 distinct points are refused, with their number.
 pub fn ring_hull(alloc: Global, points: &[(Num, Num)]) -> Result<Option<Ring2>, HullFault>
@@ -22,7 +25,7 @@ pub fn ring_hull(alloc: Global, points: &[(Num, Num)]) -> Result<Option<Ring2>, 
     let Ok(points) = in_order(alloc, points) else {
         return Err(HullFault::Memory);
     };
-    if points.len() > 20_000 {
+    if points.len() > POINT_COUNT_LIMIT {
         return Err(HullFault::Points(points.len() as u64));
     }
     if are_on_line(points.as_slice()) {

@@ -17,6 +17,7 @@ use crate::cloud::Cloud;
 use crate::faces::Face;
 use crate::fault::HullFault;
 use crate::first::first_face;
+use crate::flat::POINT_COUNT_LIMIT;
 use crate::node::{Node, by_height, nodes_of, points_of};
 use crate::wrapping::wrap;
 use scad_geom::Pt3;
@@ -33,7 +34,7 @@ pub fn hull(alloc: Global, points: &[Pt3]) -> Result<Option<Triangles>, HullFaul
     let Ok(points) = by_height(alloc, points) else {
         return Err(HullFault::Memory);
     };
-    if points.len() > 20_000 {
+    if points.len() > POINT_COUNT_LIMIT {
         return Err(HullFault::Points(points.len() as u64));
     }
     match solid(alloc, points.as_slice()) {

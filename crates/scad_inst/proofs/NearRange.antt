@@ -20,7 +20,7 @@ use Rattle.scad_expr.proofs.Loops.{same-then}
 use Rattle.scad_leaves.specs.declared.space.Where.{Where}
 use Rattle.scad_inst.specs.Choice.{child_of, child_named}
 use Rattle.scad_inst.specs.Meaning.{Below, child, children_by}
-use Rattle.scad_inst.specs.Near.{NameAlike, IsNobody, steps, IsReached, IsEnough, IsBehind}
+use Rattle.scad_inst.specs.ChildRange.{NameAlike, IsNobody, steps, IsReached, IsEnough, IsBehind}
 use Rattle.scad_inst.specs.Scopes.{child_at}
 
 -- ---- numbers that name no child

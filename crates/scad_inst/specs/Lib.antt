@@ -11,4 +11,4 @@ pub mod Portions
 pub mod FirstFrames
 pub mod Stack
 pub mod View
-pub mod Near
+pub mod ChildRange

@@ -22,7 +22,7 @@ use crate::work::{Focus, Frame, at_work};
 use scad_ast::{Item, Scope};
 use scad_expr::{EvalFault, Machine};
 use scad_fault::Place;
-use scad_leaves::{Operation, Where, made};
+use scad_leaves::{Operation, Where, tree_of_operation};
 use scad_tree::Tree;
 
 /// An item is run where it is a statement, and then what comes behind it.
@@ -114,5 +114,5 @@ pub(crate) fn made_of<'p>(
         (rest stack.old (held m.old) (trees_in outer))) result stack.new m.new }
 {
     let members = stack.exchange(outer);
-    at_work(made(stack.alloc, operation, at, members))
+    at_work(tree_of_operation(stack.alloc, operation, at, members))
 }

@@ -5,10 +5,10 @@ ghost use Rattle.scad_ast.specs.Scope.{item_of, items};
 ghost use Rattle.scad_value.specs.View.{datum_of, data_of};
 ghost use Rattle.scad_expr.specs.Portions.{numbers_left};
 ghost use Rattle.scad_expr.specs.Runs.{items as run_over};
-ghost use Rattle.scad_inst.specs.Near.{NameAlike};
+ghost use Rattle.scad_inst.specs.ChildRange.{NameAlike};
 ghost use Rattle.scad_inst.specs.Stack.{left_in, NamesNext};
 
-use crate::near::near;
+use crate::child_range::near;
 use crate::selection::child_named;
 use scad_ast::{Item, Scope};
 use scad_expr::{items_of, next_number};

@@ -1,6 +1,6 @@
 //! Leaves inside extrusions.
 
-ghost use Rattle.std.specs.Prelude.{◌≡◌, ◌≤◌, ◌-◌, ◌*◌, [], true, length, IfOk};
+ghost use Rattle.std.specs.Prelude.{◌≡◌, ◌≤◌, ◌-◌, [], true, length, IfOk};
 ghost use Rattle.scad_shapes.specs.Limits.{triangle_limit};
 ghost use Rattle.std.specs.List.{list_all};
 ghost use Rattle.scad_extrude.specs.Count.{triangles_of as triangles_in};
@@ -8,7 +8,7 @@ ghost use Rattle.scad_extrude.specs.declared.count.FlatForm.TheVariants.{Linear 
 ghost use Rattle.scad_modules.specs.Outline.{is_outline, points_in as count_of};
 ghost use Rattle.scad_modules.specs.Primitive.{are_fragments};
 ghost use Rattle.scad_modules.specs.View.{outline, outlines};
-ghost use Rattle.scad_tree.specs.View.{solid_of, solids};
+ghost use Rattle.scad_tree.specs.View.{solid_of};
 ghost use Rattle.scad_machine.specs.Answers.{Does, nothing};
 ghost use Rattle.scad_machine.specs.Machine.{held, state_of};
 ghost use Rattle.scad_machine.specs.State.{State};

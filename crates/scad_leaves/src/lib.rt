@@ -25,4 +25,4 @@ pub use operation::Operation;
 pub use profiles::{profile_count, with_its_profiles};
 pub use shapes::{flat_shape, primitive};
 pub use space::{Space, Turning, Where, at_first, inside_linear, turned_at};
-pub use trees::made;
+pub use trees::tree_of_operation;

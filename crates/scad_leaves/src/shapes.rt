@@ -24,7 +24,7 @@ use crate::flat::flat_leaves;
 use crate::leaves::leaf;
 use crate::operation::Operation;
 use crate::space::Where;
-use crate::trees::made;
+use crate::trees::tree_of_operation;
 use scad_machine::{EvalFault, Machine};
 use scad_modules::{Flat, Outline, Primitive, Shape, outlines_of, primitive_of};
 use scad_tree::Tree;
@@ -104,7 +104,7 @@ fn first_without_others<'p>(
     ensures kept { OnOk result (held m.new ≡ held m.old) }
 {
     let leaves = flat_leaves(alloc, call.at, call.name, w, shapes, m)?;
-    made(alloc, Operation::Subtract, call.at, leaves)
+    tree_of_operation(alloc, Operation::Subtract, call.at, leaves)
 }
 
 /// `square`, `circle` and `polygon` by the values of their arguments: a leaf for each outline, the first without the

@@ -41,7 +41,7 @@ fn judged(at: Place, tree: Tree) -> Result<Tree, EvalFault>
 
 /// The tree of an operation that the statement at a place makes; the budget Depth where its parts lie more than 200
 /// deep in one another.
-pub fn made(
+pub fn tree_of_operation(
     alloc: Global,
     operation: Operation,
     at: Place,

@@ -4,6 +4,7 @@ use Rattle.std.specs.Prelude.{◌≡◌, ℕ, ◌<◌, ◌≤◌, Bool, true, fa
 use Rattle.std.specs.Prelude.{encode_utf8, ◌==◌, if◌then◌else◌}
 use Rattle.std.specs.List.{flat_map}
 use Rattle.scad_fault.specs.declared.place.Place.{Place}
+use Rattle.scad_num.specs.Number.{most}
 use Rattle.scad_num.specs.Text.{number_text}
 use Rattle.scad_lex.specs.declared.token.Token.{Token}
 use Rattle.scad_lex.specs.declared.token.TokenKind.{TokenKind}
@@ -86,7 +87,7 @@ AreScalars (c ∷ chars) = (is_scalar c ≡ true) × AreScalars chars
 
 -- a token that a text can have: a number without a sign and in range, characters, a name that is no keyword
 abbrev pub CanBeSpelled : TokenKind → Type 0
-CanBeSpelled (Number z) = (n : ℕ) × (z ≡ pos n) × (n ≤ 1_000_000_000_000_000)
+CanBeSpelled (Number z) = (n : ℕ) × (z ≡ pos n) × (n ≤ most)
 CanBeSpelled (Str chars) = AreScalars chars
 CanBeSpelled (Word word) = (0 < length word) × (word_len word ≡ length word) × (key_of word ≡ None)
 CanBeSpelled (Sign sign) = Unit {0}

@@ -15,7 +15,7 @@ use Rattle.scad_value.specs.declared.value.Value.{Value}
 use Rattle.scad_scope.specs.Names.{Names, is_same_name, value_of_name, with_name}
 use Rattle.scad_scope.specs.NamePlaces.{put_in, value_in}
 use Rattle.scad_machine.specs.Arguments.{given_from, is_given, is_statement, statements}
-use Rattle.scad_machine.specs.Given.{parameter_names, shown, taken, counted_on}
+use Rattle.scad_machine.specs.Parameters.{parameter_names, shown, with_argument, unnamed_before_next}
 use Rattle.scad_machine.proofs.Homes.{items-drop, items-drop_all}
 use Rattle.scad_value.proofs.Lists.{arguments-drop, arguments-drop_all}
 
@@ -81,21 +81,21 @@ given_in name (e ∷ es) = by (given_in name es) (is_same_name name e.0.now)
     by rest false = rest
 
 -- ---- the arguments that are left
-taken-argument : (names : List (List ℕ)) (i : ℕ) (word : Option (List ℕ)) (e : _) (more : Arguments) (d : Datum)
+with-one-argument : (names : List (List ℕ)) (i : ℕ) (word : Option (List ℕ)) (e : _) (more : Arguments) (d : Datum)
     (values : List Datum) (so_far : Names) → given_from names i (argument word e more) (d ∷ values) so_far
-    ≡ given_from names (counted_on word i) more values (taken names i word d so_far)
-taken-argument names i None e more d values so_far = refl
-taken-argument names i (Some name) e more d values so_far = refl
+    ≡ given_from names (unnamed_before_next word i) more values (with_argument names i word d so_far)
+with-one-argument names i None e more d values so_far = refl
+with-one-argument names i (Some name) e more d values so_far = refl
 
 pub given-next : (names : List (List ℕ)) (i : ℕ) (all : List Arg) (at : ℕ) (a : Arg) (d : Datum)
     (values : List Datum)
     (so_far : Names) → at < length all → a ≡ get_or all at a
     → given_from names i (arguments (drop at all)) (d ∷ values)
-    so_far ≡ given_from names (counted_on a.name i) (arguments (drop (at + 1) all)) values
-    (taken names i a.name d so_far)
+    so_far ≡ given_from names (unnamed_before_next a.name i) (arguments (drop (at + 1) all)) values
+    (with_argument names i a.name d so_far)
 given-next names i all at a d values so_far below is =
     ap (λ args. given_from names i args (d ∷ values) so_far) (arguments-drop all at a below is)
-    ∙ taken-argument names i a.name (expression_of a.value) (arguments (drop (at + 1) all)) d values so_far
+    ∙ with-one-argument names i a.name (expression_of a.value) (arguments (drop (at + 1) all)) d values so_far
 
 pub given-past : (names : List (List ℕ)) (i : ℕ) (all : List Arg) (at : ℕ) (values : List Datum) (so_far : Names)
     → length all ≤ at → given_from names i (arguments (drop at all)) values so_far ≡ so_far

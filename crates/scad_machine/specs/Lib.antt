@@ -1,9 +1,9 @@
 pub mod Answers
 pub mod Arguments
 pub mod Functions
-pub mod Given
 pub mod Machine
 pub mod OpenFrames
+pub mod Parameters
 pub mod EchoLines
 pub mod State
 pub mod Variables

@@ -6,9 +6,8 @@ use Rattle.scad_scope.specs.View.{stored}
 use Rattle.scad_machine.specs.declared.machine.Machine.{Machine}
 use Rattle.scad_machine.specs.State.{State, step_limit}
 
--- its frames, those of the `$` names, the number of the frame from which names are sought, and how many levels of depth
--- an
--- expression has that it evaluates
+-- its frames, those of the `$` names, the number of the frame from which names are sought, and how many levels of
+-- depth an expression has that it evaluates
 pub record Held : Type 0 where
   pub frames : List Stored
   pub along : List Stored

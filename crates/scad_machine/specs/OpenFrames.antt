@@ -13,9 +13,8 @@ abbrev pub last_of : List Stored → Option ℕ
 last_of [] = None
 last_of (f ∷ more) = Some (length more)
 
--- two frames more, with these names: one inside the frame of a number `home`, one inside the last of the `$` names; and
--- names
--- are sought from a frame
+-- two frames more, with these names: one inside the frame of a number `home`, one inside the last of the `$` names;
+-- and names are sought from a frame
 unfoldable pub opened : Option StoredChildren → ℕ → ℕ → Bound → Held → Held
 opened kept here home b h = record {
   frames = h.frames ++ record { names = b.names; parent = Some home; scope = None; kept = kept } ∷ [];
@@ -69,8 +68,8 @@ outer h = left (or_zero (last_frame h.frames).parent) h
 pub record IsInner (h : Held) : Type 0 where
   pub is : h ≡ opened None (length (outer h).frames) (outer h).here (bound_in h) (outer h)
 
--- what a call opens: the environment of its parameters, with its children where it keeps some, and that of its `$`
--- names
+-- what a call opens: the environment of its parameters, with its children where it keeps some, and that of its
+-- `$` names
 pub record Opened : Type 0 where
   pub env : Env
   pub along : Env

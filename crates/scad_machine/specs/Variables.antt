@@ -13,8 +13,7 @@ or_undef (Some d) = d
 or_undef None = undef
 
 -- a name that begins with `$` is looked up along the chain of calls, any other one from the innermost frame outwards;
--- an
--- unknown one is `undef`
+-- an unknown one is `undef`
 unfoldable pub variable : List ℕ → Env → Env → Datum
 variable name env along = or_undef (if is_dollar name then sought name along else sought name env)
 

@@ -3,14 +3,13 @@
 ghost use Rattle.std.specs.Prelude.{◌≡◌, ◌+◌, ◌≤◌, OnOk};
 ghost use Rattle.scad_value.specs.View.{datum_of};
 ghost use Rattle.scad_machine.specs.Answers.{Does, nothing};
-ghost use Rattle.scad_machine.specs.Machine.{held, env_in, along_in, state_of};
-ghost use Rattle.scad_machine.specs.State.{State, gives, take, step, make, say};
-ghost use Rattle.scad_machine.specs.Variables.{variable};
+ghost use Rattle.scad_machine.specs.Machine.{held, state_of};
+ghost use Rattle.scad_machine.specs.State.{State, take, step, make, say};
 
 use crate::fault::EvalFault;
-use crate::machine::Machine;
-use scad_fault::{Budget, BudgetKind, Place, Text};
-use scad_value::{Value, copy, encoded, made, nesting};
+use crate::machine::{Machine, NESTING_LIMIT};
+use scad_fault::{Budget, BudgetKind, Place};
+use scad_value::{Value, encoded, made, nesting};
 use std::alloc::Global;
 
 impl<'p> Machine<'p> {
@@ -48,7 +47,7 @@ impl<'p> Machine<'p> {
         ensures kept { held self.new ≡ held self.old }
         ensures less { OnOk result (self.new.steps_left ≤ self.old.steps_left) }
     {
-        if nesting(&value) > 200 {
+        if nesting(&value) > NESTING_LIMIT {
             return Err(EvalFault::Over(Budget::placed(BudgetKind::Depth, at)));
         }
         self.take(made(&value), at)?;

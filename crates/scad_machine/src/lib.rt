@@ -19,7 +19,7 @@ mod refusals;
 pub use fault::EvalFault;
 pub use functions::{Defined, DefinedAt};
 pub use invocation::{Callee, Invocation};
-pub use machine::{DEPTH_LIMIT, Machine, STEP_LIMIT};
+pub use machine::{DEPTH_LIMIT, Machine, NESTING_LIMIT, STEP_LIMIT};
 pub use names::are_named;
 pub use opening::Call;
 pub use refusals::{fault_at, named_fault, over};

@@ -13,6 +13,9 @@ pub const STEP_LIMIT: u32 = 5_000_000;
 /// The greatest depth of a node.
 pub const DEPTH_LIMIT: u32 = 100_000;
 
+/// How deep vectors lie in one another at most.
+pub const NESTING_LIMIT: u32 = 200;
+
 /// The frames and counts of an evaluation, and the lines of `echo` so far.
 #[derive(Drop)]
 pub struct Machine<'p> {

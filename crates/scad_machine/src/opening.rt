@@ -7,7 +7,7 @@ ghost use Rattle.scad_scope.specs.View.{stored, children_stored};
 ghost use Rattle.scad_value.specs.View.{datum_of, data_in};
 ghost use Rattle.scad_machine.specs.Answers.{Does, nothing, done_at};
 ghost use Rattle.scad_machine.specs.Arguments.{given, set_all};
-ghost use Rattle.scad_machine.specs.Given.{missing, parameter_names, shown};
+ghost use Rattle.scad_machine.specs.Parameters.{missing, parameter_names, shown};
 ghost use Rattle.scad_machine.specs.Machine.{held, env_in, along_in, state_of};
 ghost use Rattle.scad_machine.specs.OpenFrames.{last_of, opened, set_in_last, set_all_in_last, with_count, left, bound_in, outer, IsInner};
 ghost use Rattle.scad_machine.specs.Variables.{empty, within};

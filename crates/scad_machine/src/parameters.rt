@@ -6,7 +6,7 @@ ghost use Rattle.scad_ast.specs.View.{arguments};
 ghost use Rattle.scad_value.specs.View.{datum_of, data_in};
 ghost use Rattle.scad_scope.specs.Names.{with_name};
 ghost use Rattle.scad_machine.specs.Arguments.{is_parameter, to_parameter, to_name, given, is_given, is_statement, number_of_children};
-ghost use Rattle.scad_machine.specs.Given.{parameter_names, shown, counted_on, missing, taken};
+ghost use Rattle.scad_machine.specs.Parameters.{parameter_names, shown, unnamed_before_next, missing, with_argument};
 ghost use Rattle.scad_machine.specs.Variables.{is_dollar};
 
 use crate::names::is_dollar;
@@ -90,7 +90,7 @@ fn give<'p>(
     value: Value,
     got: &mut Given<'p>,
 ) -> Result<(), AllocError>
-    ensures { OnOk result (map shown got.new ≡ taken (parameter_names params.now) i
+    ensures { OnOk result (map shown got.new ≡ with_argument (parameter_names params.now) i
         arg.now.name (datum_of value) (map shown got.old)) }
 {
     match &arg.name {
@@ -100,9 +100,9 @@ fn give<'p>(
 }
 
 /// How many unnamed arguments stand before the next one.
-fn counted_on(arg: &Arg, i: usize) -> usize
+fn unnamed_before_next(arg: &Arg, i: usize) -> usize
     requires { i < 2 ^ 63 }
-    ensures { result ≡ counted_on arg.now.name i }
+    ensures { result ≡ unnamed_before_next arg.now.name i }
 {
     match &arg.name {
         Some(_) => i,
@@ -129,7 +129,7 @@ pub(crate) fn given<'p>(
             return Ok(got);
         }
         give(params, &args[at], unnamed, value, &mut got)?;
-        unnamed = counted_on(&args[at], unnamed);
+        unnamed = unnamed_before_next(&args[at], unnamed);
         at += 1;
     }
     Ok(got)

@@ -7,16 +7,16 @@ use Rattle.scad_value.specs.Datum.{Datum}
 use Rattle.scad_value.specs.declared.value.Value.{Value}
 use Rattle.scad_value.specs.View.{datum_of, data_of}
 use Rattle.scad_value.proofs.Lists.{arguments-drop, arguments-drop_all, data-drop, data-drop_all}
-use Rattle.scad_modules.specs.Arguments.{taken_by, counted, taken_from}
+use Rattle.scad_modules.specs.Arguments.{taken_by, unnamed_before_next, taken_from}
 
 -- no more unnamed arguments stand before an argument than arguments
-pub counted-few : (r i n : ℕ) (word : Option (List ℕ)) → r ≡ counted i word → i ≤ n → r ≤ n + 1
-counted-few r i n None is few = omega (arith, is, few)
-counted-few r i n (Some word) is few = omega (arith, is, few)
+pub unnamed-few : (r i n : ℕ) (word : Option (List ℕ)) → r ≡ unnamed_before_next i word → i ≤ n → r ≤ n + 1
+unnamed-few r i n None is few = omega (arith, is, few)
+unnamed-few r i n (Some word) is few = omega (arith, is, few)
 
 module _ (place : Option ℕ) (name : List ℕ) (args : List Arg) (values : List Value) (n k i : ℕ) (found given : Option Datum) (left : taken_from place name i (arguments (drop n args)) (data_of (drop k values)) found ≡ given) where
   pub taken-goes : (a : Arg) (v : Value) (next : ℕ) (more : Option Datum) → n < length args → a ≡ get_or args n a
-      → k < length values → v ≡ get_or values k v → next ≡ counted i a.name → more ≡ taken_by place name i a.name
+      → k < length values → v ≡ get_or values k v → next ≡ unnamed_before_next i a.name → more ≡ taken_by place name i a.name
       (datum_of v) found → taken_from place name next (arguments (drop (n + 1) args)) (data_of (drop (k + 1) values))
       more ≡ given
   taken-goes a v next more there is inside item count takes =

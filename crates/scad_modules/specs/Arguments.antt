@@ -18,16 +18,16 @@ taken_by place name i None d found = if is_placed i place then Some d else found
 taken_by place name i (Some word) d found = if is_same_name name word then Some d else found
 
 -- how many unnamed arguments stand before what follows an argument
-abbrev pub counted : ℕ → Option (List ℕ) → ℕ
-counted i None = i + 1
-counted i (Some word) = i
+abbrev pub unnamed_before_next : ℕ → Option (List ℕ) → ℕ
+unnamed_before_next i None = i + 1
+unnamed_before_next i (Some word) = i
 
 -- what a parameter takes of arguments with their values, before which so many unnamed ones stand
 abbrev pub taken_from : Option ℕ → List ℕ → ℕ → Arguments → List Datum → Option Datum → Option Datum
 taken_from place name i no_arguments values found = found
 taken_from place name i (argument word e more) [] found = found
 taken_from place name i (argument word e more) (d ∷ values) found =
-    taken_from place name (counted i word) more values (taken_by place name i word d found)
+    taken_from place name (unnamed_before_next i word) more values (taken_by place name i word d found)
 
 -- `undef` counts as not given
 abbrev pub if_given : Option Datum → Option Datum

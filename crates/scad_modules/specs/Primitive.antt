@@ -4,6 +4,7 @@ use Rattle.std.specs.Prelude.{ℕ, ℤ, Bool, true, ◌&&◌, nat_le, List, leng
 use Rattle.std.specs.List.{list_all}
 use Rattle.scad_solid.specs.declared.triangle.Triangle.{Triangle}
 use Rattle.scad_solid.specs.Solid.{names_points}
+use Rattle.scad_cos.specs.Circle.{fragment_limit}
 use Rattle.scad_matrix.specs.declared.matrix.Matrix.{Matrix}
 use Rattle.scad_shapes.specs.declared.fault.ShapeFault.{ShapeFault}
 use Rattle.scad_shapes.specs.Count.{sphere_triangles, prism_triangles, face_triangles}
@@ -35,9 +36,9 @@ solid_of (sphere r n) m = solid_of_rings (sphere_rings_of r n m)
 solid_of (cylinder h bottom top n center) m = solid_of_rings (cylinder_rings h bottom top n center m)
 solid_of (polyhedron points faces) m = polyhedron_of points faces m
 
--- a circle has from three to 10^9 fragments
+-- a circle has three fragments at least, and no more than the limit
 abbrev pub are_fragments : ℕ → Bool
-are_fragments n = nat_le 3 n && nat_le n 1000000000
+are_fragments n = nat_le 3 n && nat_le n fragment_limit
 
 -- a face has three points at least, and names points alone
 abbrev pub is_face : ℕ → List ℕ → Bool

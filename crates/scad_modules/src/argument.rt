@@ -3,7 +3,7 @@
 ghost use Rattle.std.specs.Prelude.{◌≡◌, ◌<◌, ◌^◌, Some, None};
 ghost use Rattle.scad_ast.specs.View.{arguments};
 ghost use Rattle.scad_value.specs.View.{datum_of, data_of};
-ghost use Rattle.scad_modules.specs.Arguments.{is_placed, taken_by, counted, taken_from, if_given, taken};
+ghost use Rattle.scad_modules.specs.Arguments.{is_placed, taken_by, unnamed_before_next, taken_from, if_given, taken};
 ghost use Rattle.scad_modules.specs.View.{datum_in};
 
 use scad_ast::Arg;
@@ -49,9 +49,9 @@ fn taken_by<'a>(
 }
 
 /// How many unnamed arguments stand before what follows the argument.
-fn counted(i: usize, arg: &Arg) -> usize
+fn unnamed_before_next(i: usize, arg: &Arg) -> usize
     requires { i < 2 ^ 63 }
-    ensures { result ≡ counted i arg.now.name }
+    ensures { result ≡ unnamed_before_next i arg.now.name }
 {
     match &arg.name {
         Some(_) => i,
@@ -76,7 +76,7 @@ fn last_taken<'a>(
             return found;
         }
         found = taken_by(place, name, i, arg, &values[k], found);
-        i = counted(i, arg);
+        i = unnamed_before_next(i, arg);
         k += 1;
     }
     found

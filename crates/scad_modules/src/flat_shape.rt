@@ -1,9 +1,9 @@
 //! What the arguments of a flat shape say.
 
-ghost use Rattle.std.specs.Prelude.{◌≡◌, true, length, IfOk, ◌<◌, ◌&&◌, nat_le};
+ghost use Rattle.std.specs.Prelude.{◌≡◌, true, IfOk, ◌<◌};
 ghost use Rattle.std.specs.List.{list_all};
 ghost use Rattle.scad_ast.specs.View.{arguments};
-ghost use Rattle.scad_value.specs.View.{datum_of, data_of, elements};
+ghost use Rattle.scad_value.specs.View.{datum_of, data_of};
 ghost use Rattle.scad_modules.specs.FlatShapes.{both_sizes, same_size, two_sizes, given_flat_sizes, flat_sizes};
 ghost use Rattle.scad_modules.specs.FlatShapes.{square_by, circle_by, outlines_of};
 ghost use Rattle.scad_modules.specs.Outline.{is_outline};

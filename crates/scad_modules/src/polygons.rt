@@ -1,6 +1,6 @@
 //! The points and paths of polygons.
 
-ghost use Rattle.std.specs.Prelude.{◌≡◌, [], true, length, IfOk, IsTrue};
+ghost use Rattle.std.specs.Prelude.{◌≡◌, [], true, length, IfOk};
 ghost use Rattle.std.specs.List.{list_all};
 ghost use Rattle.scad_solid.specs.Solid.{names_points};
 ghost use Rattle.scad_value.specs.View.{datum_of, elements};

@@ -2,6 +2,7 @@
 
 ghost use Rattle.std.specs.Prelude.{◌≡◌, ◌<◌, ◌≤◌, ◌&&◌, pos, [], true, nat_le, length, IfOk};
 ghost use Rattle.std.specs.List.{list_all};
+ghost use Rattle.scad_num.specs.Number.{most};
 ghost use Rattle.scad_solid.specs.Solid.{names_points};
 ghost use Rattle.scad_modules.specs.Primitive.{is_face};
 ghost use Rattle.scad_value.specs.View.{datum_of, elements};
@@ -52,7 +53,7 @@ fn whole_below(limit: usize, n: Num) -> Result<u32, ArgumentFault>
 }
 
 fn index_below(limit: usize, n: u64) -> Result<u32, ArgumentFault>
-    requires { n ≤ 1000000000000000 }
+    requires { n ≤ most }
     ensures value { result ≡ whole_below limit (pos n) }
     ensures below { IfOk result (λ i. i < limit) }
 {

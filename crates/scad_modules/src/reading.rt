@@ -1,6 +1,6 @@
 //! What values are to the modules of the language.
 
-ghost use Rattle.std.specs.Prelude.{◌≡◌, ◌<◌, ◌^◌, length, [], option_map};
+ghost use Rattle.std.specs.Prelude.{◌≡◌, ◌<◌};
 ghost use Rattle.std.specs.Result.{result_map_both};
 ghost use Rattle.scad_num.specs.Rounding.{half_away};
 ghost use Rattle.scad_value.specs.View.{datum_of, elements};

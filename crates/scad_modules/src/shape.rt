@@ -1,6 +1,6 @@
 //! What the arguments of a primitive say.
 
-ghost use Rattle.std.specs.Prelude.{◌≡◌, true, length, IfOk};
+ghost use Rattle.std.specs.Prelude.{◌≡◌, true, IfOk};
 ghost use Rattle.std.specs.Int.{int_max};
 ghost use Rattle.scad_ast.specs.View.{arguments};
 ghost use Rattle.scad_cos.specs.Circle.{fragments_of};

@@ -3,6 +3,7 @@
 ghost use Rattle.std.specs.Prelude.{◌≡◌, ◌^◌, ◌≤◌, pos, length, unsigned_abs};
 ghost use Rattle.std.specs.Ordering.{int_eq};
 ghost use Rattle.scad_ast.specs.View.{arguments};
+ghost use Rattle.scad_num.specs.Number.{most};
 ghost use Rattle.scad_value.specs.View.{datum_of, elements, data_of};
 ghost use Rattle.scad_modules.specs.Transforms.{translate_by, scale_by_three, scale_by, mirror_by, row_at, first_three, turned_by, row_of_four, row_of, rows_of, multmatrix_by};
 ghost use Rattle.scad_modules.specs.Transforms.{angle_of, turned, way_round, about, about_axis, turned_about, product, turned_by_three, rotate_by};
@@ -119,7 +120,7 @@ fn angle(degrees: Num) -> i64
 
 #[tactic(auto, using(crate::proofs::Angles::angle_is_small))]
 fn thousandths(millionths: i128) -> i128
-    requires { unsigned_abs millionths ≤ 1000000000000000 }
+    requires { unsigned_abs millionths ≤ most }
     ensures value { result ≡ angle_of millionths }
     ensures small { unsigned_abs result ≤ 10 ^ 12 }
 {

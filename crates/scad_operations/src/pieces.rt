@@ -9,6 +9,7 @@ ghost use Rattle.scad_operations.specs.Runs.{items};
 
 use crate::part::Part;
 use crate::sequence::{items_of, next_number};
+use scad_machine::STEP_LIMIT;
 use scad_num::Num;
 use scad_value::Value;
 use std::alloc::{AllocError, Global};
@@ -76,7 +77,7 @@ fn add_run(out: &mut Vec<Value>, start: Num, step: Num, end: Num) -> Result<(), 
 {
     let mut next = Some(start);
     'numbers: while let Some((n, rest)) = next_number(next, step, end) {
-        if out.len() > 5_000_000 {
+        if out.len() > STEP_LIMIT as usize {
             return Ok(());
         }
         out.push(Value::Number(n))?;

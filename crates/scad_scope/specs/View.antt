@@ -6,7 +6,7 @@ use Rattle.scad_scope.specs.declared.frame.Frame.{Frame}
 use Rattle.scad_scope.specs.declared.frame_names.FrameNames.{FrameNames}
 use Rattle.scad_scope.specs.declared.home.Home.{Home}
 use Rattle.scad_scope.specs.declared.home.Home.TheVariants.{Unscoped, Searched, Tabled}
-use Rattle.scad_scope.specs.declared.kept.Kept.{Kept}
+use Rattle.scad_scope.specs.declared.child_statements.Kept.{Kept}
 use Rattle.scad_scope.specs.FrameNames.{named_in, placed_in}
 use Rattle.scad_scope.specs.Listing.{Listing}
 use Rattle.scad_scope.specs.Names.{Names}

@@ -1,8 +1,8 @@
 //! A frame: names with their values.
 
+use crate::child_statements::Kept;
 use crate::frame_names::FrameNames;
 use crate::home::Home;
-use crate::kept::Kept;
 use crate::kind::Kind;
 use crate::slot::Slot;
 use scad_ast::Item;

@@ -2,10 +2,10 @@
 
 ghost use Rattle.std.specs.Prelude.{◌<◌, ◌^◌, vec_len};
 
+use crate::child_statements::Kept;
 use crate::frame::Frame;
 use crate::frame_names::FrameNames;
 use crate::home::Home;
-use crate::kept::Kept;
 use crate::kind::Kind;
 use crate::names::Names;
 use crate::slot::Slots;

@@ -4,13 +4,13 @@
 #![tactic(auto)]
 
 mod binding;
+mod child_statements;
 mod entries;
 mod frame;
 mod frame_names;
 mod frames;
 mod further_names;
 mod home;
-mod kept;
 mod kind;
 mod name_map;
 mod named_values;
@@ -23,8 +23,8 @@ mod table;
 mod variables;
 
 pub use binding::{Binding, Bindings};
+pub use child_statements::Kept;
 pub use frames::Frames;
-pub use kept::Kept;
 pub use name_map::NameMap;
 pub use names::Names;
 pub use resolution::resolve;

@@ -1,6 +1,7 @@
 -- How many triangles a primitive has, as its form alone tells.
 use Rattle.std.specs.Prelude.{ℕ, ◌+◌, ◌-◌, ◌*◌, ◌≤◌, List, length}
 use Rattle.std.specs.List.{sum_by}
+use Rattle.scad_cos.specs.Circle.{fragment_limit}
 use Rattle.scad_shapes.specs.declared.count.Form.{Form}
 use Rattle.scad_shapes.specs.declared.count.Form.TheVariants.{Cube, Sphere, Cylinder, Polyhedron}
 use Rattle.scad_shapes.specs.Outline.{sphere_rings}
@@ -20,10 +21,10 @@ triangles_of (Sphere n) = sphere_triangles n
 triangles_of (Cylinder n) = prism_triangles n
 triangles_of (Polyhedron n) = n
 
--- a circle has from three to 10^9 fragments
+-- a circle has three fragments at least, and no more than the limit
 pub record AreFragments (n : ℕ) : Type 0 where
   pub some : 3 ≤ n
-  pub few : n ≤ 1000000000
+  pub few : n ≤ fragment_limit
 
 -- so has one of the form, where it has circles
 abbrev pub HasFragments : Form → Type 0

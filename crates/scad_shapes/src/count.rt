@@ -1,5 +1,6 @@
 //! How many triangles a primitive has.
 ghost use Rattle.std.specs.Prelude.{◌≡◌, ◌≤◌};
+ghost use Rattle.scad_cos.specs.Circle.{fragment_limit};
 ghost use Rattle.scad_shapes.specs.Count.{HasFragments, sphere_triangles, prism_triangles, triangles_of};
 
 /// A primitive, with what its number of triangles depends on.
@@ -29,7 +30,7 @@ pub fn triangles_of(form: &Form) -> u64
 
 fn sphere(n: u64) -> u64
     requires some { 3 ≤ n }
-    requires few { n ≤ 1000000000 }
+    requires few { n ≤ fragment_limit }
     ensures { result ≡ sphere_triangles n }
 {
     2 * (n - 2) + 2 * n * ((n + 1) / 2 - 1)
@@ -37,7 +38,7 @@ fn sphere(n: u64) -> u64
 
 fn prism(n: u64) -> u64
     requires some { 3 ≤ n }
-    requires few { n ≤ 1000000000 }
+    requires few { n ≤ fragment_limit }
     ensures { result ≡ prism_triangles n }
 {
     4 * n - 4

@@ -1,5 +1,6 @@
 //! The outlines of the primitives.
 ghost use Rattle.std.specs.Prelude.{◌≡◌, ◌<◌, ◌≤◌, ◌*◌, ◌*ℤ◌, unsigned_abs, length, IfOk};
+ghost use Rattle.scad_cos.specs.Circle.{fragment_limit};
 ghost use Rattle.scad_num.specs.Number.{one, most};
 ghost use Rattle.scad_num.specs.Rounding.{half_away};
 ghost use Rattle.scad_shapes.specs.Outline.{rectangle, part_of, vertex, circle};
@@ -20,7 +21,7 @@ pub fn rectangle(x: Num, y: Num, center: bool) -> [(Num, Num); 4]
 
 /// The vertices of a circle.
 pub fn circle(alloc: Global, r: Num, n: u32) -> Result<Vec<(Num, Num)>, AllocError>
-    requires { n ≤ 1000000000 }
+    requires { n ≤ fragment_limit }
     ensures vertices { IfOk result (λ v. v.items ≡ circle r n) }
     ensures count { IfOk result (λ v. length v.items ≡ n) }
 {
@@ -33,7 +34,7 @@ pub fn circle(alloc: Global, r: Num, n: u32) -> Result<Vec<(Num, Num)>, AllocErr
 
 fn vertex(r: Num, n: u32, i: u32) -> (Num, Num)
     requires below { i < n }
-    requires few { n ≤ 1000000000 }
+    requires few { n ≤ fragment_limit }
     ensures { result ≡ vertex r n i }
 {
     let angle = vertex_angle(i64::from(i), i64::from(n));

@@ -16,7 +16,7 @@ use Rattle.scad_stack.specs.Meaning.{Below, values, default_value, defaults, bou
 use Rattle.scad_ast.specs.declared.statement.Param.{Param}
 use Rattle.scad_ast.specs.Scope.{parameter}
 use Rattle.scad_scope.specs.FrameStore.{StoredChildren, env_at, envs}
-use Rattle.scad_machine.specs.Given.{missing, parameter_names}
+use Rattle.scad_machine.specs.Parameters.{missing, parameter_names}
 use Rattle.scad_machine.specs.OpenFrames.{opened, set_in_last, bound_in}
 use Rattle.scad_value.proofs.Lists.{arguments-drop, arguments-drop_all}
 use Rattle.scad_machine.proofs.Giving.{names-parameters}

@@ -30,7 +30,7 @@ use Rattle.scad_stack.specs.declared.frame.Course.{Course}
 use Rattle.scad_machine.specs.State.{State, Outcome, gives, refuses, Action, pure, and_then, ◌>>=◌, step, make, step_limit}
 use Rattle.scad_machine.specs.Machine.{Held, env_in, along_in}
 use Rattle.scad_machine.specs.Functions.{Function, Found}
-use Rattle.scad_machine.specs.Given.{missing, parameter_names}
+use Rattle.scad_machine.specs.Parameters.{missing, parameter_names}
 use Rattle.scad_machine.specs.Arguments.{given, set_all}
 use Rattle.scad_operations.specs.Parts.{parts_in}
 use Rattle.scad_operations.specs.Runs.{as_elements, items}

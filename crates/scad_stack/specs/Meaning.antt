@@ -265,8 +265,8 @@ value depth = (meaning depth).value
 abbrev pub opened : Env → Env → Children → Bound → Opened
 opened home along kept b = record { env = inside (frame b.names None kept) home; along = within along b.dollars }
 
--- the frames of a call of a function or module that is defined in the environment `home`, by arguments with their
--- values
+-- the frames of a call of a function or module that is defined in the environment `home`, by arguments with
+-- their values
 abbrev pub bind : ℕ → Env → Env → List Parameter → Arguments → List Datum → Children → Action Opened
 bind depth home along parameters args found kept =
     bound (meaning depth) home along parameters args found

@@ -1,23 +1,17 @@
 //! Elements of a vector that begin, and list comprehensions.
 
-ghost use Rattle.std.specs.Prelude.{◌≡◌, ◌+◌, ◌<◌, ◌^◌, [], ◌++◌, ◌∷◌};
-ghost use Rattle.std.specs.List.{flat_map};
+ghost use Rattle.std.specs.Prelude.{◌≡◌, ◌+◌, ◌<◌, ◌^◌, []};
 ghost use Rattle.scad_ast.specs.Tree.{each, for_each, let_element, if_element, if_else};
 ghost use Rattle.scad_ast.specs.View.{expression_of, arguments, element_of};
 ghost use Rattle.scad_ast.specs.View.{elements as tree_elements};
-ghost use Rattle.scad_value.specs.Datum.{vector};
-ghost use Rattle.scad_value.specs.View.{datum_of};
 ghost use Rattle.scad_machine.specs.Machine.{held, env_in, along_in, state_of};
 ghost use Rattle.scad_stack.specs.Meaning.{element_node, elements, value, meaning};
-ghost use Rattle.scad_operations.specs.Parts.{parts_in};
-ghost use Rattle.scad_stack.specs.Pieces.{element_if, either_element};
 ghost use Rattle.scad_stack.specs.Places.{element_place};
-ghost use Rattle.scad_operations.specs.Runs.{items, as_elements};
-ghost use Rattle.scad_machine.specs.State.{and_then, make, step};
-ghost use Rattle.scad_stack.specs.Stack.{Leads, Below_by, followed_list, loop_of, onto, added, rest, made_in};
+ghost use Rattle.scad_machine.specs.State.{and_then, step};
+ghost use Rattle.scad_stack.specs.Stack.{Leads, Below_by, followed_list, loop_of, onto, rest, made_in};
 
 use crate::frame::{Focus, Frame, Gathering, Inside, Loop, Within};
-use crate::named::bind_more;
+use crate::name_bindings::bind_more;
 use crate::stack::Stack;
 use crate::turns::variables;
 use scad_ast::{Arg, Elem, Expr};

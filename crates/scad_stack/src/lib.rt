@@ -10,7 +10,7 @@ mod elements;
 mod frame;
 mod gathering;
 mod name;
-mod named;
+mod name_bindings;
 mod other_part;
 mod purpose;
 mod rounds;
@@ -26,7 +26,7 @@ pub use frame::{
 };
 pub use gathering::gathered;
 pub use name::{Name, pass_name};
-pub use named::{bind_more, bind_next};
+pub use name_bindings::{bind_more, bind_next};
 pub use other_part::further;
 pub use rounds::round;
 pub use stack::Stack;

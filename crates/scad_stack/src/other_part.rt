@@ -4,7 +4,7 @@ ghost use Rattle.std.specs.Prelude.{◌≡◌, ◌≤◌, List, if◌then◌else
 ghost use Rattle.scad_ast.specs.View.{expression_of};
 ghost use Rattle.scad_value.specs.Datum.{Datum, boolean};
 ghost use Rattle.scad_value.specs.View.{datum_of};
-ghost use Rattle.scad_machine.specs.Machine.{Held, held, env_in, along_in, state_of};
+ghost use Rattle.scad_machine.specs.Machine.{Held, held, env_in, along_in};
 ghost use Rattle.scad_machine.specs.State.{State, and_then, pure};
 ghost use Rattle.scad_stack.specs.Meaning.{meaning, right_side, truth_of};
 ghost use Rattle.scad_stack.specs.Pieces.{side, step_and_end, stepped_end};

@@ -8,7 +8,7 @@ ghost use Rattle.scad_stack.specs.Stack.{Leads, Below_by, added, course, goes_ro
 ghost use Rattle.scad_machine.specs.State.{and_then};
 
 use crate::frame::{Focus, Round, Turning};
-use crate::named::{renew, tested};
+use crate::name_bindings::{renew, tested};
 use crate::stack::Stack;
 use crate::turns::{course_of, turn};
 use scad_machine::{EvalFault, Machine};

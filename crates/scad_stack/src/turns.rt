@@ -9,7 +9,7 @@ ghost use Rattle.scad_operations.specs.Runs.{items};
 ghost use Rattle.scad_stack.specs.Stack.{Leads, Below_by, followed_list, turns_of, course, rest, made_in};
 
 use crate::frame::{Course, Focus, Frame, Round, Turning, Variable};
-use crate::named::named;
+use crate::name_bindings::named;
 use crate::stack::Stack;
 use scad_ast::{Arg, Elem};
 use scad_fault::Place;

@@ -19,7 +19,7 @@ mod sizes;
 mod solids;
 mod text;
 mod tree;
-mod united;
+mod unions;
 
 pub use node::Node;
 pub use operations::{intersect, subtract, unite};

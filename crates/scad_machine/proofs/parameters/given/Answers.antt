@@ -1,7 +1,7 @@
 use Rattle.std.proofs.Common.{map, drop, ap, sym, ◌∙◌, arith}
 use Rattle.std.specs.Vec.Iter.{into_iter_items}
 use Rattle.scad_ast.specs.View.{arguments}
-use Rattle.scad_machine.specs.Given.{parameter_names, shown}
+use Rattle.scad_machine.specs.Parameters.{parameter_names, shown}
 use Rattle.scad_value.specs.View.{data_of}
 use Rattle.scad_machine.proofs.Giving.{given-end, nothing-left}
 use Rattle.scad_machine.proofs.parameters.given.Goals as goal

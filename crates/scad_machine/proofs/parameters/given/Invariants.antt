@@ -2,7 +2,7 @@ use Rattle.std.proofs.Common.{◌≡◌, ◌≤◌, map, drop, length}
 use Rattle.std.specs.Vec.Iter.{into_iter_items}
 use Rattle.scad_ast.specs.View.{arguments}
 use Rattle.scad_machine.specs.Arguments.{given_from, given}
-use Rattle.scad_machine.specs.Given.{parameter_names, shown}
+use Rattle.scad_machine.specs.Parameters.{parameter_names, shown}
 use Rattle.scad_value.specs.View.{data_of, data_in}
 use Rattle.scad_machine.proofs.parameters.given.Given as goal
 

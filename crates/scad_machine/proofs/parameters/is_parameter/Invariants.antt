@@ -1,6 +1,6 @@
 use Rattle.std.proofs.Common.{◌≡◌, drop}
 use Rattle.scad_machine.specs.Arguments.{is_parameter}
-use Rattle.scad_machine.specs.Given.{parameter_names}
+use Rattle.scad_machine.specs.Parameters.{parameter_names}
 use Rattle.scad_machine.proofs.parameters.is_parameter.Given as goal
 
 abbrev pub invariant-parameters : goal.invariant-parameters

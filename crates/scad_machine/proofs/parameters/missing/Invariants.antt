@@ -1,6 +1,6 @@
 use Rattle.std.proofs.Common.{◌≡◌, ◌++◌, map, drop}
 use Rattle.scad_ast.specs.Scope.{parameter}
-use Rattle.scad_machine.specs.Given.{missing, shown}
+use Rattle.scad_machine.specs.Parameters.{missing, shown}
 use Rattle.scad_machine.proofs.parameters.missing.Given as goal
 
 abbrev pub invariant-parameters : goal.invariant-parameters

@@ -5,7 +5,7 @@ use Rattle.scad_ast.specs.View.{arguments}
 use Rattle.scad_value.specs.View.{data_in}
 use Rattle.scad_scope.specs.View.{children_stored}
 use Rattle.scad_machine.specs.Arguments.{given}
-use Rattle.scad_machine.specs.Given.{parameter_names}
+use Rattle.scad_machine.specs.Parameters.{parameter_names}
 use Rattle.scad_machine.specs.Machine.{held}
 use Rattle.scad_machine.specs.State.{gives}
 use Rattle.scad_machine.specs.Variables.{empty}

@@ -1,6 +1,6 @@
 use Rattle.std.proofs.Common.{◌≡◌, map}
 use Rattle.std.specs.Vec.Iter.{into_iter_items}
-use Rattle.scad_machine.specs.Given.{shown}
+use Rattle.scad_machine.specs.Parameters.{shown}
 use Rattle.scad_machine.specs.Machine.{held, state_of}
 use Rattle.scad_machine.specs.OpenFrames.{set_all_in_last}
 use Rattle.scad_machine.proofs.machine.Machine.set_all.Given as goal

@@ -1,7 +1,7 @@
 use Rattle.std.proofs.Common.{◌≡◌, length}
 use Rattle.scad_ast.specs.View.{arguments}
 use Rattle.scad_stack.specs.Pieces.{named_of}
-use Rattle.scad_stack.proofs.named.named.Given as goal
+use Rattle.scad_stack.proofs.name_bindings.named.Given as goal
 
 abbrev pub invariant-names : goal.invariant-names
 invariant-names l = named_of (arguments l.rest) ≡ named_of (arguments l.args)

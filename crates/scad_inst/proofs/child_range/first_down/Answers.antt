@@ -2,13 +2,14 @@
 use Rattle.std.proofs.Common.{arith}
 use Rattle.std.proofs.lemmas.Int.{ints}
 use Rattle.std.proofs.lemmas.Nat.{div-add-mod'}
-use Rattle.scad_inst.proofs.NearRange.{reached-up}
-use Rattle.scad_inst.proofs.near.first_up.Goals as goal
+use Rattle.scad_inst.proofs.NearRange.{reached-down}
+use Rattle.scad_inst.proofs.child_range.first_down.Goals as goal
 
 pub returns : goal.returns
 returns c =
     let parts = div-add-mod' c.unsigned_abs-gap.result c.unsigned_abs.result in
-    λ scope. reached-up scope c.args.start c.args.step c.within.result c.unsigned_abs-gap.result c.unsigned_abs.result
+    λ scope behind. reached-down scope c.args.high c.args.start c.args.step c.within.result c.unsigned_abs-gap.result
+    c.unsigned_abs.result behind
     (omega (arith, ints)) (omega (arith, ints)) (omega (arith, ints)) (omega (arith, ints, parts))
 
 pub within-requires : goal.within-requires

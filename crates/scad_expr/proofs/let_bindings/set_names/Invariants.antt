@@ -3,7 +3,7 @@ use Rattle.scad_ast.specs.View.{arguments}
 use Rattle.scad_machine.specs.Machine.{held, env_in, along_in, state_of}
 use Rattle.scad_stack.specs.Meaning.{meaning, bound_in_order}
 use Rattle.scad_machine.specs.OpenFrames.{bound_in, outer, IsInner}
-use Rattle.scad_expr.proofs.within.set_names.Given as goal
+use Rattle.scad_expr.proofs.let_bindings.set_names.Given as goal
 
 abbrev pub invariant-names : goal.invariant-names
 invariant-names l =

@@ -4,7 +4,7 @@ use Rattle.scad_machine.specs.Machine.{held, env_in, along_in, state_of}
 use Rattle.scad_stack.specs.Meaning.{meaning}
 use Rattle.scad_machine.specs.OpenFrames.{bound_in, outer}
 use Rattle.scad_stack.proofs.Loops.{name-goes, name-stops, names-end}
-use Rattle.scad_expr.proofs.within.set_names.Goals as goal
+use Rattle.scad_expr.proofs.let_bindings.set_names.Goals as goal
 
 pub names-preserved : goal.names-preserved
 names-preserved c = (

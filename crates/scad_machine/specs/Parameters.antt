@@ -1,4 +1,4 @@
--- Arguments that are given one by one.
+-- Parameters as they lie in memory, and what one argument after another gives to them.
 use Rattle.std.specs.Prelude.{ℕ, ◌+◌, not, List, filter, map, slice_get, Option, Some, None}
 use Rattle.std.specs.Borrow.{Bor}
 use Rattle.scad_ast.specs.declared.statement.Param.{Param}
@@ -17,15 +17,15 @@ parameter_names all = map (λ p. p.name) all
 abbrev pub shown : Bor (List ℕ) × Value → List ℕ × Datum
 shown p = (p.0.now, datum_of p.1)
 
--- an argument with its value, before which so many unnamed ones stood
-abbrev pub taken : List (List ℕ) → ℕ → Option (List ℕ) → Datum → Names → Names
-taken parameters i None d so_far = to_parameter (slice_get parameters i) d so_far
-taken parameters i (Some name) d so_far = to_name parameters name d so_far
+-- the names that are given, and one argument more with its value, before which so many unnamed ones stood
+abbrev pub with_argument : List (List ℕ) → ℕ → Option (List ℕ) → Datum → Names → Names
+with_argument parameters i None d so_far = to_parameter (slice_get parameters i) d so_far
+with_argument parameters i (Some name) d so_far = to_name parameters name d so_far
 
 -- how many unnamed ones stand before the next argument
-abbrev pub counted_on : Option (List ℕ) → ℕ → ℕ
-counted_on None i = i + 1
-counted_on (Some name) i = i
+abbrev pub unnamed_before_next : Option (List ℕ) → ℕ → ℕ
+unnamed_before_next None i = i + 1
+unnamed_before_next (Some name) i = i
 
 -- the parameters that aren't given
 abbrev pub missing : Names → List Parameter → List Parameter

@@ -2,9 +2,9 @@ use Rattle.std.proofs.Common.{◌≢◌, ◌<ℤ◌, pos, ◌*◌, ◌≤◌, ar
 use Rattle.std.proofs.lemmas.Int.{ints}
 use Rattle.scad_ast.specs.Scope.{items}
 use Rattle.scad_expr.specs.Arguments.{statements}
-use Rattle.scad_inst.specs.Near.{IsBehind}
+use Rattle.scad_inst.specs.ChildRange.{IsBehind}
 use Rattle.scad_inst.proofs.NearRange.{near-alike, nobody-behind}
-use Rattle.scad_inst.proofs.near.near.Goals as goal
+use Rattle.scad_inst.proofs.child_range.near.Goals as goal
 
 pub returns-then-millionths-gt0 : goal.returns-then-millionths-gt0
 returns-then-millionths-gt0 c =

@@ -6,7 +6,7 @@ use Rattle.scad_machine.specs.State.{Outcome, and_then}
 use Rattle.scad_stack.specs.Meaning.{meaning}
 use Rattle.scad_stack.specs.Stack.{Whole, binds, behind, set_first, rest, made_in, inside, onto}
 use Rattle.scad_stack.proofs.StackTurns.{binds-some}
-use Rattle.scad_stack.proofs.named.bind_more.Goals as goal
+use Rattle.scad_stack.proofs.name_bindings.bind_more.Goals as goal
 
 pub returns-in-Some-clause-goes : goal.returns-in-Some-clause-goes
 unfolding onto behind set_first

@@ -1,11 +1,11 @@
 //! The part of a range whose numbers can name children.
 
-ghost use Rattle.std.specs.Prelude.{◌≡◌, ◌<ℤ◌, pos};
+ghost use Rattle.std.specs.Prelude.{◌<ℤ◌, pos};
 ghost use Rattle.scad_ast.specs.Scope.{items};
 ghost use Rattle.scad_ast.specs.Tree.{Items};
 ghost use Rattle.scad_value.specs.Datum.{range};
 ghost use Rattle.scad_expr.specs.Runs.{items as run_over};
-ghost use Rattle.scad_inst.specs.Near.{NameAlike, IsReached, IsEnough, IsBehind};
+ghost use Rattle.scad_inst.specs.ChildRange.{NameAlike, IsReached, IsEnough, IsBehind};
 
 use crate::item::statements;
 use scad_ast::Scope;

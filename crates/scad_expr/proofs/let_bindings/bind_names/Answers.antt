@@ -10,7 +10,7 @@ use Rattle.scad_machine.specs.Variables.{Bound, empty, within}
 use Rattle.scad_machine.proofs.OpenFrames.{inner-env, inner-along, left-outer}
 use Rattle.scad_stack.specs.Meaning.{Below, meaning, bound_in_order}
 use Rattle.scad_stack.proofs.Loops.{same-state}
-use Rattle.scad_expr.proofs.within.bind_names.Goals as goal
+use Rattle.scad_expr.proofs.let_bindings.bind_names.Goals as goal
 
 in_opened : (below : Below) (args : Arguments) (h o : Held) (s t : State)
     → outer h ≡ o → bound_in h ≡ empty → s ≡ t

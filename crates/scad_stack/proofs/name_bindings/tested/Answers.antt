@@ -8,7 +8,7 @@ use Rattle.scad_stack.specs.declared.frame.Loop.{Loop}
 use Rattle.scad_stack.specs.Meaning.{meaning}
 use Rattle.scad_stack.specs.Stack.{added, rest, made_in, goes_on}
 use Rattle.scad_stack.proofs.StackBegins.{test-holds}
-use Rattle.scad_stack.proofs.named.tested.Goals as goal
+use Rattle.scad_stack.proofs.name_bindings.tested.Goals as goal
 
 pub returns-then-truth-clause-goes : goal.returns-then-truth-clause-goes
 unfolding goes_on meaning
