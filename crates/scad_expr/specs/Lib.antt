@@ -10,6 +10,7 @@ pub use Rattle.scad_machine.specs.Answers
 pub use Rattle.scad_machine.specs.Arguments
 pub use Rattle.scad_machine.specs.Functions
 pub use Rattle.scad_machine.specs.Given
+pub use Rattle.scad_machine.specs.Lookup
 pub use Rattle.scad_machine.specs.Machine
 pub use Rattle.scad_machine.specs.OpenFrames
 pub use Rattle.scad_machine.specs.EchoLines

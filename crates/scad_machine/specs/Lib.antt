@@ -2,6 +2,7 @@ pub mod Answers
 pub mod Arguments
 pub mod Functions
 pub mod Given
+pub mod Lookup
 pub mod Machine
 pub mod OpenFrames
 pub mod EchoLines

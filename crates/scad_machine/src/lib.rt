@@ -19,6 +19,7 @@ mod refusals;
 pub use fault::EvalFault;
 pub use functions::{Defined, DefinedAt};
 pub use invocation::{Callee, Invocation};
+pub use lookup::ItemAt;
 pub use machine::{DEPTH_LIMIT, Machine, STEP_LIMIT};
 pub use names::are_named;
 pub use opening::Call;
