@@ -3,7 +3,6 @@ pub mod Laws
 -- What lies below.
 pub use Rattle.scad_stack.specs.Meaning
 pub use Rattle.scad_stack.specs.Places
-pub use Rattle.scad_stack.specs.Portions
 pub use Rattle.scad_operations.specs.Runs
 pub use Rattle.scad_operations.specs.Values
 pub use Rattle.scad_machine.specs.Answers

@@ -13,7 +13,7 @@ ghost use Rattle.scad_expr.specs.Meaning.{meaning, bound_in_order};
 ghost use Rattle.scad_expr.specs.Variables.{empty, is_dollar, within};
 ghost use Rattle.scad_inst.specs.Frames.{below_of, with_depth, scope_held, IsScope};
 ghost use Rattle.scad_inst.specs.OpenFrames.{dollars_of};
-ghost use Rattle.scad_inst.specs.Portions.{own_opened};
+ghost use Rattle.scad_inst.specs.Stack.{own_opened};
 ghost use Rattle.scad_inst.specs.View.{found_at};
 
 use crate::modules::DefinedAt;

@@ -40,7 +40,10 @@ pub(crate) fn module_named<'p>(
 {
     match m.item(Kind::Module, name)? {
         Some(found) => match module_by(found.item) {
-            Some(module) => Ok(Some(DefinedAt { module, home: found.home })),
+            Some(module) => Ok(Some(DefinedAt {
+                module,
+                home: found.home,
+            })),
             None => Ok(None),
         },
         None => Ok(None),
