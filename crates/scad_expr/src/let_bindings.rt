@@ -6,7 +6,7 @@ ghost use Rattle.scad_machine.specs.Answers.{Does};
 ghost use Rattle.scad_machine.specs.Machine.{held, env_in, along_in, state_of};
 ghost use Rattle.scad_stack.specs.Meaning.{bound_in_order, meaning};
 ghost use Rattle.scad_machine.specs.OpenFrames.{bound_in, outer, left, IsInner};
-ghost use Rattle.scad_stack.specs.Portions.{bind_one};
+ghost use Rattle.scad_stack.specs.Pieces.{bind_one};
 ghost use Rattle.scad_machine.specs.Variables.{empty, within};
 
 use crate::run::eval_at;
@@ -80,7 +80,7 @@ fn set_names<'p>(
 }
 
 /// Binds a name in the last frames.
-#[tactic(auto, using(scad_machine::proofs::OpenFrames::inner), unfolding(scad_stack::specs::Portions::bind_one))]
+#[tactic(auto, using(scad_machine::proofs::OpenFrames::inner), unfolding(scad_stack::specs::Pieces::bind_one))]
 fn set_one<'p>(
     alloc: Global,
     arg: &'p Arg,

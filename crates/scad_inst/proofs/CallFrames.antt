@@ -18,7 +18,7 @@ use Rattle.scad_expr.proofs.OpenFrames.{call-left}
 use Rattle.scad_inst.specs.Meaning.{statements_meaning}
 use Rattle.scad_inst.specs.Modules.{Found}
 use Rattle.scad_inst.specs.OpenFrames.{call_opened, dollars_of}
-use Rattle.scad_inst.specs.Portions.{own_opened}
+use Rattle.scad_inst.specs.Stack.{own_opened}
 use Rattle.scad_inst.proofs.Levels.{expressions-are}
 
 -- ---- a module of the program

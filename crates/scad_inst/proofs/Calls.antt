@@ -15,7 +15,7 @@ use Rattle.scad_expr.specs.Meaning.{bound}
 use Rattle.scad_expr.specs.OpenFrames.{opened_in}
 use Rattle.scad_inst.specs.Modules.{Found}
 use Rattle.scad_inst.specs.OpenFrames.{call_opened}
-use Rattle.scad_inst.specs.Portions.{called_with, own_opened}
+use Rattle.scad_inst.specs.Stack.{called_with, own_opened}
 use Rattle.scad_inst.proofs.Levels.{expressions-are}
 
 module _ (below : Below) (at : Place) (word : List ℕ) (w : Where) (env along : Env) (args : Arguments) (all : Items) (s : State) where

@@ -10,8 +10,7 @@ use Rattle.scad_ast.specs.Tree.{Items, no_items, entry}
 use Rattle.scad_value.specs.Datum.{Datum, number, range}
 use Rattle.scad_scope.specs.Env.{Env}
 use Rattle.scad_expr.specs.Arguments.{is_statement, statements}
-use Rattle.scad_expr.specs.Portions.{is_past, numbers_left}
-use Rattle.scad_expr.specs.Runs.{items}
+use Rattle.scad_expr.specs.Runs.{is_past, numbers_left, items}
 use Rattle.scad_expr.specs.State.{State, Outcome, gives, and_then}
 use Rattle.scad_expr.proofs.Loops.{nothing-left}
 use Rattle.scad_expr.proofs.RunsLeft.{items-range, left-past, left-next}

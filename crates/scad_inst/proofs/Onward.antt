@@ -48,9 +48,8 @@ use Rattle.scad_inst.specs.Frames.{below_of, with_depth}
 use Rattle.scad_inst.specs.Meaning.{statements_meaning, statement_layer, node, opened_scope, member, members_from, members, combined, called_own, run_children, chosen, children_by, child, turns, for_variables, program_of}
 use Rattle.scad_inst.specs.Modules.{Found}
 use Rattle.scad_inst.specs.ChildRange.{NameAlike}
-use Rattle.scad_inst.specs.Portions.{called_with, own_opened}
 use Rattle.scad_inst.specs.Scopes.{item_place, is_marked}
-use Rattle.scad_inst.specs.Stack.{Goes, Starts, Rest, onto, rest_of, listed, ended, goes_on, with_member, left_in}
+use Rattle.scad_inst.specs.Stack.{Goes, Starts, Rest, onto, rest_of, listed, ended, goes_on, with_member, left_in, called_with, own_opened}
 use Rattle.scad_inst.proofs.Calls.{own-call}
 use Rattle.scad_inst.proofs.Levels.{expressions-are, statement-some}
 use Rattle.scad_inst.proofs.ScopeFrames.{depth-left}

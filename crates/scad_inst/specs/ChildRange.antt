@@ -4,7 +4,7 @@ use Rattle.scad_ast.specs.Tree.{Items}
 use Rattle.scad_value.specs.Datum.{Datum, number}
 use Rattle.scad_scope.specs.Env.{Env}
 use Rattle.scad_expr.specs.State.{State}
-use Rattle.scad_expr.specs.Portions.{is_past}
+use Rattle.scad_expr.specs.Runs.{is_past}
 use Rattle.scad_tree.specs.Solid.{Solid}
 use Rattle.scad_leaves.specs.declared.space.Where.{Where}
 use Rattle.scad_inst.specs.Choice.{child_named}

@@ -7,7 +7,6 @@ pub mod Scopes
 pub mod Model
 -- What only the steps of the code promise to one another.
 pub mod Frames
-pub mod Portions
 pub mod FirstFrames
 pub mod Stack
 pub mod View

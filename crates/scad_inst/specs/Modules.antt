@@ -1,28 +1,19 @@
 -- Modules of a program, and the children of their calls (OpenSCAD User Manual, "User-Defined Functions and Modules").
-use Rattle.std.specs.Prelude.{ℕ, List, Option, Some, None, option_map, if◌then◌else◌}
-use Rattle.scad_ast.specs.Tree.{Parameter, Items, no_items, entry, Item, module_of}
-use Rattle.scad_scope.specs.Names.{is_same_name}
-use Rattle.scad_scope.specs.Env.{Env, outside, inside, Children, no_children, children, scope_of, children_of, or_else}
+use Rattle.std.specs.Prelude.{ℕ, List, Option, Some, None, option_map, option_and_then}
+use Rattle.scad_ast.specs.Tree.{Parameter, Items, Item, module_of}
+use Rattle.scad_scope.specs.Definitions.{module_word}
+use Rattle.scad_scope.specs.Env.{Env, outside, inside, Children, no_children, children, children_of}
+use Rattle.scad_expr.specs.Lookup.{FoundItem, item_named}
 
 -- the parameters and the body of a module
 pub record Module : Type 0 where
   pub parameters : List Parameter
   pub body : Items
 
--- the module, where the item defines one of this name, or else another
-abbrev pub defined : List ℕ → Item → Option Module → Option Module
-defined name (module_of at word parameters body) other =
-    if is_same_name name word then Some (record { parameters = parameters; body = body }) else other
-defined name _ other = other
-
--- the last definition of a name in a scope, or else another module
-abbrev pub last_defined : List ℕ → Option Module → Items → Option Module
-last_defined name so_far no_items = so_far
-last_defined name so_far (entry i more) = last_defined name (defined name i so_far) more
-
-abbrev pub defined_in : List ℕ → Option Items → Option Module
-defined_in name None = None
-defined_in name (Some scope) = last_defined name None scope
+-- the module that an item defines, where it defines one
+abbrev pub module_by : Item → Option Module
+module_by (module_of at word parameters body) = Some (record { parameters = parameters; body = body })
+module_by _ = None
 
 -- a module, and the environment where its definition stands
 pub record Found : Type 0 where
@@ -32,11 +23,12 @@ pub record Found : Type 0 where
 abbrev pub found_in : Env → Module → Found
 found_in env m = record { definition = m; home = env }
 
+abbrev pub module_there : FoundItem → Option Found
+module_there i = option_map (found_in i.home) (module_by i.item)
+
 -- the module of a name in the innermost scope that has one, with the frames from there on
 unfoldable pub module_named : List ℕ → Env → Option Found
-module_named name outside = None
-module_named name (inside f env) =
-    or_else (option_map (found_in (inside f env)) (defined_in name (scope_of f))) (module_named name env)
+module_named name env = option_and_then module_there (item_named module_word name env)
 
 -- the children that a frame has, or else others
 abbrev pub kept_or : Children → Children → Children

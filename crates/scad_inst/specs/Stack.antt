@@ -1,12 +1,14 @@
 -- What is left to do, on a stack of its own: what is at work, and the frames that wait for its tree.
 use Rattle.std.specs.Prelude.{◌≡◌, ◌≢◌, ℕ, List, [], ◌∷◌, ◌++◌, drop, Result, Ok, Err, OnOk, Option, Some, None, Bool, if◌then◌else◌, Vec}
 use Rattle.std.specs.Global.{Global}
+use Rattle.scad_fault.specs.declared.fault.FaultKind.{FaultKind}
 use Rattle.scad_fault.specs.declared.place.Place.{Place}
 use Rattle.scad_ast.specs.Scope.{item_of, items}
 use Rattle.scad_ast.specs.View.{arguments}
-use Rattle.scad_ast.specs.Tree.{Item, Items}
+use Rattle.scad_ast.specs.Tree.{Arguments, Item, Items}
 use Rattle.scad_value.specs.Datum.{Datum}
 use Rattle.scad_value.specs.View.{data_of}
+use Rattle.scad_scope.specs.Env.{Env}
 use Rattle.scad_tree.specs.declared.node.Node.{Node}
 use Rattle.scad_tree.specs.Normal.{united}
 use Rattle.scad_tree.specs.Solid.{Solid, nothing}
@@ -16,10 +18,13 @@ use Rattle.scad_machine.specs.declared.fault.EvalFault.TheVariants.{Memory}
 use Rattle.scad_machine.specs.declared.machine.Machine.{Machine}
 use Rattle.scad_expr.specs.Answers.{Does}
 use Rattle.scad_expr.specs.Machine.{Held, held, env_in, along_in, state_of}
+use Rattle.scad_expr.specs.Meaning.{values, bound, Opened}
 use Rattle.scad_expr.specs.OpenFrames.{left}
-use Rattle.scad_expr.specs.Portions.{numbers_left}
-use Rattle.scad_expr.specs.State.{State, Outcome, gives, refuses, Action, pure, and_then, ◌>>=◌}
+use Rattle.scad_expr.specs.Runs.{numbers_left}
+use Rattle.scad_expr.specs.State.{State, Outcome, gives, refuses, Action, pure, and_then, ◌>>=◌, fault_of}
+use Rattle.scad_modules.specs.declared.module.Module.{Module}
 use Rattle.scad_leaves.specs.declared.operation.Operation.{Operation}
+use Rattle.scad_leaves.specs.declared.space.Where.{Where}
 use Rattle.scad_leaves.specs.Hulls.{hull_made}
 use Rattle.scad_leaves.specs.Operation.{operated}
 use Rattle.scad_leaves.specs.Products.{judged}
@@ -35,7 +40,9 @@ use Rattle.scad_inst.specs.declared.work.Focus.{Focus}
 use Rattle.scad_inst.specs.declared.work.Focus.TheVariants.{Statement, Members, Children, Variables, Turns, Given}
 use Rattle.scad_inst.specs.Choice.{child_named}
 use Rattle.scad_inst.specs.Frames.{below_of, with_depth}
-use Rattle.scad_inst.specs.Meaning.{members_from, for_variables, turns, children_by}
+use Rattle.scad_inst.specs.Meaning.{Below, called_own, called_known, members_from, for_variables, turns, children_by}
+use Rattle.scad_inst.specs.Modules.{Found}
+use Rattle.scad_inst.specs.OpenFrames.{call_opened}
 
 -- the values that are left
 unfoldable pub left_in : Remainder → List Datum
@@ -63,6 +70,33 @@ listed k h ss = k h ss nothing
 abbrev pub with_member : Bool → List Solid → Solid → List Solid
 with_member marked ss t = if marked then ss else ss ++ t ∷ []
 
+-- ---- calls, by what their names mean
+module _ (below : Below) where
+  -- the frames of a call of a module of the program
+  unfoldable pub own_opened : Env → Env → Found → Arguments → List Datum → Items → Action Opened
+  own_opened env along m args found all = do
+    b ← bound below.expressions m.home along m.definition.parameters args found
+    pure (call_opened m.home along all env b)
+
+  -- a call of a module of the program, with the values of its arguments
+  unfoldable pub called_with : Place → Where → Env → Env → Found → Arguments → Items → Action Solid
+  called_with at w env along m args all = do
+    found ← values below.expressions env along args []
+    called_own below at w env along m args found all
+
+  -- and of a module of the language
+  unfoldable pub known_with : Module → Place → List ℕ → Where → Env → Env → Arguments → Items → Action Solid
+  known_with k at name w env along args all = do
+    found ← values below.expressions env along args []
+    called_known below k at name w env along args found all
+
+  -- a name that is refused, once its arguments were evaluated
+  unfoldable pub refused_with : FaultKind → Place → List ℕ → Env → Env → Arguments → Action Solid
+  refused_with kind at name env along args = do
+    found ← values below.expressions env along args []
+    fault_of kind at name
+
+-- ---- what follows
 -- what is at work, and then what follows it
 unfoldable pub goes_on : Focus → Rest → Held → List Solid → Action Solid
 goes_on (Statement i w) k h ss s =

@@ -1,10 +1,8 @@
 -- What modules of a program in memory are to the definitions.
-use Rattle.std.specs.Prelude.{List, Option, Some, None, map}
+use Rattle.std.specs.Prelude.{List, map}
 use Rattle.scad_ast.specs.declared.statement.Item.{Item}
 use Rattle.scad_ast.specs.declared.statement.Param.{Param}
 use Rattle.scad_ast.specs.Scope.{parameter, items}
-use Rattle.scad_ast.specs.Tree.{module_of as defines}
-use Rattle.scad_ast.specs.Tree.{Item as TreeItem}
 use Rattle.scad_scope.specs.Env.{Env}
 use Rattle.scad_scope.specs.FrameStore.{env_at}
 use Rattle.scad_inst.specs.declared.modules.Defined.{Defined}
@@ -22,8 +20,3 @@ module_at d = definition d.params.now.items d.body.now.items
 -- and the environment where its definition stands, among those of all frames
 abbrev pub found_at : List Env → DefinedAt → Found
 found_at envs d = record { definition = module_at d.module; home = env_at envs d.home }
-
--- the module that an item defines, where it defines one
-abbrev pub module_by : TreeItem → Option Module
-module_by (defines at word parameters body) = Some (record { parameters = parameters; body = body })
-module_by _ = None

@@ -12,8 +12,7 @@ ghost use Rattle.scad_expr.specs.State.{Outcome};
 ghost use Rattle.scad_inst.specs.Frames.{below_of};
 ghost use Rattle.scad_inst.specs.Meaning.{node, called};
 ghost use Rattle.scad_inst.specs.Modules.{module_named};
-ghost use Rattle.scad_inst.specs.Portions.{called_with, known_with, refused_with};
-ghost use Rattle.scad_inst.specs.Stack.{Goes, onward};
+ghost use Rattle.scad_inst.specs.Stack.{called_with, known_with, refused_with, Goes, onward};
 ghost use Rattle.scad_inst.specs.View.{found_at};
 
 use crate::built_in::built_in;
@@ -73,7 +72,7 @@ fn called<'p>(
 }
 
 /// A call of a module of the program.
-#[tactic(auto, using(crate::proofs::Calls::own_frames, crate::proofs::Onward::nodes), unfolding(crate::specs::Portions::called_with))]
+#[tactic(auto, using(crate::proofs::Calls::own_frames, crate::proofs::Onward::nodes), unfolding(crate::specs::Stack::called_with))]
 fn called_own<'p>(
     own: DefinedAt<'p>,
     call: Call<'p>,
@@ -94,7 +93,7 @@ fn called_own<'p>(
 }
 
 /// A call of a name that the program doesn't define.
-#[tactic(auto, unfolding(crate::specs::Meaning::called, crate::specs::Portions::known_with, crate::specs::Portions::refused_with))]
+#[tactic(auto, unfolding(crate::specs::Meaning::called, crate::specs::Stack::known_with, crate::specs::Stack::refused_with))]
 fn called_by<'p>(
     meaning: Name,
     call: Call<'p>,
@@ -118,7 +117,7 @@ fn called_by<'p>(
 }
 
 /// A name that is refused after the arguments were evaluated.
-#[tactic(auto, using(crate::proofs::Levels::expressions), unfolding(crate::specs::Portions::refused_with, scad_machine::specs::State::fault_of))]
+#[tactic(auto, using(crate::proofs::Levels::expressions), unfolding(crate::specs::Stack::refused_with, scad_machine::specs::State::fault_of))]
 fn refused<'p>(
     kind: FaultKind,
     call: Call<'p>,
@@ -134,7 +133,7 @@ fn refused<'p>(
 }
 
 /// A call of a module of the language: its `$` arguments are set in frames of its own.
-#[tactic(auto, using(crate::proofs::Levels::expressions, crate::proofs::Onward::nodes), unfolding(crate::specs::Portions::known_with, crate::specs::Meaning::called_known, crate::specs::Stack::onto))]
+#[tactic(auto, using(crate::proofs::Levels::expressions, crate::proofs::Onward::nodes), unfolding(crate::specs::Stack::known_with, crate::specs::Meaning::called_known, crate::specs::Stack::onto))]
 fn called_known<'p>(
     known: Module,
     call: Call<'p>,

@@ -8,17 +8,18 @@ ghost use Rattle.scad_value.specs.View.{datum_of, data_in, data_of};
 ghost use Rattle.scad_scope.specs.FrameStore.{env_at, envs};
 ghost use Rattle.scad_expr.specs.Answers.{Does, nothing, done_at};
 ghost use Rattle.scad_expr.specs.Machine.{held, env_in, along_in, state_of};
-ghost use Rattle.scad_expr.specs.OpenFrames.{bound_in, left, last_of, opened_in, outer, IsInner};
+ghost use Rattle.scad_expr.specs.OpenFrames.{bound_in, left, opened_in, outer, IsInner};
 ghost use Rattle.scad_expr.specs.Meaning.{meaning, bound_in_order};
-ghost use Rattle.scad_expr.specs.Variables.{empty, is_dollar, within};
+ghost use Rattle.scad_expr.specs.Variables.{empty, within};
 ghost use Rattle.scad_inst.specs.Frames.{below_of, with_depth, scope_held, IsScope};
 ghost use Rattle.scad_inst.specs.OpenFrames.{dollars_of};
-ghost use Rattle.scad_inst.specs.Portions.{own_opened};
+ghost use Rattle.scad_inst.specs.Stack.{own_opened};
 ghost use Rattle.scad_inst.specs.View.{found_at};
 
 use crate::modules::DefinedAt;
 use scad_ast::{Arg, Args, Scope};
 use scad_expr::{Callee, EvalFault, Machine, bind, let_names};
+use scad_machine::{is_dollar, last_of};
 use scad_scope::Kept;
 use scad_value::{Value, copy};
 use std::alloc::Global;
@@ -59,15 +60,6 @@ pub(crate) fn here(m: &Machine) -> u32
     m.here
 }
 
-/// The number of the last frame of the `$` names, where there is one.
-#[tactic(auto, using(scad_machine::proofs::OpenFrames::lasts), unfolding(scad_machine::specs::Machine::held))]
-fn last_along(m: &Machine) -> Option<u32>
-    ensures { result ≡ last_of (held m.now).along }
-{
-    let count = m.along.len();
-    if count == 0 { None } else { Some(count - 1) }
-}
-
 /// Opens the frames of a scope inside the frame of a number. Gives the number of the one from which names
 /// were sought before.
 #[tactic(auto, unfolding(scad_machine::specs::Machine::held, scad_machine::specs::Machine::state_of, crate::specs::Frames::scope_held))]
@@ -80,7 +72,7 @@ pub(crate) fn enter_scope<'p>(
     ensures held { OnOk result (held m.new ≡ scope_held (items scope.now.items) home empty (held m.old)) }
     ensures back { IfOk result (λ back. back ≡ (held m.old).here) }
 {
-    let parent = last_along(m);
+    let parent = last_of(&m.along);
     let number = m.frames.push(Some(home), Some(scope), None)?;
     m.along.push(parent, None, None)?;
     let back = m.here;
@@ -132,16 +124,6 @@ pub(crate) fn open_own<'p>(
     };
     bind(alloc, callee, args, found, kept, m)?;
     Ok(back)
-}
-
-/// Whether the name begins with `$`.
-fn is_dollar(name: &[u8]) -> bool
-    ensures { result ≡ is_dollar name.now }
-{
-    match name {
-        [first, ..] => *first == b'$',
-        [] => false,
-    }
 }
 
 /// Sets the name of an argument in the last frames, where it begins with `$`.

@@ -2,11 +2,12 @@
 
 ghost use Rattle.std.specs.Prelude.{◌≡◌, None, option_map};
 ghost use Rattle.scad_ast.specs.Scope.{item_of, items};
-ghost use Rattle.scad_expr.specs.Arguments.{is_statement, statements};
+ghost use Rattle.scad_expr.specs.Arguments.{statements};
 ghost use Rattle.scad_inst.specs.Scopes.{item_place, is_marked, child_at};
 
 use scad_ast::{Item, Scope};
 use scad_fault::Place;
+use scad_machine::is_statement;
 
 /// The place of an item.
 #[tactic(auto, using(crate::proofs::Items::kinds))]
@@ -18,19 +19,6 @@ pub(crate) fn item_place(item: &Item) -> Place
         Item::Module(_, _, _, at) => *at,
         Item::Function(_, _, _, at) => *at,
         Item::Run(stmt) => stmt.at,
-    }
-}
-
-/// Whether the item is a statement.
-#[tactic(auto, using(crate::proofs::Items::kinds))]
-pub(crate) fn is_statement(item: &Item) -> bool
-    ensures { result ≡ is_statement (item_of item.now) }
-{
-    match item {
-        Item::Run(_) => true,
-        Item::Assign(_, _, _) => false,
-        Item::Module(_, _, _, _) => false,
-        Item::Function(_, _, _, _) => false,
     }
 }
 

@@ -15,7 +15,7 @@ ghost use Rattle.scad_inst.specs.Meaning.{member, members_from, combined};
 ghost use Rattle.scad_inst.specs.Stack.{Goes, Starts, rest, made_in, goes_on, listed, onward};
 
 use crate::frames::here;
-use crate::item::{is_marked, is_statement};
+use crate::item::is_marked;
 use crate::scopes::open_scope;
 use crate::stack::Stack;
 use crate::work::{Focus, Frame, at_work};
@@ -23,6 +23,7 @@ use scad_ast::{Item, Scope};
 use scad_expr::{EvalFault, Machine};
 use scad_fault::Place;
 use scad_leaves::{Operation, Where, tree_of_operation};
+use scad_machine::is_statement;
 use scad_tree::Tree;
 
 /// An item is run where it is a statement, and then what comes behind it.

@@ -3,7 +3,7 @@
 ghost use Rattle.std.specs.Prelude.{◌≡◌, ◌∷◌, [], drop, IfOk, MatchOption, option_map};
 ghost use Rattle.scad_ast.specs.Scope.{item_of, items};
 ghost use Rattle.scad_value.specs.View.{datum_of, data_of};
-ghost use Rattle.scad_expr.specs.Portions.{numbers_left};
+ghost use Rattle.scad_expr.specs.Runs.{numbers_left};
 ghost use Rattle.scad_expr.specs.Runs.{items as run_over};
 ghost use Rattle.scad_inst.specs.ChildRange.{NameAlike};
 ghost use Rattle.scad_inst.specs.Stack.{left_in, NamesNext};

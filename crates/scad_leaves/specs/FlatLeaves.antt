@@ -55,6 +55,17 @@ turned_leaf at name o t whole = do
   keep_profile ring
   swept at ring t whole
 
+-- the profile of a leaf
+unfoldable pub profile_made : Place → List ℕ → Outline → Matrix → Action (List Pair)
+profile_made at name o by = argued at name (profile_of by (ring_of o))
+
+-- it is judged, kept for a hull and turned
+unfoldable pub profile_turned : Place → List Pair → Turning → Matrix → Action Solid
+profile_turned at ring t whole = do
+  judge_sides t.word ring
+  keep_profile ring
+  swept at ring t whole
+
 -- ---- inside either
 unfoldable pub leaf_in : Place → List ℕ → Outline → Matrix → Space → Action Solid
 leaf_in at name o whole Outside = fault MixedDimensions at

@@ -8,5 +8,4 @@ pub mod Profiles
 pub mod Shapes
 pub mod Where
 -- What only the steps of the code promise to one another.
-pub mod Portions
 pub mod View

@@ -12,9 +12,8 @@ ghost use Rattle.scad_tree.specs.View.{solid_of};
 ghost use Rattle.scad_machine.specs.Answers.{Does, nothing};
 ghost use Rattle.scad_machine.specs.Machine.{held, state_of};
 ghost use Rattle.scad_machine.specs.State.{State};
-ghost use Rattle.scad_leaves.specs.FlatLeaves.{linear_leaf, judge_points, judge_sides, swept, turned_leaf, leaf_in, flat_leaves};
+ghost use Rattle.scad_leaves.specs.FlatLeaves.{linear_leaf, judge_points, judge_sides, swept, turned_leaf, leaf_in, flat_leaves, profile_made, profile_turned};
 ghost use Rattle.scad_leaves.specs.Products.{count_triangles};
-ghost use Rattle.scad_leaves.specs.Portions.{profile_made, profile_turned};
 ghost use Rattle.scad_leaves.specs.View.{trees_in};
 
 use crate::arguments::profile_argued;
@@ -139,7 +138,7 @@ pub(crate) fn swept<'p>(
 }
 
 /// The outline of a leaf, placed as a profile.
-#[tactic(auto, unfolding(crate::specs::Portions::profile_made))]
+#[tactic(auto, unfolding(crate::specs::FlatLeaves::profile_made))]
 fn profile_made(
     alloc: Global,
     leaf: FlatLeaf,
@@ -157,7 +156,7 @@ fn profile_made(
 }
 
 /// A placed profile is judged, kept for a hull and turned.
-#[tactic(auto, unfolding(crate::specs::Portions::profile_turned))]
+#[tactic(auto, unfolding(crate::specs::FlatLeaves::profile_turned))]
 fn profile_turned<'p>(
     alloc: Global,
     at: Place,
@@ -178,7 +177,7 @@ fn profile_turned<'p>(
 
 /// A leaf inside `rotate_extrude`: it is counted, then the points of its outline are judged; the outline is
 /// placed as a profile, which is judged in its turn, kept for a hull and turned.
-#[tactic(auto, unfolding(crate::specs::FlatLeaves::turned_leaf, crate::specs::Portions::profile_made, crate::specs::Portions::profile_turned))]
+#[tactic(auto, unfolding(crate::specs::FlatLeaves::turned_leaf, crate::specs::FlatLeaves::profile_made, crate::specs::FlatLeaves::profile_turned))]
 fn turned_leaf<'p>(
     alloc: Global,
     leaf: FlatLeaf,

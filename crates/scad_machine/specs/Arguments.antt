@@ -1,7 +1,7 @@
 -- Which parameter takes which argument (OpenSCAD User Manual, "Function Literals", "User-Defined Functions and
 -- Modules").
 use Rattle.std.specs.Prelude.{ℕ, ◌+◌, ◌*◌, ◌||◌, pos, Bool, true, false, min, List, [], ◌∷◌, Option, Some, None, slice_get, is_some, if◌then◌else◌, codes}
-use Rattle.scad_ast.specs.Tree.{Arguments, no_arguments, argument, Items, no_items, entry, Item, call_of, choice}
+use Rattle.scad_ast.specs.Tree.{Expression, Arguments, no_arguments, argument, Items, no_items, entry, Item, call_of, choice}
 use Rattle.scad_value.specs.Datum.{Datum, number}
 use Rattle.scad_scope.specs.Names.{Names, is_same_name, value_of_name, with_name}
 use Rattle.scad_scope.specs.Env.{Children, no_children, children}
@@ -52,6 +52,12 @@ are_named (argument (Some name) e more) = are_named more
 abbrev pub is_none : Arguments → Bool
 is_none no_arguments = true
 is_none (argument word e more) = false
+
+-- the argument of a call that has one
+abbrev pub lone : Arguments → Option Expression
+lone no_arguments = None
+lone (argument word e no_arguments) = Some e
+lone (argument word e (argument word2 e2 more)) = None
 
 -- ---- child statements
 abbrev pub is_statement : Item → Bool

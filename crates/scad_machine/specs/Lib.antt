@@ -1,6 +1,7 @@
 pub mod Answers
 pub mod Arguments
 pub mod Functions
+pub mod Lookup
 pub mod Machine
 pub mod OpenFrames
 pub mod Parameters

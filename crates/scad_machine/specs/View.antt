@@ -1,15 +1,16 @@
 -- What lists in memory are to the definitions.
-use Rattle.std.specs.Prelude.{List, Option, Some, None, map}
+use Rattle.std.specs.Prelude.{List, map}
 use Rattle.scad_ast.specs.declared.expression.Expr.{Expr}
 use Rattle.scad_ast.specs.declared.statement.Param.{Param}
-use Rattle.scad_ast.specs.Scope.{parameter}
-use Rattle.scad_ast.specs.Tree.{Item, function_of as defines}
+use Rattle.scad_ast.specs.Scope.{parameter, item_of}
 use Rattle.scad_ast.specs.View.{expression_of}
 use Rattle.scad_scope.specs.Env.{Env}
 use Rattle.scad_scope.specs.FrameStore.{env_at}
 use Rattle.scad_machine.specs.declared.functions.Defined.{Defined}
 use Rattle.scad_machine.specs.declared.functions.DefinedAt.{DefinedAt}
+use Rattle.scad_machine.specs.declared.lookup.ItemAt.{ItemAt}
 use Rattle.scad_machine.specs.Functions.{Function, Found}
+use Rattle.scad_machine.specs.Lookup.{FoundItem}
 
 -- a function that is defined by these parameters and this expression
 abbrev pub function_of : List Param → Expr → Function
@@ -23,7 +24,6 @@ function_at d = function_of d.params.now.items d.body.now
 abbrev pub found_at : List Env → DefinedAt → Found
 found_at envs d = record { function = function_at d.function; home = env_at envs d.home }
 
--- the function that an item defines, where it defines one
-abbrev pub function_by : Item → Option Function
-function_by (defines at word parameters body) = Some (record { parameters = parameters; body = body })
-function_by _ = None
+-- the item that stands there
+abbrev pub item_found_at : List Env → ItemAt → FoundItem
+item_found_at envs i = record { item = item_of i.item.now; home = env_at envs i.home }

@@ -16,7 +16,7 @@ use scad_value::{Value, copy};
 use std::alloc::Global;
 
 /// Whether the name begins with `$`.
-pub(crate) fn is_dollar(name: &[u8]) -> bool
+pub fn is_dollar(name: &[u8]) -> bool
     ensures { result ≡ is_dollar name.now }
 {
     match name {

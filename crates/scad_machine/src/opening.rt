@@ -34,7 +34,7 @@ pub struct Call<'p> {
 
 /// The number of the last frame, where there is one.
 #[tactic(auto, using(crate::proofs::OpenFrames::lasts))]
-fn last_of(frames: &Frames) -> Option<u32>
+pub fn last_of(frames: &Frames) -> Option<u32>
     ensures { result ≡ last_of (stored frames.now) }
 {
     let count = frames.len();

@@ -172,7 +172,7 @@ pub(crate) fn missing<'p>(
 }
 
 /// Whether an item is a statement.
-fn is_statement(item: &Item) -> bool
+pub fn is_statement(item: &Item) -> bool
     ensures { result ≡ is_statement (item_of item.now) }
 {
     match item {

@@ -15,7 +15,7 @@ use Rattle.scad_scope.specs.Names.{is_same_name}
 use Rattle.scad_machine.specs.declared.fault.EvalFault.{EvalFault}
 use Rattle.scad_machine.specs.declared.fault.EvalFault.TheVariants.{Memory as NoMemory}
 use Rattle.scad_machine.specs.State.{State, refuses}
-use Rattle.scad_operations.specs.Portions.{lone}
+use Rattle.scad_machine.specs.Arguments.{lone}
 use Rattle.scad_operations.specs.Values.{member_of, called_builtin}
 
 -- ---- nothing stands in `undef`

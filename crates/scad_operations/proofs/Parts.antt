@@ -15,8 +15,7 @@ use Rattle.scad_value.specs.declared.value.Value.{Value}
 use Rattle.scad_operations.specs.declared.part.Part.{Part}
 use Rattle.scad_operations.specs.declared.part.Part.TheVariants.{One, Run}
 use Rattle.scad_operations.specs.Parts.{part_data, parts_of, MakeAlike, MakeAlikeThen}
-use Rattle.scad_operations.specs.Portions.{numbers_left}
-use Rattle.scad_operations.specs.Runs.{items, as_elements, numbers_from, count_of_range}
+use Rattle.scad_operations.specs.Runs.{items, as_elements, numbers_from, count_of_range, numbers_left}
 use Rattle.scad_machine.specs.State.{State, make, take, over, step_limit, nesting_limit, pure, ◌>>◌}
 
 -- ---- one more part

@@ -12,8 +12,7 @@ use Rattle.scad_value.specs.View.{datum_of, elements, data_of}
 use Rattle.scad_value.specs.declared.value.Value.{Value}
 use Rattle.scad_value.specs.declared.value.Value.{List as ListValue}
 use Rattle.scad_value.proofs.Rows.{vector_view}
-use Rattle.scad_operations.specs.Runs.{numbers_from, count_up, count_down, count_of_range, items, as_list}
-use Rattle.scad_operations.specs.Portions.{is_past, numbers_left}
+use Rattle.scad_operations.specs.Runs.{numbers_from, count_up, count_down, count_of_range, items, as_list, is_past, numbers_left}
 
 -- ---- values behind others
 pub data-push : (all : List Value) (v : Value) → data_of (all ++ v ∷ []) ≡ data_of all ++ datum_of v ∷ []

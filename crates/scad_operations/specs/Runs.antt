@@ -1,5 +1,5 @@
 -- Ranges, and what `for` and `each` run over (OpenSCAD User Manual, "Ranges", "For Loop", "List Comprehensions").
-use Rattle.std.specs.Prelude.{ℕ, zero, suc, ◌+◌, ℤ, pos, ◌+ℤ◌, ◌-ℤ◌, int_lt, int_div, unsigned_abs, List, [], ◌∷◌, map, if◌then◌else◌}
+use Rattle.std.specs.Prelude.{ℕ, zero, suc, ◌+◌, ℤ, pos, ◌+ℤ◌, ◌-ℤ◌, int_lt, int_div, unsigned_abs, Bool, List, [], ◌∷◌, map, Option, Some, None, if◌then◌else◌}
 use Rattle.scad_value.specs.Datum.{Datum, undef, boolean, number, string, vector, range, Elements, no_elements, element}
 
 -- so many numbers from the first one on, each a step after the one before
@@ -18,6 +18,15 @@ count_down start step end = if int_lt start end then 0 else (1 + unsigned_abs (i
 abbrev pub count_of_range : ℤ → ℤ → ℤ → ℕ
 count_of_range start step end =
     if int_lt step (pos 0) then count_down start step end else count_up start step end
+
+-- whether a number is past the end of a range
+abbrev pub is_past : ℤ → ℤ → ℤ → Bool
+is_past n step end = if int_lt step (pos 0) then int_lt n end else int_lt end n
+
+-- the numbers of a range from one of them on, where there is one
+abbrev pub numbers_left : Option ℤ → ℤ → ℤ → List Datum
+numbers_left None step end = []
+numbers_left (Some n) step end = numbers_from n step (count_of_range n step end)
 
 abbrev pub as_list : Elements → List Datum
 as_list no_elements = []

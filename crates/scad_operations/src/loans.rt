@@ -11,7 +11,7 @@ ghost use Rattle.scad_value.specs.View.{datum_of};
 ghost use Rattle.scad_machine.specs.Answers.{Does};
 ghost use Rattle.scad_machine.specs.Machine.{held, env_in, along_in, state_of};
 ghost use Rattle.scad_operations.specs.Values.{called_builtin, member_of};
-ghost use Rattle.scad_operations.specs.Portions.{lone};
+ghost use Rattle.scad_machine.specs.Arguments.{lone};
 ghost use Rattle.scad_machine.specs.Variables.{or_undef, variable};
 
 use crate::operations::{member, refusal};

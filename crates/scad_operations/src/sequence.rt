@@ -3,8 +3,7 @@
 ghost use Rattle.std.specs.Prelude.{◌≡◌, ◌++◌, ◌∷◌, [], false, Some, IfOk, OnOk, MatchOption, map};
 ghost use Rattle.scad_value.specs.Datum.{number, string};
 ghost use Rattle.scad_value.specs.View.{datum_of, data_of, data_in};
-ghost use Rattle.scad_operations.specs.Portions.{is_past, numbers_left};
-ghost use Rattle.scad_operations.specs.Runs.{items};
+ghost use Rattle.scad_operations.specs.Runs.{is_past, numbers_left, items};
 
 use scad_fault::Chars;
 use scad_num::Num;

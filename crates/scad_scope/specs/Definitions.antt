@@ -28,14 +28,7 @@ abbrev pub last_item : (Item → Option (List ℕ)) → List ℕ → Option Item
 last_item word_of name so_far no_items = so_far
 last_item word_of name so_far (entry i more) = last_item word_of name (defining word_of name i so_far) more
 
+-- the item that a scope defines a name by
 abbrev pub item_in : (Item → Option (List ℕ)) → List ℕ → Option Items → Option Item
 item_in word_of name None = None
 item_in word_of name (Some scope) = last_item word_of name None scope
-
--- the function of a name in a scope: the last item that defines it
-abbrev pub function_in : List ℕ → Option Items → Option Item
-function_in = item_in function_word
-
--- the module of a name in a scope
-abbrev pub module_in : List ℕ → Option Items → Option Item
-module_in = item_in module_word

@@ -27,7 +27,7 @@ impl<'p> Frames<'p> {
     ghost use Rattle.scad_ast.specs.Scope.{item_of, items};
     ghost use Rattle.scad_value.specs.View.{datum_of};
     ghost use Rattle.scad_scope.specs.Chain.{names_at, HoldNames};
-    ghost use Rattle.scad_scope.specs.Definitions.{item_in, function_in, module_in};
+    ghost use Rattle.scad_scope.specs.Definitions.{item_in};
     ghost use Rattle.scad_scope.specs.Env.{sought};
     ghost use Rattle.scad_scope.specs.Listing.{Listing};
     ghost use Rattle.scad_scope.specs.Slots.{slots_of};
@@ -192,9 +192,10 @@ impl<'p> Frames<'p> {
         self.frames[at as usize].names.names()
     }
 
-    /// The item of a kind that a name means in the scope of the frame of a number.
+    /// The item of a kind that defines a name in the scope of the frame of a number: the last one. Where names
+    /// are sought often among many items, the frame makes tables of them.
     #[tactic(auto, using(crate::proofs::Outwards::writes), unfolding(crate::specs::View::stored, crate::specs::View::listed))]
-    fn item(&mut self, at: u32, kind: Kind, name: &[u8]) -> Result<Option<&'p Item>, AllocError>
+    pub fn item(&mut self, at: u32, kind: Kind, name: &[u8]) -> Result<Option<&'p Item>, AllocError>
         ensures found { IfOk result (λ r. option_map (λ i. item_of i.now) r
             ≡ item_in (word_in kind) name.now (stored_at (stored self.old) at).scope) }
         ensures same { stored self.new ≡ stored self.old }
@@ -204,27 +205,6 @@ impl<'p> Frames<'p> {
             return Ok(None);
         }
         self.frames[at as usize].item(self.alloc, kind, name)
-    }
-
-    /// The function of a name in the scope of the frame of a number: the last item that defines it. Where
-    /// names are sought often among many items, the frame makes tables of them.
-    pub fn function(&mut self, at: u32, name: &[u8]) -> Result<Option<&'p Item>, AllocError>
-        ensures found { IfOk result (λ r. option_map (λ i. item_of i.now) r
-            ≡ function_in name.now (stored_at (stored self.old) at).scope) }
-        ensures same { stored self.new ≡ stored self.old }
-        ensures listed { listed self.new ≡ listed self.old }
-    {
-        self.item(at, Kind::Function, name)
-    }
-
-    /// The module of a name in the scope of the frame of a number, likewise.
-    pub fn module(&mut self, at: u32, name: &[u8]) -> Result<Option<&'p Item>, AllocError>
-        ensures found { IfOk result (λ r. option_map (λ i. item_of i.now) r
-            ≡ module_in name.now (stored_at (stored self.old) at).scope) }
-        ensures same { stored self.new ≡ stored self.old }
-        ensures listed { listed self.new ≡ listed self.old }
-    {
-        self.item(at, Kind::Module, name)
     }
 
     /// The value of a name in the frame of a number, or else in the innermost of those round it that has it.

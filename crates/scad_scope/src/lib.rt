@@ -25,6 +25,7 @@ mod variables;
 pub use binding::{Binding, Bindings};
 pub use child_statements::Kept;
 pub use frames::Frames;
+pub use kind::Kind;
 pub use name_map::NameMap;
 pub use names::Names;
 pub use resolution::resolve;

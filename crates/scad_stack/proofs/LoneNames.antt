@@ -6,7 +6,7 @@ use Rattle.scad_ast.specs.Tree.{Expression, Arguments, no_arguments, argument, n
 use Rattle.scad_scope.specs.Env.{Env}
 use Rattle.scad_machine.specs.State.{State, over, step, gives, and_then}
 use Rattle.scad_machine.specs.Variables.{variable}
-use Rattle.scad_operations.specs.Portions.{lone}
+use Rattle.scad_machine.specs.Arguments.{lone}
 use Rattle.scad_stack.specs.Meaning.{Below, value, value_layer, node, values}
 use Rattle.scad_stack.proofs.DepthLeft.{value_none, value_more}
 

@@ -11,7 +11,7 @@ use Rattle.scad_machine.specs.State.{State, Outcome, gives, refuses, Action, and
 use Rattle.scad_machine.specs.Variables.{Bound, set, empty, within}
 use Rattle.scad_machine.specs.Machine.{Held, env_in, along_in}
 use Rattle.scad_machine.specs.Arguments.{is_given, given, set_all}
-use Rattle.scad_stack.specs.Portions.{bind_one, defaulted}
+use Rattle.scad_stack.specs.Pieces.{bind_one, defaulted}
 use Rattle.scad_stack.specs.Meaning.{Below, values, default_value, defaults, bound, bound_in_order}
 use Rattle.scad_ast.specs.declared.statement.Param.{Param}
 use Rattle.scad_ast.specs.Scope.{parameter}

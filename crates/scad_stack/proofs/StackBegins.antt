@@ -38,8 +38,7 @@ use Rattle.scad_machine.specs.Variables.{Bound, set, empty, within}
 use Rattle.scad_stack.specs.Meaning.{Below, meaning, value, node, element_node, default_value, bound, called_own, bound_in_order, loop_turns, turns, for_variables, judge_named}
 use Rattle.scad_stack.specs.Meaning.{elements as elements_given}
 use Rattle.scad_machine.specs.OpenFrames.{opened, set_in_last, left, bound_in, outer, IsInner}
-use Rattle.scad_stack.specs.Pieces.{element_if, either_element}
-use Rattle.scad_stack.specs.Portions.{defaulted}
+use Rattle.scad_stack.specs.Pieces.{element_if, either_element, defaulted}
 use Rattle.scad_stack.specs.Stack.{Whole, Rest, added, gathers, goes_round, onto, binds, fills, entered, filling, binding, inside_of, looped, loop_of, renewed, turned, turning, turns_of, course}
 use Rattle.scad_machine.specs.View.{function_of}
 use Rattle.scad_stack.proofs.Loops.{twice, same-then, call-begins}

@@ -21,8 +21,8 @@ use Rattle.scad_operations.specs.Runs.{as_elements, items}
 use Rattle.scad_machine.specs.Variables.{Bound, set, empty, within}
 use Rattle.scad_stack.specs.Meaning.{Below, meaning, value, value_layer, node, values, default_value, called, called_own, called_builtin, bound_in_order, loop_turns, turns, for_variables}
 use Rattle.scad_machine.specs.OpenFrames.{opened, set_in_last, left, bound_in, outer, IsInner}
-use Rattle.scad_stack.specs.Pieces.{named_of}
-use Rattle.scad_stack.specs.Portions.{defaulted, lone}
+use Rattle.scad_stack.specs.Pieces.{defaulted, named_of}
+use Rattle.scad_machine.specs.Arguments.{lone}
 use Rattle.scad_stack.specs.Stack.{Whole, Rest, ended, added, behind, args_of, binds, fills, renewed, turned, repeats, served, supplied, onto, rest_of}
 use Rattle.scad_stack.proofs.DepthLeft.{value_none, value_more, place_of, element_none, element_more}
 use Rattle.scad_stack.proofs.LoneNames.{values-lone}

@@ -2,7 +2,6 @@
 pub mod Meaning
 pub mod Pieces
 pub mod Places
-pub mod Portions
 pub mod Stack
 -- What lies below.
 pub use Rattle.scad_operations.specs.Operation

@@ -1,13 +1,14 @@
--- What is left of a rule of the meaning of expressions once a part of it has its value.
+-- Pieces of the rules of the meaning of expressions: what is left of a rule once a part of it has its value, or of a list.
 use Rattle.std.specs.Prelude.{ℕ, zero, suc, true, false, List, [], ◌∷◌, ◌++◌, Option, Some, None, if◌then◌else◌}
 use Rattle.scad_fault.specs.declared.place.Place.{Place}
-use Rattle.scad_ast.specs.Tree.{Expression, Arguments, no_arguments, argument, Element}
+use Rattle.scad_ast.specs.Tree.{Expression, Parameter, Arguments, no_arguments, argument, Element}
 use Rattle.scad_value.specs.Datum.{Datum}
 use Rattle.scad_value.specs.Comparison.{truth}
 use Rattle.scad_value.specs.Index.{indexed}
 use Rattle.scad_scope.specs.Env.{Env}
 use Rattle.scad_machine.specs.State.{Action, pure, ◌>>=◌}
-use Rattle.scad_stack.specs.Meaning.{Below, ranged, ranged_by_one}
+use Rattle.scad_machine.specs.Variables.{Bound, set, within}
+use Rattle.scad_stack.specs.Meaning.{Below, default_value, ranged, ranged_by_one}
 
 -- the arguments from the first one on that has a name
 abbrev pub named_of : Arguments → Arguments
@@ -52,3 +53,17 @@ module _ (below : Below) where
   unfoldable pub either_element : Env → Env → Datum → Element → Element → List Datum → Action (List Datum)
   either_element env along d e other so_far =
       if truth d then below.element env along e so_far else below.element env along other so_far
+
+  -- one name of a `let`
+  unfoldable pub bind_one : Env → Env → Option (List ℕ) → Expression → Bound → Action Bound
+  bind_one env along None e b = pure b
+  bind_one env along (Some name) e b = do
+    d ← below.value (within env b.names) (within along b.dollars) e
+    pure (set name d b)
+
+  -- parameters that weren't given take their defaults
+  unfoldable pub defaulted : Env → Env → List Parameter → Bound → Action Bound
+  defaulted home along [] b = pure b
+  defaulted home along (p ∷ more) b = do
+    d ← default_value below home (within along b.dollars) p.default
+    defaulted home along more (set p.name d b)

@@ -48,9 +48,8 @@ use Rattle.scad_operations.specs.Operation.{operates}
 use Rattle.scad_machine.specs.OpenFrames.{set_in_last, left}
 use Rattle.scad_operations.specs.Parts.{parts_in}
 use Rattle.scad_stack.specs.Pieces.{range_end, stepped_end, step_and_end, side, index_of, element_if, either_element}
-use Rattle.scad_stack.specs.Portions.{numbers_left}
 use Rattle.scad_machine.specs.EchoLines.{echo_line}
-use Rattle.scad_operations.specs.Runs.{items, as_elements}
+use Rattle.scad_operations.specs.Runs.{items, as_elements, numbers_left}
 use Rattle.scad_machine.specs.Variables.{empty}
 
 -- a value, and what is held then

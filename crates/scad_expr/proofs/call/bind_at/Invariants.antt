@@ -7,7 +7,7 @@ use Rattle.scad_scope.specs.View.{children_stored}
 use Rattle.scad_machine.specs.Machine.{held, along_in, state_of}
 use Rattle.scad_stack.specs.Meaning.{meaning, bound}
 use Rattle.scad_machine.specs.OpenFrames.{opened, bound_in}
-use Rattle.scad_stack.specs.Portions.{defaulted}
+use Rattle.scad_stack.specs.Pieces.{defaulted}
 use Rattle.scad_value.specs.View.{data_in}
 use Rattle.scad_expr.proofs.call.bind_at.Given as goal
 

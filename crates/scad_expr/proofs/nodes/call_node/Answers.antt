@@ -8,7 +8,7 @@ use Rattle.scad_value.specs.Datum.{Datum}
 use Rattle.scad_machine.specs.Functions.{function_named}
 use Rattle.scad_machine.specs.Machine.{Held, held, env_in, along_in, state_of}
 use Rattle.scad_stack.specs.Meaning.{meaning, called}
-use Rattle.scad_stack.specs.Portions.{lone}
+use Rattle.scad_machine.specs.Arguments.{lone}
 use Rattle.scad_stack.specs.Stack.{rest, made_in, called_as}
 use Rattle.scad_machine.specs.State.{Outcome, Action, and_then}
 use Rattle.scad_machine.specs.Variables.{variable}

@@ -1,7 +1,6 @@
 use Rattle.std.proofs.Common.{◌≡◌, ◌++◌, length}
 use Rattle.scad_value.specs.Datum.{range}
-use Rattle.scad_operations.specs.Portions.{numbers_left}
-use Rattle.scad_operations.specs.Runs.{items}
+use Rattle.scad_operations.specs.Runs.{numbers_left, items}
 use Rattle.scad_value.specs.View.{data_in}
 use Rattle.scad_operations.proofs.pieces.add_run.Given as goal
 

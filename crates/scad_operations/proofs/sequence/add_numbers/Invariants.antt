@@ -1,5 +1,5 @@
 use Rattle.std.proofs.Common.{◌≡◌, ◌++◌, Some, length}
-use Rattle.scad_operations.specs.Portions.{numbers_left}
+use Rattle.scad_operations.specs.Runs.{numbers_left}
 use Rattle.scad_value.specs.View.{data_in}
 use Rattle.scad_operations.proofs.sequence.add_numbers.Given as goal
 

@@ -1,7 +1,7 @@
 use Rattle.std.proofs.Common.{◌≡◌, ◌≢◌, ◌∷◌, true, ℤ, pos, negsuc, ◌+ℤ◌, ◌<ℤ◌, Some, ap, ◌∙◌, arith}
 use Rattle.std.proofs.lemmas.Int.{ints}
 use Rattle.scad_value.specs.Datum.{number}
-use Rattle.scad_operations.specs.Portions.{is_past, numbers_left}
+use Rattle.scad_operations.specs.Runs.{is_past, numbers_left}
 use Rattle.scad_operations.proofs.RunsLeft.{left-last, left-next, low-past, high-past}
 use Rattle.scad_operations.proofs.sequence.after.Goals as goal
 use Rattle.scad_operations.proofs.sequence.after.Goals.{then-next-ltminus1000000000000000-via-then-next-ltminus1000000000000000, then-next-ltminus1000000000000000-via-else-next-ltminus1000000000000000+then-next-gt1000000000000000}
