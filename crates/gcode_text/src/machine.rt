@@ -14,7 +14,7 @@ use std::marker::Model;
 use text_scan::first_at;
 
 /// A move: axes in micrometres, amounts of filament in hundred-thousandths of a millimetre.
-#[derive(Clone, Copy, PartialEq, Eq)]
+#[derive(Clone, Copy)]
 pub struct Move {
     pub from: Pt3,
     pub to: Pt3,

@@ -31,14 +31,14 @@ pub struct Pass {
 }
 
 /// What a claim draws: a layer, or nothing, for all layers are drawn.
-#[derive(Clone, Copy, PartialEq, Eq)]
+#[derive(Clone, Copy)]
 pub enum Claim {
     Layer(u32),
     Ended,
 }
 
 /// The least failed layer, or the number of layers where none failed.
-#[derive(Clone, Copy, PartialEq, Eq)]
+#[derive(Clone, Copy)]
 pub struct Outcome {
     pub least: u32,
 }

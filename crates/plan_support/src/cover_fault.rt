@@ -2,7 +2,7 @@
 use std::alloc::AllocError;
 
 /// Why stretches of cover aren't given.
-#[derive(Debug, Drop)]
+#[derive(Drop)]
 pub enum CoverFault {
     /// There was too little memory.
     Memory,

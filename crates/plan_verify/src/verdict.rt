@@ -4,7 +4,7 @@ use gcode_text::GFault;
 use std::alloc::{AllocError, AllocFailed};
 
 /// Whether the moves that extrude stay inside.
-#[derive(Clone, Copy, PartialEq, Eq)]
+#[derive(Clone, Copy)]
 pub enum Verdict {
     /// Each of them does; there are so many.
     Inside { moves: u64 },
@@ -14,7 +14,7 @@ pub enum Verdict {
 }
 
 /// Why a program isn't judged.
-#[derive(Clone, Copy, PartialEq, Eq)]
+#[derive(Clone, Copy)]
 pub enum VerifyFault {
     /// There was no memory.
     Memory,

@@ -1,7 +1,7 @@
 //! The operators of expressions (OpenSCAD User Manual, "Mathematical Operators").
 
 /// A prefix operator: `!`, `+`, `-`.
-#[derive(Clone, Copy, PartialEq, Eq)]
+#[derive(Clone, Copy)]
 pub enum UnOp {
     Not,
     Plus,
@@ -9,7 +9,7 @@ pub enum UnOp {
 }
 
 /// An operator between two operands: `||`, `&&`, `==`, `!=`, `<`, `<=`, `>`, `>=`, `+`, `-`, `*`, `/`, `%`.
-#[derive(Clone, Copy, PartialEq, Eq)]
+#[derive(Clone, Copy)]
 pub enum BinOp {
     Or,
     And,

@@ -8,7 +8,7 @@ use scad_num::NumFault;
 use std::alloc::AllocError;
 
 /// Why a call of a function has no value.
-#[derive(Clone, Copy, Drop, PartialEq, Eq)]
+#[derive(Clone, Copy, Drop)]
 pub enum BuiltinFault {
     Memory,
     /// The language has no function of this name.

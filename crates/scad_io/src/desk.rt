@@ -3,7 +3,7 @@ ghost use Rattle.std.specs.Prelude.{◌≡◌, ◌≢◌, ◌<◌, ◌≤◌, �
 ghost use Rattle.scad_io.specs.Desk.{Files, View, side, Gives, Opens, Creates, after_read, after_write, HasCause, WriteHasCause};
 
 /// An output of a desk. The report has no name and needs no `create`.
-#[derive(Clone, Copy, Debug, PartialEq, Eq)]
+#[derive(Clone, Copy)]
 pub enum Out {
     Report,
     Cli,
@@ -11,7 +11,7 @@ pub enum Out {
 }
 
 /// A call on an object of a desk failed: from then on no call is made on that object.
-#[derive(Clone, Copy, Debug, PartialEq, Eq)]
+#[derive(Clone, Copy)]
 pub struct Failed;
 
 /// What a run reads and writes: one input and three outputs.

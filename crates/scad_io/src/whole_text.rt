@@ -11,7 +11,7 @@ use std::alloc::Global;
 const PIECE: usize = 4096;
 
 /// Why the input wasn't read to its end.
-#[derive(Clone, Copy, Debug, PartialEq, Eq)]
+#[derive(Clone, Copy)]
 pub enum ReadEnd {
     /// A call failed.
     Fault,

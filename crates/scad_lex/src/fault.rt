@@ -3,7 +3,7 @@ use scad_fault::Place;
 use std::alloc::{AllocError, AllocFailed};
 
 /// Why a text has no tokens: the first place at which it is refused.
-#[derive(Clone, Copy, PartialEq, Eq)]
+#[derive(Clone, Copy)]
 pub enum LexFault {
     /// No token, blank or comment begins there; or an unclosed string or comment does; or there stands a bad escape
     /// or no UTF-8 in a string.

@@ -28,7 +28,7 @@ pub struct Tokens {
 }
 
 /// The signs of the language.
-#[derive(Clone, Copy, Debug, PartialEq, Eq)]
+#[derive(Clone, Copy)]
 pub enum Sign {
     OpenRound,
     CloseRound,
@@ -61,7 +61,7 @@ pub enum Sign {
 }
 
 /// A word that the language keeps for itself.
-#[derive(Clone, Copy, Debug, PartialEq, Eq)]
+#[derive(Clone, Copy)]
 pub enum Key {
     Module,
     Function,

@@ -3,7 +3,7 @@
 use scad_num::Num;
 
 /// A row: what it takes of each coordinate, and what it adds.
-#[derive(Clone, Copy, PartialEq, Eq)]
+#[derive(Clone, Copy)]
 pub struct Row {
     pub x: Num,
     pub y: Num,
@@ -12,7 +12,7 @@ pub struct Row {
 }
 
 /// A matrix: the rows that give the placed x, y and z, twelve numbers together.
-#[derive(Clone, Copy, PartialEq, Eq)]
+#[derive(Clone, Copy)]
 pub struct Matrix {
     pub x: Row,
     pub y: Row,
@@ -20,7 +20,7 @@ pub struct Matrix {
 }
 
 /// Why there is no product.
-#[derive(Clone, Copy, Debug)]
+#[derive(Clone, Copy)]
 pub enum MatrixFault {
     /// An entry passes 10^15 millionths in size, or a placed coordinate 1,000,000 micrometres.
     Range = 1,

@@ -3,7 +3,7 @@
 use std::alloc::{AllocError, AllocFailed};
 
 /// Why the arguments of a module of the language say nothing.
-#[derive(Clone, Copy, Debug, PartialEq, Eq)]
+#[derive(Clone, Copy)]
 pub enum ArgumentFault {
     /// A value is missing, or isn't what the module takes.
     BadArgument,

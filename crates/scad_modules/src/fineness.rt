@@ -12,7 +12,7 @@ pub struct Fineness {
 }
 
 /// The three numbers that these values are.
-#[derive(Clone, Copy, PartialEq, Eq)]
+#[derive(Clone, Copy)]
 pub struct Resolution {
     pub fn_: Num,
     pub fa: Num,

@@ -1,7 +1,7 @@
 //! The modules of the language.
 
 /// A primitive solid.
-#[derive(Clone, Copy, PartialEq, Eq)]
+#[derive(Clone, Copy)]
 pub enum Shape {
     Cube,
     Sphere,
@@ -10,7 +10,7 @@ pub enum Shape {
 }
 
 /// A flat shape.
-#[derive(Clone, Copy, PartialEq, Eq)]
+#[derive(Clone, Copy)]
 pub enum Flat {
     Square,
     Circle,
@@ -18,7 +18,7 @@ pub enum Flat {
 }
 
 /// A module that makes solids of the flat shapes among its children.
-#[derive(Clone, Copy, PartialEq, Eq)]
+#[derive(Clone, Copy)]
 pub enum Extrusion {
     /// `linear_extrude`.
     Linear,
@@ -27,7 +27,7 @@ pub enum Extrusion {
 }
 
 /// A module whose children are placed by a further matrix.
-#[derive(Clone, Copy, PartialEq, Eq)]
+#[derive(Clone, Copy)]
 pub enum Transform {
     Translate,
     Scale,
@@ -37,7 +37,7 @@ pub enum Transform {
 }
 
 /// A module of the language.
-#[derive(Clone, Copy, PartialEq, Eq)]
+#[derive(Clone, Copy)]
 pub enum Module {
     Shape(Shape),
     Flat(Flat),
@@ -54,7 +54,7 @@ pub enum Module {
 }
 
 /// What a name means where a module is called and the program defines none of this name.
-#[derive(Clone, Copy, PartialEq, Eq)]
+#[derive(Clone, Copy)]
 pub enum Name {
     Known(Module),
     For,

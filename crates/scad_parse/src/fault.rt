@@ -3,7 +3,7 @@ use scad_fault::{Place, Text};
 use std::alloc::{AllocError, AllocFailed};
 
 /// Why tokens are no program: the first token that has a fault.
-#[derive(Debug, Drop)]
+#[derive(Drop)]
 pub enum ParseFault {
     /// There was no memory.
     Memory,

@@ -6,7 +6,7 @@ use scad_geom::Pt;
 use std::marker::Model;
 
 /// The corners of a ring, at most ten, seen by contracts as their list.
-#[derive(Debug, Drop)]
+#[derive(Drop)]
 pub struct Ring {
     corners: [Pt; 10],
     count: usize,

@@ -5,7 +5,7 @@ ghost use Rattle.scad_script.specs.Script.{refused};
 use scad_fault::{BadKind, Budget, Fault, SetFault, Status};
 
 /// A command that ends before all is done, though nothing failed.
-#[derive(Debug, Drop)]
+#[derive(Drop)]
 pub enum Refusal {
     /// The source is refused.
     Source(Fault),

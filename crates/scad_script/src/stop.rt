@@ -3,7 +3,7 @@ use crate::Refusal;
 use std::alloc::AllocError;
 
 /// Why a script wasn't played to its end.
-#[derive(Debug, Drop)]
+#[derive(Drop)]
 pub enum Stop {
     /// The command is refused.
     Ends(Refusal),

@@ -1,7 +1,7 @@
 //! Refusals of shapes.
 
 /// Why there is no solid.
-#[derive(Clone, Copy, Debug)]
+#[derive(Clone, Copy)]
 pub enum ShapeFault {
     /// A placed coordinate passes `scad_geom::POINT_LIMIT` in size.
     CoordinateRange,

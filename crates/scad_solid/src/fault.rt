@@ -1,7 +1,7 @@
 //! Refusals of faces.
 
 /// Why faces bound no solid.
-#[derive(Clone, Copy, Debug, PartialEq, Eq)]
+#[derive(Clone, Copy)]
 pub enum SolidFault {
     /// A directed side of differing points doesn't occur as often as its reverse.
     NotClosed,

@@ -7,7 +7,7 @@ ghost use Rattle.scad_table.specs.Table.{entries, ascends, id_of};
 use std::cmp::Ordering;
 
 /// A name and its id.
-#[derive(Clone, Copy, Debug, PartialEq, Eq)]
+#[derive(Clone, Copy)]
 pub struct Row {
     pub name: &'static str,
     pub id: u16,

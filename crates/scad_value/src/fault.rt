@@ -3,7 +3,7 @@ use scad_num::NumFault;
 use std::alloc::{AllocError, AllocFailed};
 
 /// Why an operation has no value.
-#[derive(Clone, Copy, PartialEq, Eq)]
+#[derive(Clone, Copy)]
 pub enum ValueFault {
     /// A divisor is 0.
     ZeroDivisor,

@@ -52,7 +52,7 @@ impl Drop for Job {
 }
 
 /// Why words give no job.
-#[derive(Clone, Copy, Debug, PartialEq, Eq, Error)]
+#[derive(Clone, Copy, Debug, Error)]
 pub enum WordFault {
     #[error("the words are of no command's form")]
     Usage,

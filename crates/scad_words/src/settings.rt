@@ -11,7 +11,7 @@ use thiserror::Error;
 use toml::{Table, Value};
 
 /// How a part is sliced and printed.
-#[derive(Clone, Copy, Debug, PartialEq, Eq)]
+#[derive(Clone, Copy)]
 pub struct Settings {
     /// The bed's temperature in degrees Celsius.
     pub bed: u32,

@@ -9,7 +9,7 @@ use scad_geom::Pt3;
 use scad_geom::wide::{minus, plus, times};
 
 /// The point (x / d, y / d), with `d` above 0.
-#[derive(Clone, Copy, Debug)]
+#[derive(Clone, Copy)]
 pub(crate) struct Exact {
     pub(crate) x: i128,
     pub(crate) y: i128,

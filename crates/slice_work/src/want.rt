@@ -1,7 +1,7 @@
 //! What is wanted of a part.
 
 /// What is wanted of a part: its outlines, or its outlines and its printing program.
-#[derive(Clone, Copy, PartialEq, Eq)]
+#[derive(Clone, Copy)]
 pub enum Want {
     Outlines,
     Plan,
