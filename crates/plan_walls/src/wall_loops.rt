@@ -19,7 +19,7 @@ use slice_outlines::outlines;
 use std::alloc::{AllocError, Global};
 
 /// The greatest number of edges, those of the outlines and of the rings round them.
-const EDGE_LIMIT: u32 = 220_000;
+const WALL_EDGE_LIMIT: u32 = 220_000;
 
 /// The loops at the distance `c` micrometres from outlines, with the inside on their left: the outlines of what lies
 /// inside the given ones and outside of the ring round each of their sides, all that differs from a point of it by a
@@ -59,11 +59,11 @@ fn walls_along(alloc: Global, around: &[Edge], c: u32) -> Result<Vec<Loop>, Bool
         (IsRefusal (length (with_rings c around.now)) wall_edge_limit (crossings (with_rings c around.now))) }
 {
     let count = edge_count(around, c);
-    if count > EDGE_LIMIT as u64 {
+    if count > WALL_EDGE_LIMIT as u64 {
         return Err(BoolFault::Edges(count));
     }
     match edges_and_shape(alloc, around, c) {
-        Ok((edges, shape)) => outlines(alloc, &edges, &shape, EDGE_LIMIT),
+        Ok((edges, shape)) => outlines(alloc, &edges, &shape, WALL_EDGE_LIMIT),
         Err(_) => Err(BoolFault::Memory),
     }
 }
