@@ -16,6 +16,7 @@ use Rattle.scad_geom.specs.Shape.{is_in_by}
 use Rattle.scad_geom.specs.Sign.{is_zero}
 use Rattle.scad_geom.specs.Winding.{wind_by}
 use Rattle.scad_geom.specs.Within.{IsWithin}
+use Rattle.scad_ring.specs.Limits.{distance_limit}
 use Rattle.outline_laws.specs.Sameness.{HoldAlike}
 use Rattle.outline_laws.proofs.OneOutlines.{alike_have_one_outlines}
 use Rattle.plan_infill.specs.declared.line.Line.{Line}
@@ -37,7 +38,7 @@ alike es n s t h k above right p positive =
     let inside : ℕ → Bool = λ leaf. not (is_zero (wind_by above right p (segments (edges_of leaf es)))) in
     h inside ∙ sym (k inside)
 
-one_wall : (c : ℕ) → c ≤ 100000 → (outlines : List (List Pt)) → All (λ l. All (IsWithin point_limit) l) outlines
+one_wall : (c : ℕ) → c ≤ distance_limit → (outlines : List (List Pt)) → All (λ l. All (IsWithin point_limit) l) outlines
     → (a b : List (List Pt))
     → AreWalls c outlines a → AreWalls c outlines b → a ≡ b
 one_wall c most outlines within a b h k =
@@ -48,7 +49,7 @@ one_wall c most outlines within a b h k =
     a b h.are_outlines k.are_outlines
 
 -- a wall of few lies near
-near : (width k : ℕ) → width ≤ 2000 → k ≤ 9 → distance width k ≤ 100000
+near : (width k : ℕ) → width ≤ 2000 → k ≤ 9 → distance width k ≤ distance_limit
 near width k h l = let m = mul-le k width 9 2000 l h in omega (arith, m)
 
 one_walls : (outlines : List (List Pt)) → All (λ l. All (IsWithin point_limit) l) outlines → (width k : ℕ)
