@@ -16,7 +16,7 @@ use Rattle.std.proofs.lemmas.Option.{cond_some, none-some}
 use Rattle.std.proofs.lemmas.Slice.Eq.{bytes_eq-Decides}
 use Rattle.std.proofs.lemmas.Str.{IsUtf8-from_ascii}
 use Rattle.std.proofs.lemmas.Str.Parse.{digit_at, digit_from_value, without_leading_plus_none}
-use Rattle.cli_read.specs.Form.{reach}
+use Rattle.scad_geom.specs.Limits.{coordinate_limit}
 use Rattle.cli_read.specs.Reading.{if_count, count_of, if_coordinate, coordinate_of}
 
 -- a test that each digit passes is passed by each byte of a number
@@ -101,7 +101,7 @@ count_parsed {E} word n r read parsed = by_test (bytes_eq (decimal n) word) refl
 
 -- ---- coordinates
 
-signed_value : (z : ℤ) → unsigned_abs z ≤ reach → signed_digits_value 10 (signed_decimal z) ≡ z
+signed_value : (z : ℤ) → unsigned_abs z ≤ coordinate_limit → signed_digits_value 10 (signed_decimal z) ≡ z
 signed_value (pos n) h =
     let first = first_digit n (omega arith) in
     let minus : starts_with_minus (decimal n) ≡ false = grind (arith, nat_tests) in
@@ -111,31 +111,31 @@ signed_value (pos n) h =
 signed_value (negsuc n) h = ap (λ (m : ℕ). neg_ℤ (pos m)) (decimal_is_IsNumeral (suc n) (omega arith)).1
 
 pub coordinate_text : (word : List ℕ) (z : ℤ) → coordinate_of word ≡ Some z → (word ≡ signed_decimal z)
-    × (unsigned_abs z ≤ reach)
+    × (unsigned_abs z ≤ coordinate_limit)
 unfolding coordinate_of
 coordinate_text word z e =
     let v = signed_digits_value 10 word in
-    let c = cond_some (bytes_eq (signed_decimal v) word && nat_le (unsigned_abs v) reach) v z e in
-    let p = and_parts (bytes_eq (signed_decimal v) word) (nat_le (unsigned_abs v) reach) c.0 in
-    let small : unsigned_abs v ≤ reach = grind (arith, nat_tests) in
+    let c = cond_some (bytes_eq (signed_decimal v) word && nat_le (unsigned_abs v) coordinate_limit) v z e in
+    let p = and_parts (bytes_eq (signed_decimal v) word) (nat_le (unsigned_abs v) coordinate_limit) c.0 in
+    let small : unsigned_abs v ≤ coordinate_limit = grind (arith, nat_tests) in
     (sym ((bytes_eq-Decides (signed_decimal v) word).0 p.0) ∙ ap signed_decimal c.1, rw (← c.1) small)
 
-pub coordinate_back : (z : ℤ) → unsigned_abs z ≤ reach → coordinate_of (signed_decimal z) ≡ Some z
+pub coordinate_back : (z : ℤ) → unsigned_abs z ≤ coordinate_limit → coordinate_of (signed_decimal z) ≡ Some z
 unfolding coordinate_of
 coordinate_back z h =
-    let small : nat_le (unsigned_abs z) reach ≡ true = grind (arith, nat_tests) in
+    let small : nat_le (unsigned_abs z) coordinate_limit ≡ true = grind (arith, nat_tests) in
     rw (signed_value z h, same_bytes (signed_decimal z), small) refl
 
 -- no other coordinate is read
-no_coordinate : (word : List ℕ) → ((z : ℤ) → unsigned_abs z ≤ reach → word ≡ signed_decimal z → ⊥) → coordinate_of word
-    ≡ None
+no_coordinate : (word : List ℕ) → ((z : ℤ) → unsigned_abs z ≤ coordinate_limit → word ≡ signed_decimal z → ⊥)
+    → coordinate_of word ≡ None
 no_coordinate word other = by_coordinate (coordinate_of word) refl
   where
     by_coordinate : (o : Option ℤ) → coordinate_of word ≡ o → o ≡ None
     by_coordinate None e = refl
     by_coordinate (Some z) e = let is = coordinate_text word z e in absurd (other z is.1 is.0)
 
-small_signed : (z : ℤ) → unsigned_abs z ≤ reach → (mag z < 2 ^ 63) × FitsSigned w32 z
+small_signed : (z : ℤ) → unsigned_abs z ≤ coordinate_limit → (mag z < 2 ^ 63) × FitsSigned w32 z
 small_signed (pos n) h = (omega arith, record { sfits = omega arith })
 small_signed (negsuc n) h = (omega arith, record { sfits = omega arith })
 
@@ -163,8 +163,8 @@ parsed_fits {E} word z r read parsed =
 
 pub coordinate_parsed : {E : Type 0} (word : List ℕ) (z : ℤ) (r : Result ℤ E) → r ≡ Ok z → ParsesSigned w32 10 word r
     → if_coordinate z word ≡ coordinate_of word
-coordinate_parsed word z r read parsed = by_test (bytes_eq (signed_decimal z) word && nat_le (unsigned_abs z) reach)
-    refl
+coordinate_parsed word z r read parsed =
+    by_test (bytes_eq (signed_decimal z) word && nat_le (unsigned_abs z) coordinate_limit) refl
   where
     same_number : (y : ℤ) → r ≡ Ok y → z ≡ y
     same_number y e = cc
@@ -172,22 +172,22 @@ coordinate_parsed word z r read parsed = by_test (bytes_eq (signed_decimal z) wo
     true_false : true ≡ false → ⊥
     true_false e = cc
 
-    other : (bytes_eq (signed_decimal z) word && nat_le (unsigned_abs z) reach) ≡ false → (y : ℤ)
-        → unsigned_abs y ≤ reach → word ≡ signed_decimal y → ⊥
+    other : (bytes_eq (signed_decimal z) word && nat_le (unsigned_abs z) coordinate_limit) ≡ false → (y : ℤ)
+        → unsigned_abs y ≤ coordinate_limit → word ≡ signed_decimal y → ⊥
     other differs y h is =
         let same : z ≡ y = same_number y (parse-signed_decimal w32 y word r (small_signed y h).1 (small_signed y h).0 is
         parsed) in
         let text : bytes_eq (signed_decimal z) word ≡ true = (bytes_eq-Decides (signed_decimal z) word).1
         (ap signed_decimal same ∙ sym is) in
-        let near : unsigned_abs z ≤ reach = rw same h in
-        let small : nat_le (unsigned_abs z) reach ≡ true = grind (arith, nat_tests) in
+        let near : unsigned_abs z ≤ coordinate_limit = rw same h in
+        let small : nat_le (unsigned_abs z) coordinate_limit ≡ true = grind (arith, nat_tests) in
         true_false (sym (ap₂ (λ (a b : Bool). a && b) text small) ∙ differs)
 
-    by_test : (b : Bool) → (bytes_eq (signed_decimal z) word && nat_le (unsigned_abs z) reach) ≡ b
+    by_test : (b : Bool) → (bytes_eq (signed_decimal z) word && nat_le (unsigned_abs z) coordinate_limit) ≡ b
         → cond b (Some z) None ≡ coordinate_of word
     by_test true e =
-        let p = and_parts (bytes_eq (signed_decimal z) word) (nat_le (unsigned_abs z) reach) e in
-        let near : unsigned_abs z ≤ reach = grind (arith, nat_tests) in
+        let p = and_parts (bytes_eq (signed_decimal z) word) (nat_le (unsigned_abs z) coordinate_limit) e in
+        let near : unsigned_abs z ≤ coordinate_limit = grind (arith, nat_tests) in
         sym (ap coordinate_of (sym ((bytes_eq-Decides (signed_decimal z) word).0 p.0)) ∙ coordinate_back z near)
     by_test false e = sym (no_coordinate word (other e))
 
@@ -206,7 +206,7 @@ decimal_lacks mark n m h = lacks_from_test mark (decimal n) (decimal_passes (λ 
     other : (mark : ℕ) → mark < 48 → (c : ℕ) → IsInRange 48 57 c → not (c == mark) ≡ true
     other mark m c digit = grind (arith, nat_tests)
 
-pub signed_lacks : (mark : ℕ) (z : ℤ) → mark < 45 → unsigned_abs z ≤ reach → Lacks mark (signed_decimal z)
+pub signed_lacks : (mark : ℕ) (z : ℤ) → mark < 45 → unsigned_abs z ≤ coordinate_limit → Lacks mark (signed_decimal z)
 signed_lacks mark (pos n) m h = decimal_lacks mark n (omega arith) (omega arith)
 signed_lacks mark (negsuc n) m h =
     All-cons (λ (b : ℕ). (b == mark) ≡ false) 45 (decimal (suc n)) (other mark m)

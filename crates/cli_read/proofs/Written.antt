@@ -14,8 +14,9 @@ use Rattle.std.proofs.lemmas.List.Sums.{AllPass-from_list_all}
 use Rattle.scad_geom.specs.declared.point.Pt.{Pt}
 use Rattle.scad_geom.specs.declared.point.Edge.{Edge}
 use Rattle.scad_geom.specs.Area.{twice_area}
+use Rattle.scad_geom.specs.Limits.{coordinate_limit}
 use Rattle.cli_text.specs.Cli.{Layer, head_start, head_end, direction, point_text, closed, polyline_start, polyline_text, hatch_text, hatches_start, hatches_line, hatches_text, layer_start, layer_text, geometry_end}
-use Rattle.cli_read.specs.Form.{reach, count_start, head_lines, end_line, height_line, outline_line, IsWithinReach}
+use Rattle.cli_read.specs.Form.{count_start, head_lines, end_line, height_line, outline_line, IsWithinReach}
 use Rattle.cli_read.specs.Form.{IsShape, AreHatches, Drawn, Polyline, Hatching, IsDrawn, outlines_among, hatches_among, SaysLayer}
 use Rattle.cli_read.specs.Laws.{WrittenTextsSayTheirLayers}
 use Rattle.cli_read.proofs.Numbers.{Lacks, decimal_passes}
@@ -58,7 +59,7 @@ decimal_printed n h = decimal_passes is_printed digit_printed n h
     digit_printed : (c : ℕ) → IsInRange 48 57 c → is_printed c ≡ true
     digit_printed c digit = grind (arith, nat_tests)
 
-signed_printed : (z : ℤ) → unsigned_abs z ≤ reach → IsPrinted (signed_decimal z)
+signed_printed : (z : ℤ) → unsigned_abs z ≤ coordinate_limit → IsPrinted (signed_decimal z)
 signed_printed (pos n) h = decimal_printed n (omega arith)
 signed_printed (negsuc n) h = decimal_printed (suc n) (omega arith)
 

@@ -6,6 +6,7 @@ use Rattle.std.specs.Fmt.{decimal}
 use Rattle.std.specs.Str.Lines.{lines}
 use Rattle.scad_geom.specs.declared.point.Pt.{Pt}
 use Rattle.scad_geom.specs.declared.point.Edge.{Edge}
+use Rattle.scad_geom.specs.Limits.{coordinate_limit}
 use Rattle.cli_text.specs.Cli.{Layer, polyline_start, layer_start, point_text, closed, hatches_line}
 
 -- ---- lines
@@ -39,12 +40,9 @@ end_line = codes "$$GEOMETRYEND"
 
 -- ---- layers
 
--- the greatest size of a coordinate, in micrometres
-abbrev pub reach : ℕ
-reach = 1100000
-
+-- neither coordinate is greater in size than the limit
 abbrev pub IsWithinReach : Pt → Type 0
-IsWithinReach p = (unsigned_abs p.x ≤ reach) × (unsigned_abs p.y ≤ reach)
+IsWithinReach p = (unsigned_abs p.x ≤ coordinate_limit) × (unsigned_abs p.y ≤ coordinate_limit)
 
 -- an outline has three vertices at least, all within reach
 pub record IsShape (points : List Pt) : Type 0 where

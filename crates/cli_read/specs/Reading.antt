@@ -8,12 +8,13 @@ use Rattle.scad_base.specs.Results.{and_then}
 use Rattle.text_scan.specs.Marks.{pieces}
 use Rattle.scad_geom.specs.declared.point.Pt.{Pt}
 use Rattle.scad_geom.specs.declared.point.Edge.{Edge}
+use Rattle.scad_geom.specs.Limits.{coordinate_limit}
 use Rattle.cli_text.specs.Cli.{Layer, polyline_start, hatches_start, layer_start}
 use Rattle.cli_read.specs.declared.fault.CliFault.{CliFault}
 use Rattle.cli_read.specs.declared.fault.CliFault.TheVariants.{Memory, BadLine, CountDiffers, OpenLoop}
 use Rattle.cli_read.specs.declared.line.Said.{Said}
 use Rattle.cli_read.specs.declared.line.Said.TheVariants.{Height, Outline, Hatches}
-use Rattle.cli_read.specs.Form.{count_start, end_line, reach}
+use Rattle.cli_read.specs.Form.{count_start, end_line}
 
 infixl 10 ◌>>=◌
 abbrev pub ◌>>=◌ : {A B : Type 0} → Result A CliFault → (A → Result B CliFault) → Result B CliFault
@@ -59,7 +60,8 @@ count_of word =
 
 -- the coordinate, where the word is its text and it is within reach
 abbrev pub if_coordinate : ℤ → List ℕ → Option ℤ
-if_coordinate z word = if bytes_eq (signed_decimal z) word && nat_le (unsigned_abs z) reach then Some z else None
+if_coordinate z word =
+    if bytes_eq (signed_decimal z) word && nat_le (unsigned_abs z) coordinate_limit then Some z else None
 
 -- a coordinate within reach, where the word is its text
 unfoldable pub coordinate_of : List ℕ → Option ℤ

@@ -4,10 +4,8 @@ ghost use Rattle.cli_read.specs.Reading.{Gives, or_bad, if_count, count_of, if_c
 
 use crate::fault::CliFault;
 use itoa::Buffer;
+use scad_geom::COORDINATE_LIMIT;
 use std::str;
-
-/// The greatest size of a coordinate, in micrometres.
-const REACH: u32 = 1_100_000;
 
 /// The number below 2^32 that the word is the text of.
 pub fn count_of(word: &[u8]) -> Option<u32>
@@ -60,7 +58,7 @@ fn coordinate_in(text: &str) -> Option<i32>
 fn if_coordinate(z: i32, word: &[u8]) -> Option<i32>
     ensures { result ≡ if_coordinate z word.now }
 {
-    if Buffer::new().format(z).as_bytes() == word && z.unsigned_abs() <= REACH {
+    if Buffer::new().format(z).as_bytes() == word && z.unsigned_abs() <= COORDINATE_LIMIT {
         Some(z)
     } else {
         None

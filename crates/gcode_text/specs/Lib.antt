@@ -1,4 +1,5 @@
 -- What the public calls promise.
+pub mod Limits
 pub mod Amount
 pub mod Gcode
 pub mod Machine

@@ -13,6 +13,7 @@ use Rattle.gcode_text.specs.declared.command.Command.{Command}
 use Rattle.gcode_text.specs.declared.command.Command.TheVariants.{Drive, Home, Set, Plain}
 use Rattle.gcode_text.specs.declared.letters.Given.{Given}
 use Rattle.gcode_text.specs.Reading.{lines, line_words, number}
+use Rattle.gcode_text.specs.Limits.{amount_limit}
 
 -- ---- commands and their letters
 
@@ -97,11 +98,11 @@ Range = ℕ → ℤ → Bool
 abbrev pub any : Range
 any letter z = true
 
--- axes within the limit of coordinates, amounts within 2 * 10 ^ 18 units
+-- axes within the limit of coordinates, amounts within their own
 unfoldable pub limited : Range
 limited letter z =
     if is_axis letter then nat_le (unsigned_abs z) coordinate_limit
-    else (if letter == amount_letter then nat_le (unsigned_abs z) 2000000000000000000 else true)
+    else (if letter == amount_letter then nat_le (unsigned_abs z) amount_limit else true)
 
 -- the number in its range, where it is one
 abbrev pub ranged : Range → ℕ → ℕ → Given → Option ℤ → Result Given GFault

@@ -1,6 +1,7 @@
 //! How much filament a move takes.
 ghost use Rattle.std.specs.Prelude.{◌≡◌, ◌*◌, ◌^◌, ◌<◌, ◌≤◌, unsigned_abs};
 ghost use Rattle.scad_num.specs.Root.{root};
+ghost use Rattle.gcode_text.specs.Limits.{width_limit, height_limit};
 ghost use Rattle.gcode_text.specs.Amount.{square, length_of, move_volume, filament};
 
 use crate::rates::Rates;
@@ -9,8 +10,8 @@ use scad_geom::Pt;
 /// The volume of a straight move, in cubic micrometres.
 #[tactic(auto, unfolding(crate::specs::Amount::move_volume))]
 pub fn move_volume(rates: &Rates, from: Pt, to: Pt) -> u128
-    requires width { rates.now.line_width ≤ 2000 }
-    requires height { rates.now.layer_height ≤ 2000 }
+    requires width { rates.now.line_width ≤ width_limit }
+    requires height { rates.now.layer_height ≤ height_limit }
     ensures value { result ≡ move_volume rates.now from to }
     ensures small { result ≤ 2 ^ 55 }
 {
@@ -19,8 +20,8 @@ pub fn move_volume(rates: &Rates, from: Pt, to: Pt) -> u128
 
 fn product(length: u64, width: u32, height: u32) -> u64
     requires length { length < 2 ^ 33 }
-    requires width { width ≤ 2000 }
-    requires height { height ≤ 2000 }
+    requires width { width ≤ width_limit }
+    requires height { height ≤ height_limit }
     ensures value { result ≡ length * width * height }
     ensures small { result ≤ 2 ^ 55 }
 {

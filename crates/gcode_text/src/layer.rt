@@ -2,6 +2,7 @@
 ghost use Rattle.std.specs.Prelude.{◌≡◌, ◌+◌, ◌*◌, ◌^◌, ◌≤◌, List, ◌++◌, length, min, nat_lt, OnOk, OnErr};
 ghost use Rattle.std.specs.List.{sum_by};
 ghost use Rattle.scad_geom.specs.declared.point.Pt.{Pt};
+ghost use Rattle.gcode_text.specs.Limits.{width_limit, height_limit};
 ghost use Rattle.gcode_text.specs.Amount.{paths_volume};
 ghost use Rattle.gcode_text.specs.Gcode.{layer_text, paths_text, supports_text};
 ghost use Rattle.scad_base.specs.Appends.{BeginsWith};
@@ -38,8 +39,8 @@ pub fn push_layer(
     rates: &Rates,
     volume: &mut u128,
 ) -> Result<(), AllocError>
-    requires width { rates.now.line_width ≤ 2000 }
-    requires height { rates.now.layer_height ≤ 2000 }
+    requires width { rates.now.line_width ≤ width_limit }
+    requires height { rates.now.layer_height ≤ height_limit }
     requires area { 1 ≤ rates.now.filament_area }
     requires fits { volume.old + 2 ^ 55 * sum_by length paths.now ≤ 2 ^ 100 }
     ensures ok { OnOk result
@@ -60,8 +61,8 @@ pub fn push_supports(
     rates: &Rates,
     volume: &mut u128,
 ) -> Result<(), AllocError>
-    requires width { rates.now.line_width ≤ 2000 }
-    requires height { rates.now.layer_height ≤ 2000 }
+    requires width { rates.now.line_width ≤ width_limit }
+    requires height { rates.now.layer_height ≤ height_limit }
     requires area { 1 ≤ rates.now.filament_area }
     requires fits { volume.old + 2 ^ 55 * sum_by length paths.now ≤ 2 ^ 100 }
     ensures ok { OnOk result
@@ -80,7 +81,7 @@ pub fn push_supports(
 
 // The height of a layer's upper surface.
 fn upper_surface(layer: u32, height: u32) -> u64
-    requires { height ≤ 2000 }
+    requires { height ≤ height_limit }
     ensures { result ≡ (layer + 1) * height }
 {
     (u64::from(layer) + 1) * u64::from(height)
@@ -92,8 +93,8 @@ fn push_paths(
     rates: &Rates,
     volume: &mut u128,
 ) -> Result<(), AllocError>
-    requires width { rates.now.line_width ≤ 2000 }
-    requires height { rates.now.layer_height ≤ 2000 }
+    requires width { rates.now.line_width ≤ width_limit }
+    requires height { rates.now.layer_height ≤ height_limit }
     requires area { 1 ≤ rates.now.filament_area }
     requires fits { volume.old + 2 ^ 55 * sum_by length paths.now ≤ 2 ^ 100 }
     ensures ok { OnOk result

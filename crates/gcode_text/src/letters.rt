@@ -4,6 +4,9 @@ ghost use Rattle.gcode_text.specs.Machine.{nothing_given, was_given, with_number
 
 use scad_geom::COORDINATE_LIMIT;
 
+/// The greatest size of an amount, in hundred-thousandths of a millimetre.
+const AMOUNT_LIMIT: u64 = 2_000_000_000_000_000_000;
+
 /// The numbers that the words of a line name. Those of `F` and `S` change nothing.
 #[derive(Clone, Copy)]
 pub(crate) struct Given {
@@ -96,7 +99,7 @@ pub(crate) fn is_limited(letter: u8, number: i64) -> bool
     if letter == b'X' || letter == b'Y' || letter == b'Z' {
         number.unsigned_abs() <= u64::from(COORDINATE_LIMIT)
     } else if letter == b'E' {
-        number.unsigned_abs() <= 2_000_000_000_000_000_000
+        number.unsigned_abs() <= AMOUNT_LIMIT
     } else {
         true
     }

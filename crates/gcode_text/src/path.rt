@@ -1,5 +1,6 @@
 //! The lines of paths.
 ghost use Rattle.std.specs.Prelude.{◌≡◌, ◌+◌, ◌*◌, ◌^◌, length, ◌≤◌, List, [], ◌++◌, OnOk, OnErr};
+ghost use Rattle.gcode_text.specs.Limits.{width_limit, height_limit};
 ghost use Rattle.gcode_text.specs.Amount.{move_volume, moves_volume, path_volume, filament};
 ghost use Rattle.gcode_text.specs.Gcode.{print_line, moves_text, path_text};
 ghost use Rattle.scad_base.specs.Appends.{BeginsWith};
@@ -19,8 +20,8 @@ pub fn push_path(
     volume: &mut u128,
     points: &[Pt],
 ) -> Result<(), AllocError>
-    requires width { rates.now.line_width ≤ 2000 }
-    requires height { rates.now.layer_height ≤ 2000 }
+    requires width { rates.now.line_width ≤ width_limit }
+    requires height { rates.now.layer_height ≤ height_limit }
     requires area { 1 ≤ rates.now.filament_area }
     requires fits { volume.old + 2 ^ 55 * length points.now ≤ 2 ^ 100 }
     ensures ok { OnOk result (out.new.items ≡ out.old.items ++ path_text rates.now volume.old points.now) }
@@ -45,8 +46,8 @@ fn push_moves(
     first: Pt,
     rest: &[Pt],
 ) -> Result<(), AllocError>
-    requires width { rates.now.line_width ≤ 2000 }
-    requires height { rates.now.layer_height ≤ 2000 }
+    requires width { rates.now.line_width ≤ width_limit }
+    requires height { rates.now.layer_height ≤ height_limit }
     requires area { 1 ≤ rates.now.filament_area }
     requires fits { volume.old + 2 ^ 55 * length rest.now ≤ 2 ^ 100 }
     ensures ok { OnOk result
@@ -70,8 +71,8 @@ fn push_move(
     from: Pt,
     to: Pt,
 ) -> Result<(), AllocError>
-    requires width { rates.now.line_width ≤ 2000 }
-    requires height { rates.now.layer_height ≤ 2000 }
+    requires width { rates.now.line_width ≤ width_limit }
+    requires height { rates.now.layer_height ≤ height_limit }
     requires area { 1 ≤ rates.now.filament_area }
     requires fits { volume.old + 2 ^ 55 ≤ 2 ^ 100 }
     ensures volume { volume.new ≡ volume.old + move_volume rates.now from to }

@@ -2,6 +2,7 @@
 ghost use Rattle.std.specs.Prelude.{◌≡◌, ◌+◌, ◌^◌, ◌<◌, ◌≤◌, List, ◌++◌, length, OnOk, OnErr};
 ghost use Rattle.std.specs.List.{sum_by};
 ghost use Rattle.scad_geom.specs.declared.point.Pt.{Pt};
+ghost use Rattle.gcode_text.specs.Limits.{width_limit, height_limit, volume_limit};
 ghost use Rattle.gcode_text.specs.Amount.{paths_volume};
 ghost use Rattle.gcode_text.specs.Gcode.{setup, home, head, layer_text, supports_text, end};
 ghost use Rattle.scad_base.specs.Appends.{BeginsWith};
@@ -33,11 +34,11 @@ pub fn write_layer(
     rates: &Rates,
     volume: &mut u128,
 ) -> Result<(), AllocError>
-    requires width { rates.now.line_width ≤ 2000 }
-    requires height { rates.now.layer_height ≤ 2000 }
+    requires width { rates.now.line_width ≤ width_limit }
+    requires height { rates.now.layer_height ≤ height_limit }
     requires area { 1 ≤ rates.now.filament_area }
     requires count { sum_by length paths.now < 2 ^ 32 }
-    requires volume { volume.old ≤ 10 ^ 30 }
+    requires volume { volume.old ≤ volume_limit }
     ensures ok { OnOk result
         (out.new.items ≡ out.old.items ++ layer_text rates.now volume.old layer paths.now) }
     ensures volume { OnOk result (volume.new ≡ volume.old + paths_volume rates.now paths.now) }
@@ -61,11 +62,11 @@ pub fn write_supports(
     rates: &Rates,
     volume: &mut u128,
 ) -> Result<(), AllocError>
-    requires width { rates.now.line_width ≤ 2000 }
-    requires height { rates.now.layer_height ≤ 2000 }
+    requires width { rates.now.line_width ≤ width_limit }
+    requires height { rates.now.layer_height ≤ height_limit }
     requires area { 1 ≤ rates.now.filament_area }
     requires count { sum_by length paths.now < 2 ^ 32 }
-    requires volume { volume.old ≤ 10 ^ 30 }
+    requires volume { volume.old ≤ volume_limit }
     ensures ok { OnOk result
         (out.new.items ≡ out.old.items ++ supports_text rates.now volume.old paths.now) }
     ensures volume { OnOk result (volume.new ≡ volume.old + paths_volume rates.now paths.now) }

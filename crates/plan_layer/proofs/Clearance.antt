@@ -13,7 +13,7 @@ use Rattle.scad_geom.specs.Near.{mean}
 use Rattle.scad_geom.proofs.Signs.{at_least_mul, sub_mul}
 use Rattle.winding_laws.proofs.Parts.{on_turned}
 use Rattle.scad_ring.specs.Octagon.{reach, octagon}
-use Rattle.scad_ring.specs.Nearness.{Closed, IsNear, IsClear}
+use Rattle.scad_ring.specs.Nearness.{Closed, IsWithinRegion, IsClear}
 use Rattle.plan_infill.specs.declared.run.Run.{Run}
 use Rattle.plan_infill.specs.Runs.{point_on}
 use Rattle.plan_walls.specs.Walls.{AreWalls}
@@ -32,8 +32,8 @@ wider_by : (v s k d : ℤ) → s ≤ℤ k → pos 0 ≤ℤ d → v ≤ℤ (s *�
 wider_by v s k d o hd h =
     let m = at_least_mul (k -ℤ s) d (omega (arith, ints, o)) hd in let e = sub_mul k s d in omega (arith, ints, m, e, h)
 
-near_wider : (s u k v : ℤ) (q p : Point) → s ≤ℤ k → u ≤ℤ v → pos 0 ≤ℤ (p.d *ℤ q.d) → IsNear Closed (octagon s u) q p
-    → IsNear Closed (octagon k v) q p
+near_wider : (s u k v : ℤ) (q p : Point) → s ≤ℤ k → u ≤ℤ v → pos 0 ≤ℤ (p.d *ℤ q.d)
+    → IsWithinRegion Closed (octagon s u) q p → IsWithinRegion Closed (octagon k v) q p
 near_wider s u k v q p o r hd h =
     let d : ℤ = p.d *ℤ q.d in (
       wider_by _ s k d o hd h.0,

@@ -16,6 +16,7 @@ use Rattle.scad_geom.specs.Shape.{is_in_by}
 use Rattle.scad_geom.specs.Sign.{is_zero}
 use Rattle.scad_geom.specs.Winding.{wind_by}
 use Rattle.scad_geom.specs.Within.{IsWithin}
+use Rattle.scad_ring.specs.Limits.{distance_limit}
 use Rattle.outline_laws.specs.Sameness.{HoldAlike}
 use Rattle.outline_laws.proofs.OneOutlines.{alike_have_one_outlines}
 use Rattle.plan_infill.specs.declared.line.Line.{Line}
@@ -25,6 +26,7 @@ use Rattle.plan_walls.specs.Walls.{with_rings, IsFirstWithout, AreWalls}
 use Rattle.plan_sides.proofs.Within.{outlines_within}
 use Rattle.plan_walls.proofs.Limits.{edges_within}
 use Rattle.scad_words.specs.declared.settings.Settings.{Settings}
+use Rattle.scad_words.specs.Rows.{line_width}
 use Rattle.plan_layer.specs.Plan.{distance, AreWallsFrom, wall_paths}
 use Rattle.plan_layer.specs.Infill.{line_at, depth, LineRuns, IsFilled, AreUpwards, AreFilled, infill_paths}
 use Rattle.plan_layer.specs.One.{PlansAreOne}
@@ -37,7 +39,7 @@ alike es n s t h k above right p positive =
     let inside : ℕ → Bool = λ leaf. not (is_zero (wind_by above right p (segments (edges_of leaf es)))) in
     h inside ∙ sym (k inside)
 
-one_wall : (c : ℕ) → c ≤ 100000 → (outlines : List (List Pt)) → All (λ l. All (IsWithin point_limit) l) outlines
+one_wall : (c : ℕ) → c ≤ distance_limit → (outlines : List (List Pt)) → All (λ l. All (IsWithin point_limit) l) outlines
     → (a b : List (List Pt))
     → AreWalls c outlines a → AreWalls c outlines b → a ≡ b
 one_wall c most outlines within a b h k =
@@ -48,11 +50,11 @@ one_wall c most outlines within a b h k =
     a b h.are_outlines k.are_outlines
 
 -- a wall of few lies near
-near : (width k : ℕ) → width ≤ 2000 → k ≤ 9 → distance width k ≤ 100000
-near width k h l = let m = mul-le k width 9 2000 l h in omega (arith, m)
+near : (width k : ℕ) → width ≤ line_width.most → k ≤ 9 → distance width k ≤ distance_limit
+near width k h l = let m = mul-le k width 9 line_width.most l h in omega (arith, m)
 
 one_walls : (outlines : List (List Pt)) → All (λ l. All (IsWithin point_limit) l) outlines → (width k : ℕ)
-    → width ≤ 2000 → (xs ys : List (List (List Pt))) → k + length xs ≤ 10
+    → width ≤ line_width.most → (xs ys : List (List (List Pt))) → k + length xs ≤ 10
     → length xs ≡ length ys → AreWallsFrom width k outlines xs → AreWallsFrom width k outlines ys → xs ≡ ys
 one_walls outlines within width k h [] [] few e p q = refl
 one_walls outlines within width k h [] (b ∷ ys) few e p q = absurd (omega (arith, e))

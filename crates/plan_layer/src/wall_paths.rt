@@ -2,6 +2,8 @@
 ghost use Rattle.std.specs.Prelude.{◌≡◌, ◌<◌, ◌≤◌, ◌++◌, map, IfOk, IfErr, OnOk, All};
 ghost use Rattle.scad_geom.specs.Limits.{point_limit};
 ghost use Rattle.scad_geom.specs.Within.{IsWithin};
+ghost use Rattle.scad_ring.specs.Limits.{distance_limit};
+ghost use Rattle.scad_words.specs.Rows.{line_width};
 ghost use Rattle.scad_words.specs.Settings.{AreInRange};
 ghost use Rattle.plan_layer.specs.Plan.{distance, round, AreWallPaths};
 ghost use Rattle.plan_layer.specs.Refusal.{AreAccepted, IsWallsRefusal};
@@ -34,10 +36,10 @@ pub(crate) fn wall_paths(
 
 // How far a wall lies inside the outlines.
 fn distance(width: u32, wall: u32) -> u32
-    requires width { width ≤ 2000 }
+    requires width { width ≤ line_width.most }
     requires wall { wall < 10 }
     ensures value { result ≡ distance width wall }
-    ensures size { result ≤ 100000 }
+    ensures size { result ≤ distance_limit }
 {
     width / 2 + wall * width
 }

@@ -10,6 +10,7 @@ use Rattle.scad_geom.specs.Limits.{coordinate_limit}
 use Rattle.scad_geom.specs.Within.{IsWithin}
 use Rattle.gcode_text.specs.declared.fault.GFault.{GFault}
 use Rattle.gcode_text.specs.declared.fault.GFault.TheVariants.{UnknownWord, BadNumber}
+use Rattle.gcode_text.specs.Limits.{amount_limit}
 use Rattle.gcode_text.specs.Reading.{line_words, number}
 use Rattle.gcode_text.specs.Machine.{State, After, start, origin, limited, upper_x, upper_y, upper_z, amount_letter, upper_f}
 use Rattle.gcode_text.specs.Machine.{with_number, with_value, ranged, with_word, with_words, nothing_given, places, takes}
@@ -98,7 +99,7 @@ limited_x letter z h e = by_test (letter == upper_x) e h
   where
     by_test : (a : Bool) → a ≡ true → (if a || letter == upper_y || letter
         == upper_z then nat_le (unsigned_abs z) coordinate_limit
-        else (if letter == amount_letter then nat_le (unsigned_abs z) 2000000000000000000 else true)) ≡ true
+        else (if letter == amount_letter then nat_le (unsigned_abs z) amount_limit else true)) ≡ true
         → Small z
     by_test true f g = small_test z g
     by_test false f g = absurd (cc)
@@ -108,7 +109,7 @@ unfolding limited
 limited_y letter z h e = by_test (letter == upper_x) (letter == upper_y) e h
   where
     by_test : (a b : Bool) → b ≡ true → (if a || b || letter == upper_z then nat_le (unsigned_abs z) coordinate_limit
-        else (if letter == amount_letter then nat_le (unsigned_abs z) 2000000000000000000 else true)) ≡ true
+        else (if letter == amount_letter then nat_le (unsigned_abs z) amount_limit else true)) ≡ true
         → Small z
     by_test true true f g = small_test z g
     by_test false true f g = small_test z g

@@ -18,12 +18,12 @@ use Rattle.scad_geom.specs.Balance.{IsBalanced}
 use Rattle.scad_geom.proofs.Signs.{at_least_mul, square_at_least}
 use Rattle.scad_geom.proofs.Ring.{ring, num, ◌⊕◌, ◌⊖◌, ◌⊗◌, v0, v1, v2, v3, v4, v5}
 use Rattle.winding_laws.specs.Region.{HalfPlane, HoldsOrigin, box}
-use Rattle.winding_laws.specs.Nearness.{seen_from, IsNear as IsNearBy, IsFarSegment}
+use Rattle.winding_laws.specs.Nearness.{seen_from, IsNear, IsFarSegment}
 use Rattle.winding_laws.specs.Points.{IsOn}
 use Rattle.winding_laws.proofs.OneWinding.{regions_have_one_winding}
 use Rattle.winding_laws.proofs.Ways.{way, by_length}
 use Rattle.scad_ring.specs.Octagon.{reach, octagon}
-use Rattle.scad_ring.specs.Nearness.{Closed, IsNear, IsClear}
+use Rattle.scad_ring.specs.Nearness.{Closed, IsWithinRegion, IsClear}
 use Rattle.plan_verify.specs.Stays.{clearance, KeepsClear}
 use Rattle.scad_near.specs.Edges.{ComeNear, AreApart}
 use Rattle.scad_near.proofs.RegionTurns.{Held, held_times, held_part, held_nearer, octagon_holds_origin}
@@ -41,8 +41,8 @@ divisor_is k e d f h = ring (k ∷ e ∷ d ∷ []) (v0 ⊗ (v2 ⊗ v1)) (v2 ⊗ 
     ∙ ap (λ (u : ℤ). d *ℤ u) h
 
 -- what is near to a point of a segment is near to it as a mean of the ends
-near_mean : (h u : ℤ) (a b q m : Point) (on : IsOn a b q) → IsNear Closed (octagon h u) q m
-    → IsNear Closed (octagon h u) (mean on.s on.t a b) m
+near_mean : (h u : ℤ) (a b q m : Point) (on : IsOn a b q) → IsWithinRegion Closed (octagon h u) q m
+    → IsWithinRegion Closed (octagon h u) (mean on.s on.t a b) m
 near_mean h u a b q m on near =
     let w : Point = mean on.s on.t a b in
     let k = on.k in
@@ -96,7 +96,7 @@ on_start a b = record {
 -- points at one place are near
 at_point : (h u : ℤ) → HoldsOrigin (octagon h u) → (q m : Point) → pos 0 <ℤ q.d → pos 0 <ℤ m.d
     → m.x *ℤ q.d -ℤ q.x *ℤ m.d ≡ pos 0 → m.y *ℤ q.d -ℤ q.y *ℤ m.d ≡ pos 0
-    → IsNear Closed (octagon h u) q m
+    → IsWithinRegion Closed (octagon h u) q m
 at_point h u origin q m hq hm x y =
     let p = positive_product m.d q.d hm hq in
     subst (λ (z : ℤ). Held (octagon h u) z (m.y *ℤ q.d -ℤ q.y *ℤ m.d) (m.d *ℤ q.d)) (sym x)
@@ -136,7 +136,7 @@ module _ (a b : Pt) where
   -- a region that holds the points of the way from the start holds the points of the move as the start sees them
   near_on : (region : List HalfPlane)
       → ((s t : ℤ) → pos 0 ≤ℤ s → pos 0 ≤ℤ t → Held region (t *ℤ D.x) (t *ℤ D.y) (s +ℤ t))
-      → (q : Point) → IsOn A B q → IsNearBy region A q
+      → (q : Point) → IsOn A B q → IsNear region A q
   near_on region held q on =
       held_part region (q.x *ℤ pos 1 -ℤ a.x *ℤ q.d) (q.y *ℤ pos 1 -ℤ a.y *ℤ q.d) (q.d *ℤ pos 1) on.k
       on.positive
@@ -236,7 +236,7 @@ module _ (a b : Pt) where
       (apart : AreApart Closed (octagon h u) A B (whole c) (whole e)) where
     -- the weights by which a point of the side that lies on the way is a point of the move
     on_way_near : pos 0 <ℤ (D.x *ℤ D.x +ℤ D.y *ℤ D.y) → (k l : ℤ) → pos 0 ≤ℤ k → pos 0 ≤ℤ l
-        → pos 0 <ℤ (k +ℤ l) → IsNearBy (way D) A (mean k l (whole c) (whole e)) → ⊥
+        → pos 0 <ℤ (k +ℤ l) → IsNear (way D) A (mean k l (whole c) (whole e)) → ⊥
     on_way_near more k l hk hl some near =
         let m : Point = mean k l (whole c) (whole e) in
         let z : ℤ = m.x *ℤ pos 1 -ℤ a.x *ℤ m.d in
@@ -275,7 +275,7 @@ module _ (a b : Pt) where
         (v0 ⊗ num (pos 1) ⊖ v1 ⊗ v3) refl
 
     at_start_near : (k l : ℤ) → pos 0 ≤ℤ k → pos 0 ≤ℤ l → pos 0 <ℤ (k +ℤ l)
-        → IsNearBy (box (pos 1) (pos 0)) A (mean k l (whole c) (whole e)) → ⊥
+        → IsNear (box (pos 1) (pos 0)) A (mean k l (whole c) (whole e)) → ⊥
     at_start_near k l hk hl some near =
         let m : Point = mean k l (whole c) (whole e) in
         let hm : pos 0 <ℤ m.d = omega (arith, ints, some) in

@@ -1,6 +1,7 @@
 //! The whole judgement.
 ghost use Rattle.std.specs.Prelude.{◌≡◌, ◌-◌, ◌<◌, ◌≤◌, ◌^◌, All, IfSome};
 ghost use Rattle.cli_read.specs.View.{layers_of};
+ghost use Rattle.gcode_text.specs.Limits.{width_limit};
 ghost use Rattle.plan_verify.specs.Stays.{AreWithin};
 ghost use Rattle.plan_verify.specs.Verdict.{IsVerdict, IsVerdictBy};
 ghost use Rattle.plan_verify.specs.Fields.{IsSound, StaysInFields};
@@ -29,7 +30,7 @@ pub fn check(
 ) -> Result<Verdict, VerifyFault>
     requires layers { AreWithin (layers_of cli.now) }
     requires least { 100 ≤ line_width }
-    requires most { line_width ≤ 2000 }
+    requires most { line_width ≤ width_limit }
     ensures { IsVerdict (layers_of cli.now) line_width gcode.now result }
 {
     let fields = fields_of(alloc, cli.layers.as_slice())?;
@@ -39,7 +40,7 @@ pub fn check(
 fn judge(fields: &[Field], gcode: &[u8], line_width: u32) -> Result<Verdict, VerifyFault>
     requires fields { All IsSound fields.now }
     requires least { 100 ≤ line_width }
-    requires most { line_width ≤ 2000 }
+    requires most { line_width ≤ width_limit }
     ensures { IsVerdictBy (StaysInFields fields.now line_width) gcode.now result }
 {
     let mut machine = Machine::new();
@@ -68,7 +69,7 @@ fn with_line(
 ) -> Judgement
     requires fields { All IsSound fields.now }
     requires least { 100 ≤ line_width }
-    requires most { line_width ≤ 2000 }
+    requires most { line_width ≤ width_limit }
     requires within { IfSome done.now IsMoveWithin }
     requires few { judgement.moves < 2 ^ 64 - 1 }
     ensures { WithMove (StaysInFields fields.now line_width) done.now line judgement result }
@@ -90,7 +91,7 @@ fn with_move(
 ) -> Judgement
     requires fields { All IsSound fields.now }
     requires least { 100 ≤ line_width }
-    requires most { line_width ≤ 2000 }
+    requires most { line_width ≤ width_limit }
     requires within { IsMoveWithin m.now }
     requires few { judgement.moves < 2 ^ 64 - 1 }
     ensures { IsAdded (StaysInFields fields.now line_width) judgement line m.now result }

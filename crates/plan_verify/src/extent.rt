@@ -2,6 +2,7 @@
 ghost use Rattle.std.specs.Prelude.{◌≡◌, ◌≤◌, ◌+ℤ◌, ◌-ℤ◌, ◌≤ℤ◌, pos, unsigned_abs};
 ghost use Rattle.scad_geom.specs.Limits.{coordinate_limit};
 ghost use Rattle.scad_geom.specs.Within.{IsEdgeWithin};
+ghost use Rattle.gcode_text.specs.Limits.{width_limit};
 ghost use Rattle.plan_verify.specs.Extent.{IsIn, Covers, Reaches, is_beyond, is_off};
 
 use scad_geom::{Edge, Pt};
@@ -44,7 +45,7 @@ impl Extent {
     /// The rectangle round an edge, wider by `s` on each side.
     pub fn reached(e: &Edge, s: u32) -> Extent
         requires edge { IsEdgeWithin coordinate_limit e.now }
-        requires few { s ≤ 2000 }
+        requires few { s ≤ width_limit }
         ensures { Reaches (pos s) result e.now }
     {
         Extent {
@@ -91,7 +92,7 @@ fn greatest(a: i32, b: i32) -> i32
 fn below(a: i32, b: i32, s: u32) -> i32
     requires a { unsigned_abs a ≤ coordinate_limit }
     requires b { unsigned_abs b ≤ coordinate_limit }
-    requires s { s ≤ 2000 }
+    requires s { s ≤ width_limit }
     ensures first { result ≤ℤ (a -ℤ pos s) }
     ensures second { result ≤ℤ (b -ℤ pos s) }
 {
@@ -102,7 +103,7 @@ fn below(a: i32, b: i32, s: u32) -> i32
 fn above(a: i32, b: i32, s: u32) -> i32
     requires a { unsigned_abs a ≤ coordinate_limit }
     requires b { unsigned_abs b ≤ coordinate_limit }
-    requires s { s ≤ 2000 }
+    requires s { s ≤ width_limit }
     ensures first { (a +ℤ pos s) ≤ℤ result }
     ensures second { (b +ℤ pos s) ≤ℤ result }
 {

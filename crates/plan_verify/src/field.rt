@@ -4,6 +4,7 @@ ghost use Rattle.std.specs.List.{Any, AllZip};
 ghost use Rattle.scad_geom.specs.Limits.{coordinate_limit};
 ghost use Rattle.scad_geom.specs.Within.{IsEdgeWithin};
 ghost use Rattle.scad_geom.specs.Loop.{sides};
+ghost use Rattle.gcode_text.specs.Limits.{width_limit};
 ghost use Rattle.plan_verify.specs.Stays.{KeepsClear, from_above};
 ghost use Rattle.plan_verify.specs.Index.{sides_in};
 ghost use Rattle.plan_verify.specs.Fields.{AreSidesWithin, IsSound, IsFieldOf, IsInField, StaysInFields};
@@ -52,7 +53,7 @@ fn keeps_clear(field: &Field, line: Edge, line_width: u32) -> bool
     requires field { IsSound field.now }
     requires line { IsEdgeWithin coordinate_limit line }
     requires least { 100 ≤ line_width }
-    requires most { line_width ≤ 2000 }
+    requires most { line_width ≤ width_limit }
     ensures keeps { result ≡ true → KeepsClear (sides_in field.now.sides) (line_width / 2) line }
     ensures fails { result ≡ false → KeepsClear (sides_in field.now.sides) (line_width / 2) line → ⊥ }
 {
@@ -71,7 +72,7 @@ fn keeps_clear(field: &Field, line: Edge, line_width: u32) -> bool
 pub fn stays(fields: &[Field], m: &Move, line_width: u32) -> bool
     requires fields { All IsSound fields.now }
     requires least { 100 ≤ line_width }
-    requires most { line_width ≤ 2000 }
+    requires most { line_width ≤ width_limit }
     requires within { IsMoveWithin m.now }
     ensures stays { result ≡ true → StaysInFields fields.now line_width m.now }
     ensures fails { result ≡ false → StaysInFields fields.now line_width m.now → ⊥ }
@@ -86,7 +87,7 @@ pub fn stays(fields: &[Field], m: &Move, line_width: u32) -> bool
 fn is_in_some(fields: &[Field], m: &Move, line_width: u32) -> bool
     requires fields { All IsSound fields.now }
     requires least { 100 ≤ line_width }
-    requires most { line_width ≤ 2000 }
+    requires most { line_width ≤ width_limit }
     requires within { IsMoveWithin m.now }
     ensures stays { result ≡ true → Any (IsInField line_width m.now) fields.now }
     ensures fails { result ≡ false → Any (IsInField line_width m.now) fields.now → ⊥ }
@@ -102,7 +103,7 @@ fn is_in_some(fields: &[Field], m: &Move, line_width: u32) -> bool
 fn is_in(field: &Field, m: &Move, line_width: u32) -> bool
     requires field { IsSound field.now }
     requires least { 100 ≤ line_width }
-    requires most { line_width ≤ 2000 }
+    requires most { line_width ≤ width_limit }
     requires within { IsMoveWithin m.now }
     ensures stays { result ≡ true → IsInField line_width m.now field.now }
     ensures fails { result ≡ false → IsInField line_width m.now field.now → ⊥ }

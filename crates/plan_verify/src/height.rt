@@ -1,5 +1,6 @@
 //! The layers from the height of a move on.
 ghost use Rattle.std.specs.Prelude.{◌≡◌, ◌≤◌, All, true, false};
+ghost use Rattle.gcode_text.specs.Limits.{width_limit};
 ghost use Rattle.plan_verify.specs.Fields.{IsSound, StaysInFields};
 ghost use Rattle.plan_verify.specs.Limits.{IsMoveWithin};
 
@@ -12,7 +13,7 @@ use gcode_text::Move;
 pub fn stays_by_height(fields: &[Field], m: &Move, line_width: u32) -> bool
     requires fields { All IsSound fields.now }
     requires least { 100 ≤ line_width }
-    requires most { line_width ≤ 2000 }
+    requires most { line_width ≤ width_limit }
     requires within { IsMoveWithin m.now }
     ensures stays { result ≡ true → StaysInFields fields.now line_width m.now }
     ensures fails { result ≡ false → StaysInFields fields.now line_width m.now → ⊥ }

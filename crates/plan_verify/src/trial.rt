@@ -3,6 +3,7 @@ ghost use Rattle.std.specs.Prelude.{◌≡◌, ◌≤◌, ◌^◌, All, true, fa
 ghost use Rattle.std.specs.List.{Any};
 ghost use Rattle.scad_geom.specs.Limits.{coordinate_limit};
 ghost use Rattle.scad_geom.specs.Within.{IsEdgeWithin};
+ghost use Rattle.gcode_text.specs.Limits.{width_limit};
 ghost use Rattle.plan_verify.specs.Trial.{IsTrial, IsApart, ComesNear};
 
 use crate::extent::Extent;
@@ -23,7 +24,7 @@ impl Trial {
     /// Of an edge and an octagon.
     pub fn of(line: Edge, s: u32, u: u32) -> Trial
         requires line { IsEdgeWithin coordinate_limit line }
-        requires few { s ≤ 2000 }
+        requires few { s ≤ width_limit }
         ensures trial { IsTrial result }
         ensures line { result.line ≡ line }
         ensures s { result.s ≡ s }

@@ -7,7 +7,7 @@ use Rattle.scad_geom.specs.Point.{Point, whole}
 use Rattle.scad_geom.specs.Near.{mean}
 use Rattle.winding_laws.specs.Points.{IsWithinOne}
 use Rattle.scad_ring.specs.Octagon.{reach, octagon}
-use Rattle.scad_ring.specs.Nearness.{Closed, Open, IsNear, IsClear}
+use Rattle.scad_ring.specs.Nearness.{Closed, Open, IsWithinRegion, IsClear}
 use Rattle.scad_ring.proofs.OpenNearness.{near_by_one}
 use Rattle.plan_walls.specs.Clearance.{clearance}
 use Rattle.plan_walls.proofs.Off.{IsOff}
@@ -29,13 +29,13 @@ one_back q b one =
     }
 
 -- the clearance of c and one micrometre more along each axis are the octagon of c
-widened : (c u : ℤ) (b p : Point) → IsNear Open (octagon ((c -ℤ pos 1) +ℤ pos 1) ((u -ℤ pos 2) +ℤ pos 2)) b p
-    → IsNear Open (octagon c u) b p
+widened : (c u : ℤ) (b p : Point) → IsWithinRegion Open (octagon ((c -ℤ pos 1) +ℤ pos 1) ((u -ℤ pos 2) +ℤ pos 2)) b p
+    → IsWithinRegion Open (octagon c u) b p
 widened c u b p h =
     let s : (c -ℤ pos 1) +ℤ pos 1 ≡ c = omega (arith, ints) in
     let t : (u -ℤ pos 2) +ℤ pos 2 ≡ u = omega (arith, ints) in
-    subst (λ (v : ℤ). IsNear Open (octagon c v) b p) t
-    (subst (λ (z : ℤ). IsNear Open (octagon z ((u -ℤ pos 2) +ℤ pos 2)) b p) s h)
+    subst (λ (v : ℤ). IsWithinRegion Open (octagon c v) b p) t
+    (subst (λ (z : ℤ). IsWithinRegion Open (octagon z ((u -ℤ pos 2) +ℤ pos 2)) b p) s h)
 
 -- so q is clear of what b is off
 pub clear_of : (c : ℕ) (q b : Point) → pos 0 <ℤ q.d → pos 0 <ℤ b.d → IsWithinOne q b → (e : Edge) → IsOff c b e

@@ -17,14 +17,14 @@ use Rattle.scad_geom.proofs.Signs.{at_least_mul, square_at_least}
 use Rattle.scad_geom.proofs.Rising.{order}
 use Rattle.scad_geom.proofs.Ring.{ring, num, ◌⊕◌, ◌⊖◌, ◌⊗◌, v0, v1, v2, v3}
 use Rattle.winding_laws.specs.Region.{HalfPlane, Holds, HoldsOrigin, box}
-use Rattle.winding_laws.specs.Nearness.{IsNear as Near, IsFarSegment}
+use Rattle.winding_laws.specs.Nearness.{IsNear, IsFarSegment}
 use Rattle.winding_laws.proofs.Approach.{at_most_as}
 use Rattle.winding_laws.proofs.Regions.{near_itself}
 use Rattle.winding_laws.proofs.Forms.{forms_wind_alike}
 use Rattle.winding_laws.proofs.OneWinding.{regions_have_one_winding}
 use Rattle.winding_laws.specs.Points.{IsWithinOne}
 use Rattle.scad_ring.specs.Octagon.{reach, octagon, octagon_of}
-use Rattle.scad_ring.specs.Nearness.{Open, IsNear}
+use Rattle.scad_ring.specs.Nearness.{Open, IsWithinRegion}
 use Rattle.plan_walls.proofs.Off.{IsOff}
 use Rattle.plan_walls.proofs.Round.{weight_positive}
 
@@ -70,7 +70,7 @@ in_square n x y some r l u d = (
   ),
 )
 
-near_it : (q b : Point) → pos 0 <ℤ (q.d *ℤ b.d) → IsWithinOne q b → Near (round_it (q.d *ℤ b.d)) b q
+near_it : (q b : Point) → pos 0 <ℤ (q.d *ℤ b.d) → IsWithinOne q b → IsNear (round_it (q.d *ℤ b.d)) b q
 near_it q b some one =
     let e = *ℤ_comm b.d q.d in
     let r = one.right in
@@ -118,7 +118,7 @@ in_half_plane n m k x y w two more h =
 in_octagon : (s u : ℤ) (b p : Point) → pos 2 ≤ℤ s → pos 2 ≤ℤ u → pos 0 <ℤ (p.d *ℤ b.d)
     → (p.x *ℤ b.d -ℤ b.x *ℤ p.d) <ℤ (p.d *ℤ b.d) → (pos 0 -ℤ (p.x *ℤ b.d -ℤ b.x *ℤ p.d)) <ℤ (p.d *ℤ b.d)
     → (p.y *ℤ b.d -ℤ b.y *ℤ p.d) <ℤ (p.d *ℤ b.d) → (pos 0 -ℤ (p.y *ℤ b.d -ℤ b.y *ℤ p.d)) <ℤ (p.d *ℤ b.d)
-    → IsNear Open (octagon s u) b p
+    → IsWithinRegion Open (octagon s u) b p
 in_octagon s u b p hs hu more r l a o =
     let x : ℤ = p.x *ℤ b.d -ℤ b.x *ℤ p.d in
     let y : ℤ = p.y *ℤ b.d -ℤ b.y *ℤ p.d in
@@ -146,7 +146,7 @@ in_octagon s u b p hs hu more r l a o =
     )
 
 near_by_octagon : (c : ℕ) → 2 ≤ c → (n : ℤ) → pos 0 ≤ℤ n → (b p : Point) → pos 0 <ℤ (p.d *ℤ b.d)
-    → Near (round_it n) b p → IsNear Open (octagon_of c) b p
+    → IsNear (round_it n) b p → IsWithinRegion Open (octagon_of c) b p
 near_by_octagon c two n least b p more h =
     let w : ℤ = p.d *ℤ b.d in
     let x : ℤ = p.x *ℤ b.d -ℤ b.x *ℤ p.d in

@@ -12,11 +12,12 @@ use Rattle.scad_geom.specs.Limits.{point_limit, coordinate_limit}
 use Rattle.scad_geom.specs.Within.{IsWithin, IsEdgeWithin}
 use Rattle.scad_geom.specs.Loop.{path, sides}
 use Rattle.plan_sides.proofs.Within.{sides_within}
+use Rattle.scad_ring.specs.Limits.{distance_limit}
 use Rattle.scad_ring.specs.Corners.{corners_of}
 use Rattle.scad_ring.proofs.Shapes.{corners_of-within}
 use Rattle.plan_walls.specs.Walls.{of_leaf, rings_from, with_rings}
 
-module _ (c : ℕ) (most : c ≤ 100000) where
+module _ (c : ℕ) (most : c ≤ distance_limit) where
   abbrev AreWithin : List LeafEdge → Type 0
   AreWithin es = AllByRecursion (λ e. IsEdgeWithin coordinate_limit e.edge) es
 

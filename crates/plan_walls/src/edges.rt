@@ -3,6 +3,7 @@ ghost use Rattle.std.specs.Prelude.{◌≡◌, ◌+◌, ◌<◌, ◌≤◌, ◌^
 ghost use Rattle.scad_geom.specs.Limits.{point_limit};
 ghost use Rattle.scad_geom.specs.Within.{IsEdgeWithin};
 ghost use Rattle.scad_geom.specs.Loop.{sides, path};
+ghost use Rattle.scad_ring.specs.Limits.{distance_limit};
 ghost use Rattle.scad_ring.specs.Corners.{corners_of};
 ghost use Rattle.plan_walls.specs.Walls.{of_leaf, rings_from, with_rings};
 
@@ -14,7 +15,7 @@ use std::alloc::{AllocError, Global};
 pub(crate) fn edge_count(around: &[Edge], c: u32) -> u64
     requires edges { All (IsEdgeWithin point_limit) around.now }
     requires positive { 1 ≤ c }
-    requires width { c ≤ 100000 }
+    requires width { c ≤ distance_limit }
     ensures { result ≡ length (with_rings c around.now) }
 {
     let mut count = around.len() as u64;
@@ -28,7 +29,7 @@ pub(crate) fn edge_count(around: &[Edge], c: u32) -> u64
 fn corner_count(e: &Edge, c: u32) -> u64
     requires edge { IsEdgeWithin point_limit e.now }
     requires positive { 1 ≤ c }
-    requires width { c ≤ 100000 }
+    requires width { c ≤ distance_limit }
     ensures value { result ≡ length (corners_of c e.now) }
     ensures few { result ≤ 10 }
 {
@@ -39,7 +40,7 @@ fn corner_count(e: &Edge, c: u32) -> u64
 pub(crate) fn edges(alloc: Global, around: &[Edge], c: u32) -> Result<Vec<LeafEdge>, AllocError>
     requires edges { All (IsEdgeWithin point_limit) around.now }
     requires positive { 1 ≤ c }
-    requires width { c ≤ 100000 }
+    requires width { c ≤ distance_limit }
     requires few { length around.now + 1 < 2 ^ 32 }
     ensures { IfOk result (λ v. v.items ≡ with_rings c around.now) }
 {
@@ -66,7 +67,7 @@ fn push_edges(edges: &mut Vec<LeafEdge>, around: &[Edge]) -> Result<(), AllocErr
 fn push_rings(edges: &mut Vec<LeafEdge>, around: &[Edge], c: u32) -> Result<(), AllocError>
     requires edges { All (IsEdgeWithin point_limit) around.now }
     requires positive { 1 ≤ c }
-    requires width { c ≤ 100000 }
+    requires width { c ≤ distance_limit }
     requires few { length around.now + 1 < 2 ^ 32 }
     ensures { OnOk result (edges.new.items ≡ edges.old.items ++ rings_from c 1 around.now) }
 {

@@ -4,6 +4,7 @@ ghost use Rattle.scad_geom.specs.Limits.{point_limit};
 ghost use Rattle.scad_geom.specs.Within.{IsWithin, IsEdgeWithin};
 ghost use Rattle.scad_geom.specs.Segment.{segments};
 ghost use Rattle.scad_geom.specs.Balance.{IsBalanced};
+ghost use Rattle.scad_ring.specs.Limits.{distance_limit};
 ghost use Rattle.slice_events.specs.Limits.{crossing_limit};
 ghost use Rattle.slice_events.specs.Levels.{crossings};
 ghost use Rattle.plan_walls.specs.Walls.{with_rings, wall_edges, IsFirstWithout, AreWallsAlong, AreWalls};
@@ -19,7 +20,7 @@ use slice_outlines::outlines;
 use std::alloc::{AllocError, Global};
 
 /// The greatest number of edges, those of the outlines and of the rings round them.
-const EDGE_LIMIT: u32 = 220_000;
+const WALL_EDGE_LIMIT: u32 = 220_000;
 
 /// The loops at the distance `c` micrometres from outlines, with the inside on their left: the outlines of what lies
 /// inside the given ones and outside of the ring round each of their sides, all that differs from a point of it by a
@@ -31,7 +32,7 @@ const EDGE_LIMIT: u32 = 220_000;
 pub fn walls(alloc: Global, outlines: &[Loop], c: u32) -> Result<Vec<Loop>, BoolFault>
     requires within { All (λ l. All (IsWithin point_limit) l) outlines.now }
     requires positive { 1 ≤ c }
-    requires width { c ≤ 100000 }
+    requires width { c ≤ distance_limit }
     ensures walls { IfOk result (λ v. AreWalls c outlines.now v.items) }
     ensures apart { IfOk result (λ v. StayApart outlines.now c v.items) }
     ensures clear { 2 ≤ c → IfOk result (λ v. KeepClear outlines.now c v.items) }
@@ -51,7 +52,7 @@ fn walls_along(alloc: Global, around: &[Edge], c: u32) -> Result<Vec<Loop>, Bool
     requires within { All (IsEdgeWithin point_limit) around.now }
     requires balanced { IsBalanced (segments around.now) }
     requires positive { 1 ≤ c }
-    requires width { c ≤ 100000 }
+    requires width { c ≤ distance_limit }
     ensures walls { IfOk result (λ v. AreWallsAlong c around.now v.items) }
     ensures few { IfOk result (λ v. length (with_rings c around.now) ≤ wall_edge_limit) }
     ensures accepted { IfOk result (λ v. crossings (with_rings c around.now) ≤ crossing_limit) }
@@ -59,11 +60,11 @@ fn walls_along(alloc: Global, around: &[Edge], c: u32) -> Result<Vec<Loop>, Bool
         (IsRefusal (length (with_rings c around.now)) wall_edge_limit (crossings (with_rings c around.now))) }
 {
     let count = edge_count(around, c);
-    if count > EDGE_LIMIT as u64 {
+    if count > WALL_EDGE_LIMIT as u64 {
         return Err(BoolFault::Edges(count));
     }
     match edges_and_shape(alloc, around, c) {
-        Ok((edges, shape)) => outlines(alloc, &edges, &shape, EDGE_LIMIT),
+        Ok((edges, shape)) => outlines(alloc, &edges, &shape, WALL_EDGE_LIMIT),
         Err(_) => Err(BoolFault::Memory),
     }
 }
@@ -75,7 +76,7 @@ fn edges_and_shape(
 ) -> Result<(Vec<LeafEdge>, Shape), AllocError>
     requires within { All (IsEdgeWithin point_limit) around.now }
     requires positive { 1 ≤ c }
-    requires width { c ≤ 100000 }
+    requires width { c ≤ distance_limit }
     requires few { length around.now + 1 < 2 ^ 32 }
     ensures edges { IfOk result (λ r. r.0.items ≡ with_rings c around.now) }
     ensures shape { IfOk result (λ r. IsFirstWithout (length around.now) r.1) }

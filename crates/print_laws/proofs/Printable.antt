@@ -24,7 +24,7 @@ use Rattle.slice_work.specs.Rates.{rates_of}
 use Rattle.print_laws.specs.Laws.{PlansArePrintable}
 use Rattle.print_laws.proofs.LayerNumbers.{AreFrom, from_first}
 use Rattle.print_laws.proofs.Points.{plan_within, edges_within}
-use Rattle.print_laws.proofs.Volume.{volume_limit, paths_most}
+use Rattle.print_laws.proofs.Volume.{move_volume_limit, paths_most}
 use Rattle.print_laws.proofs.Wound.{moves_within}
 
 -- ---- points
@@ -43,7 +43,7 @@ paths_short (path ∷ paths) h = (path_short path h.0, paths_short paths h.1)
 -- ---- layers
 -- the volume of a layer is at most this
 abbrev layer_volume : ℕ
-layer_volume = move_limit * volume_limit
+layer_volume = move_limit * move_volume_limit
 
 module _ (law : PlansKeepClear) (s : Settings) (range : AreInRange s) where
   pub ends_within : (i : ℕ) (l : Layout) → IsPlanned s i l

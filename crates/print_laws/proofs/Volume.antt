@@ -14,11 +14,12 @@ use Rattle.scad_geom.specs.Within.{IsWithin, IsEdgeWithin}
 use Rattle.plan_layer.specs.Moves.{moves_from, moves, all_moves}
 use Rattle.gcode_text.specs.declared.rates.Rates.{Rates}
 use Rattle.gcode_text.specs.Amount.{square, length_of, move_volume, moves_volume, path_volume, paths_volume}
+use Rattle.gcode_text.specs.Limits.{width_limit}
 use Rattle.print_laws.proofs.Points.{all_front, all_back}
 
 -- of one move, in cubic micrometres
-abbrev pub volume_limit : ℕ
-volume_limit = 2000000000000000000000
+abbrev pub move_volume_limit : ℕ
+move_volume_limit = 2000000000000000000000
 
 square_most : (z : ℤ) → unsigned_abs z ≤ 2000000 → square z ≤ 4000000000000
 square_most z h = mul-le (unsigned_abs z) (unsigned_abs z) 2000000 2000000 h h
@@ -37,28 +38,29 @@ length_most a b p q =
     let y = square_most (b.y -ℤ a.y) (omega (arith, ints)) in
     root_most (square (b.x -ℤ a.x) + square (b.y -ℤ a.y)) (omega (arith, x, y))
 
-module _ (rates : Rates) (width : rates.line_width ≤ 2000) (height : rates.layer_height ≤ 1000) where
-  move_most : (e : Edge) → IsEdgeWithin point_limit e → move_volume rates e.a e.b ≤ volume_limit
+module _ (rates : Rates) (width : rates.line_width ≤ width_limit) (height : rates.layer_height ≤ 1000) where
+  move_most : (e : Edge) → IsEdgeWithin point_limit e → move_volume rates e.a e.b ≤ move_volume_limit
   unfolding move_volume
   move_most e h =
-      mul-le (length_of e.a e.b * rates.line_width) rates.layer_height (1000000000000000 * 2000) 1000
-      (mul-le (length_of e.a e.b) rates.line_width 1000000000000000 2000 (length_most e.a e.b h.a h.b) width) height
+      mul-le (length_of e.a e.b * rates.line_width) rates.layer_height (1000000000000000 * width_limit) 1000
+      (mul-le (length_of e.a e.b) rates.line_width 1000000000000000 width_limit (length_most e.a e.b h.a h.b) width)
+      height
 
   moves_most : (from : Pt) (ps : List Pt) → AllByRecursion (IsEdgeWithin point_limit) (moves_from from ps)
-      → moves_volume rates from ps ≤ length (moves_from from ps) * volume_limit
+      → moves_volume rates from ps ≤ length (moves_from from ps) * move_volume_limit
   unfolding moves_volume
   moves_most from [] h = omega arith
   moves_most from (to ∷ ps) h =
       let a = move_most (record { a = from; b = to }) h.0 in let b = moves_most to ps h.1 in omega (arith, a, b)
 
   path_most : (path : List Pt) → AllByRecursion (IsEdgeWithin point_limit) (moves path)
-      → path_volume rates path ≤ length (moves path) * volume_limit
+      → path_volume rates path ≤ length (moves path) * move_volume_limit
   unfolding path_volume
   path_most [] h = omega arith
   path_most (p ∷ ps) h = moves_most p ps h
 
   pub paths_most : (paths : List (List Pt)) → AllByRecursion (IsEdgeWithin point_limit) (all_moves paths)
-      → paths_volume rates paths ≤ length (all_moves paths) * volume_limit
+      → paths_volume rates paths ≤ length (all_moves paths) * move_volume_limit
   unfolding paths_volume
   paths_most [] h = omega arith
   paths_most (path ∷ paths) h =

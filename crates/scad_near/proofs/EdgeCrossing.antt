@@ -15,7 +15,7 @@ use Rattle.scad_geom.specs.Near.{mean}
 use Rattle.scad_geom.proofs.Ring.{ring, num, ◌⊕◌, ◌⊖◌, ◌⊗◌, v0, v1, v2, v3, v4, v5, v6, v7}
 use Rattle.winding_laws.specs.Region.{HoldsOrigin}
 use Rattle.scad_ring.specs.Octagon.{octagon}
-use Rattle.scad_ring.specs.Nearness.{Closed, IsNear, Meets}
+use Rattle.scad_ring.specs.Nearness.{Closed, IsWithinRegion, Meets}
 use Rattle.scad_near.specs.Edges.{ComeNear}
 use Rattle.scad_near.specs.Tests.{offset, is_parted, crosses}
 use Rattle.scad_near.proofs.RegionTurns.{Held, held_nearer, held_mirrored}
@@ -62,7 +62,7 @@ back_is x e y d = omega (arith, ints)
 product_back : (d e : ℤ) → d *ℤ e ≡ e *ℤ d
 product_back d e = ring (d ∷ e ∷ []) (v0 ⊗ v1) (v1 ⊗ v0) refl
 
-near_back : (h u : ℤ) (q p : Point) → IsNear Closed (octagon h u) q p → IsNear Closed (octagon h u) p q
+near_back : (h u : ℤ) (q p : Point) → IsWithinRegion Closed (octagon h u) q p → IsWithinRegion Closed (octagon h u) p q
 near_back h u q p n =
     subst (λ (x : ℤ). Held (octagon h u) x (q.y *ℤ p.d -ℤ p.y *ℤ q.d) (q.d *ℤ p.d)) (back_is p.x q.d q.x p.d)
     (subst (λ (y : ℤ). Held (octagon h u) (pos 0 -ℤ (p.x *ℤ q.d -ℤ q.x *ℤ p.d)) y (q.d *ℤ p.d)) (back_is p.y q.d q.y p.d)

@@ -11,7 +11,7 @@ use Rattle.scad_geom.proofs.Signs.{at_least_mul}
 use Rattle.scad_geom.proofs.Ring.{ring, num, ◌⊕◌, ◌⊖◌, ◌⊗◌, v0, v1, v2, v3, v4, v5, v6, v7}
 use Rattle.winding_laws.specs.Region.{HoldsOrigin}
 use Rattle.scad_ring.specs.Octagon.{octagon}
-use Rattle.scad_ring.specs.Nearness.{Closed, IsNear}
+use Rattle.scad_ring.specs.Nearness.{Closed, IsWithinRegion}
 use Rattle.scad_near.proofs.RegionTurns.{Held, held_times, held_nearer}
 
 -- how far the mean of r and z by k and l is past that of p and q by s and t, times the sum of the weights
@@ -59,7 +59,7 @@ sum_is s t w = ring (s ∷ t ∷ w ∷ []) (v0 ⊗ v2 ⊕ v1 ⊗ v2) ((v0 ⊕ v1
 module _ (h w : ℤ) (a b c d : Pt) where
   pub weights_if_near : (s t k l : ℤ) → pos 0 ≤ℤ s → pos 0 ≤ℤ t → pos 0 <ℤ (s +ℤ t) → pos 0 ≤ℤ k → pos 0 ≤ℤ l
       → pos 0 <ℤ (k +ℤ l)
-      → IsNear Closed (octagon h w) (mean s t (whole a) (whole b)) (mean k l (whole c) (whole d))
+      → IsWithinRegion Closed (octagon h w) (mean s t (whole a) (whole b)) (mean k l (whole c) (whole d))
       → Weights h w a b c d (s *ℤ (k +ℤ l)) (t *ℤ (k +ℤ l)) (k *ℤ (s +ℤ t)) (l *ℤ (s +ℤ t))
   weights_if_near s t k l hs ht st hk hl kl near =
       let p = positive_product (s +ℤ t) (k +ℤ l) st kl in
@@ -153,7 +153,7 @@ end_divisor m n = ring (m ∷ n ∷ []) (num (pos 2) ⊗ (v0 ⊕ v1)) ((v0 ⊗ n
 
 pub end_near : (h u : ℤ) (p r z : Pt) (m n x y e : ℤ) → x ≡ (m *ℤ r.x +ℤ n *ℤ z.x) -ℤ (m +ℤ n) *ℤ p.x
     → y ≡ (m *ℤ r.y +ℤ n *ℤ z.y) -ℤ (m +ℤ n) *ℤ p.y → e ≡ m +ℤ n → Held (octagon h u) x y e
-    → IsNear Closed (octagon h u) (halves (pos 2 *ℤ p.x) (pos 2 *ℤ p.y)) (mean m n (whole r) (whole z))
+    → IsWithinRegion Closed (octagon h u) (halves (pos 2 *ℤ p.x) (pos 2 *ℤ p.y)) (mean m n (whole r) (whole z))
 end_near h u p r z m n x y e f g i held =
     subst (λ (w : ℤ). Held (octagon h u) w
     ((m *ℤ r.y +ℤ n *ℤ z.y) *ℤ pos 2 -ℤ (pos 2 *ℤ p.y) *ℤ (m *ℤ pos 1 +ℤ n *ℤ pos 1))

@@ -7,7 +7,7 @@ use Rattle.scad_geom.specs.Point.{Point, whole}
 use Rattle.scad_geom.specs.Near.{mean}
 use Rattle.scad_geom.proofs.Ring.{ring, num, ◌⊕◌, ◌⊖◌, ◌⊗◌, v0, v1, v2, v3, v4, v5, v6, v7, v8, v9, v10}
 use Rattle.scad_ring.specs.Octagon.{octagon}
-use Rattle.scad_ring.specs.Nearness.{Closed, IsNear, Meets}
+use Rattle.scad_ring.specs.Nearness.{Closed, IsWithinRegion, Meets}
 use Rattle.scad_ring.proofs.Convex.{Lies}
 use Rattle.scad_ring.proofs.Octants.{Approach}
 
@@ -87,7 +87,7 @@ module _ (q : Point) (p r : Pt) where
   }
 
   pub approach_if_near : (s u k t : ℤ) → pos 0 ≤ℤ k → pos 0 ≤ℤ t → pos 0 <ℤ (k +ℤ t)
-      → IsNear Closed (octagon s u) q (mean k t (whole p) (whole r)) → ApproachFrom s u q p r
+      → IsWithinRegion Closed (octagon s u) q (mean k t (whole p) (whole r)) → ApproachFrom s u q p r
   approach_if_near s u k t from to some n = record {
     s = k;
     t = t;

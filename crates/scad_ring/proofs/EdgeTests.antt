@@ -12,7 +12,7 @@ use Rattle.scad_geom.specs.Near.{mean}
 use Rattle.winding_laws.specs.Region.{HalfPlane}
 use Rattle.std.specs.Prelude.{List}
 use Rattle.scad_ring.specs.Octagon.{octagon}
-use Rattle.scad_ring.specs.Nearness.{Border, Closed, IsNear, Meets, IsClear}
+use Rattle.scad_ring.specs.Nearness.{Border, Closed, IsWithinRegion, Meets, IsClear}
 use Rattle.scad_ring.specs.Tests.{passes}
 use Rattle.scad_ring.proofs.Octants.{Approach}
 use Rattle.scad_ring.proofs.Approaches.{ApproachFrom, meets_if_approach, approach_if_near}
@@ -39,13 +39,13 @@ meets_back border region q a b m =
       from = m.to;
       to = m.from;
       some = omega (arith, ints);
-      near = subst (IsNear border region q) (mean_back m.s m.t a b) m.near;
+      near = subst (IsWithinRegion border region q) (mean_back m.s m.t a b) m.near;
     }
 
 clear_back : (border : Border) (region : List HalfPlane) (q a b : Point) → IsClear border region q a b
     → IsClear border region q b a
 clear_back border region q a b c s t from to some n =
-    c t s to from (omega (arith, ints)) (subst (IsNear border region q) (mean_back s t b a) n)
+    c t s to from (omega (arith, ints)) (subst (IsWithinRegion border region q) (mean_back s t b a) n)
 
 -- ---- over the divisor of a point in halves
 doubled_is : (z : ℤ) → pos 2 *ℤ z ≡ z *ℤ pos 2

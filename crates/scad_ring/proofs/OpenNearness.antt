@@ -10,7 +10,7 @@ use Rattle.scad_base.proofs.Products.{positive_product}
 use Rattle.scad_geom.proofs.Ring.{ring, num, ◌⊕◌, ◌⊖◌, ◌⊗◌, v0, v1, v2, v3, v4, v5, v6, v7, v8, v9, v10, v11, v12}
 use Rattle.winding_laws.specs.Points.{IsWithinOne}
 use Rattle.scad_ring.specs.Octagon.{octagon}
-use Rattle.scad_ring.specs.Nearness.{Closed, Open, IsNear}
+use Rattle.scad_ring.specs.Nearness.{Closed, Open, IsWithinRegion}
 use Rattle.scad_ring.proofs.Octants.{IsSize}
 
 -- a point moved by u to the right and v upwards, in parts of its divisor times k
@@ -48,8 +48,8 @@ by_step n m c px py d qx qy e x y some step near =
 
 -- a point that is near to q by the open octagon is near by the closed one to q moved by a step, in parts of both
 -- divisors
-pub near_shifted : (c u x y : ℤ) (q p : Point) → pos 0 ≤ℤ p.d → IsStep x y → IsNear Open (octagon c u) q p
-    → IsNear Closed (octagon c u) (shifted p.d x y q) p
+pub near_shifted : (c u x y : ℤ) (q p : Point) → pos 0 ≤ℤ p.d → IsStep x y → IsWithinRegion Open (octagon c u) q p
+    → IsWithinRegion Closed (octagon c u) (shifted p.d x y q) p
 near_shifted c u x y q p some step h =
     let sl = step.sum.least in
     let sm = step.sum.most in
@@ -152,7 +152,8 @@ by_one n m c e px py pd qx qy qd bx by bd hp hq hb near one =
 -- what is near to q by a closed octagon is near by the open one, greater by 1 and by 2 in sum, to each point b that q
 -- lies less than 1 away from along both axes
 pub near_by_one : (c u : ℤ) (b q p : Point) → pos 0 <ℤ b.d → pos 0 <ℤ q.d → pos 0 <ℤ p.d
-    → IsWithinOne b q → IsNear Closed (octagon c u) q p → IsNear Open (octagon (c +ℤ pos 1) (u +ℤ pos 2)) b p
+    → IsWithinOne b q → IsWithinRegion Closed (octagon c u) q p
+    → IsWithinRegion Open (octagon (c +ℤ pos 1) (u +ℤ pos 2)) b p
 near_by_one c u b q p hb hq hp w h =
     let r = w.right in
     let l = w.left in

@@ -8,6 +8,7 @@ use Rattle.scad_geom.specs.declared.point.Pt.{Pt}
 use Rattle.scad_geom.specs.declared.point.Edge.{Edge}
 use Rattle.scad_geom.specs.Limits.{point_limit, coordinate_limit}
 use Rattle.scad_geom.specs.Within.{IsWithin, IsEdgeWithin}
+use Rattle.scad_ring.specs.Limits.{distance_limit}
 use Rattle.scad_ring.specs.Octagon.{slant}
 use Rattle.scad_ring.specs.declared.direction.Direction.{Direction}
 use Rattle.scad_ring.specs.declared.direction.Direction.TheVariants.{Still, Flat, Right, DiagonalRight, SteepRight, Upright, SteepLeft, DiagonalLeft, Left}
@@ -94,7 +95,7 @@ corners_of-several c e = by_shape (λ l. 3 ≤ length l) c e (eight_sided-severa
     (four_sided-several (pos c) e.b e.a)
 
 -- ---- within the limit
-module _ (c t : ℕ) (most : c ≤ 100000) (less : t ≤ c) (p : Pt) (h : IsWithin point_limit p) where
+module _ (c t : ℕ) (most : c ≤ distance_limit) (less : t ≤ c) (p : Pt) (h : IsWithin point_limit p) where
   x_is : unsigned_abs p.x ≤ point_limit
   x_is = h.x
 
@@ -140,7 +141,7 @@ module _ (c t : ℕ) (most : c ≤ 100000) (less : t ≤ c) (p : Pt) (h : IsWith
 abbrev Within : List Pt → Type 0
 Within l = AllByRecursion (IsWithin coordinate_limit) l
 
-module _ (c t : ℕ) (most : c ≤ 100000) (less : t ≤ c) (p r : Pt) (hp : IsWithin point_limit p)
+module _ (c t : ℕ) (most : c ≤ distance_limit) (less : t ≤ c) (p r : Pt) (hp : IsWithin point_limit p)
     (hr : IsWithin point_limit r) where
   eight_within : (w : Direction) → Within (eight_sided (pos c) (pos t) p r w)
   eight_within Still = (
@@ -420,7 +421,7 @@ slant_most : (c : ℕ) → slant c ≤ c
 slant_most c = omega arith
 
 -- the corners of a ring round an edge of a layer
-pub corners_of-within : (c : ℕ) → c ≤ 100000 → (e : Edge) → IsEdgeWithin point_limit e
+pub corners_of-within : (c : ℕ) → c ≤ distance_limit → (e : Edge) → IsEdgeWithin point_limit e
     → AllByRecursion (IsWithin coordinate_limit) (corners_of c e)
 corners_of-within c most e h = by_shape Within c e
     (eight_within c (slant c) most (slant_most c) e.a e.b h.a h.b)

@@ -1,4 +1,5 @@
 -- What the public calls promise.
+pub mod Limits
 pub mod Octagon
 pub mod Nearness
 pub mod Ring

@@ -21,8 +21,8 @@ abbrev pub Bounds : Border → Point → HalfPlane → Type 0
 Bounds border p h = IsBy border (h.a *ℤ p.x +ℤ h.b *ℤ p.y) (h.c *ℤ p.d)
 
 -- p differs from q by a point of the region
-abbrev pub IsNear : Border → List HalfPlane → Point → Point → Type 0
-IsNear border region q p = AllByRecursion (Bounds border (seen_from q p)) region
+abbrev pub IsWithinRegion : Border → List HalfPlane → Point → Point → Type 0
+IsWithinRegion border region q p = AllByRecursion (Bounds border (seen_from q p)) region
 
 -- some point of the segment from a to b is near to q
 pub record Meets (border : Border) (region : List HalfPlane) (q a b : Point) : Type 0 where
@@ -31,9 +31,9 @@ pub record Meets (border : Border) (region : List HalfPlane) (q a b : Point) : T
   pub from : pos 0 ≤ℤ s
   pub to : pos 0 ≤ℤ t
   pub some : pos 0 <ℤ (s +ℤ t)
-  pub near : IsNear border region q (mean s t a b)
+  pub near : IsWithinRegion border region q (mean s t a b)
 
 -- no point of the segment from a to b is near to q
 abbrev pub IsClear : Border → List HalfPlane → Point → Point → Point → Type 0
 IsClear border region q a b = (s t : ℤ) → pos 0 ≤ℤ s → pos 0 ≤ℤ t → pos 0 <ℤ (s +ℤ t)
-    → IsNear border region q (mean s t a b) → ⊥
+    → IsWithinRegion border region q (mean s t a b) → ⊥

@@ -2,6 +2,7 @@
 ghost use Rattle.std.specs.Prelude.{◌≡◌, ◌+◌, ◌≤◌, ◌^◌, ◌+ℤ◌, ◌-ℤ◌, unsigned_abs};
 ghost use Rattle.scad_geom.specs.Limits.{point_limit};
 ghost use Rattle.scad_geom.specs.Within.{IsWithin};
+ghost use Rattle.scad_ring.specs.Limits.{distance_limit};
 ghost use Rattle.scad_ring.specs.Octagon.{slant, reach};
 ghost use Rattle.scad_ring.specs.Corners.{low_left, low_right, right_low, right_high, high_right, high_left, left_high, left_low, low, right, high, left, at};
 
@@ -41,8 +42,8 @@ impl Eight {
     /// At `c` along one axis and `t` along the other.
     pub(crate) fn round(p: Pt, c: i32, t: i32) -> Eight
         requires p { IsWithin point_limit p }
-        requires c { unsigned_abs c ≤ 100000 }
-        requires t { unsigned_abs t ≤ 100000 }
+        requires c { unsigned_abs c ≤ distance_limit }
+        requires t { unsigned_abs t ≤ distance_limit }
         ensures low_left { result.low_left ≡ low_left c t p }
         ensures low_right { result.low_right ≡ low_right c t p }
         ensures right_low { result.right_low ≡ right_low c t p }
@@ -78,7 +79,7 @@ impl Four {
     /// At `c` along one axis.
     pub(crate) fn round(p: Pt, c: i32) -> Four
         requires p { IsWithin point_limit p }
-        requires c { unsigned_abs c ≤ 100000 }
+        requires c { unsigned_abs c ≤ distance_limit }
         ensures low { result.low ≡ low c p }
         ensures right { result.right ≡ right c p }
         ensures high { result.high ≡ high c p }
@@ -96,8 +97,8 @@ impl Four {
 // A point moved along both axes.
 fn left_below(p: Pt, x: i32, y: i32) -> Pt
     requires p { IsWithin point_limit p }
-    requires x { unsigned_abs x ≤ 100000 }
-    requires y { unsigned_abs y ≤ 100000 }
+    requires x { unsigned_abs x ≤ distance_limit }
+    requires y { unsigned_abs y ≤ distance_limit }
     ensures { result ≡ at (p.x -ℤ x) (p.y -ℤ y) }
 {
     Pt {
@@ -108,8 +109,8 @@ fn left_below(p: Pt, x: i32, y: i32) -> Pt
 
 fn right_below(p: Pt, x: i32, y: i32) -> Pt
     requires p { IsWithin point_limit p }
-    requires x { unsigned_abs x ≤ 100000 }
-    requires y { unsigned_abs y ≤ 100000 }
+    requires x { unsigned_abs x ≤ distance_limit }
+    requires y { unsigned_abs y ≤ distance_limit }
     ensures { result ≡ at (p.x +ℤ x) (p.y -ℤ y) }
 {
     Pt {
@@ -120,8 +121,8 @@ fn right_below(p: Pt, x: i32, y: i32) -> Pt
 
 fn right_above(p: Pt, x: i32, y: i32) -> Pt
     requires p { IsWithin point_limit p }
-    requires x { unsigned_abs x ≤ 100000 }
-    requires y { unsigned_abs y ≤ 100000 }
+    requires x { unsigned_abs x ≤ distance_limit }
+    requires y { unsigned_abs y ≤ distance_limit }
     ensures { result ≡ at (p.x +ℤ x) (p.y +ℤ y) }
 {
     Pt {
@@ -132,8 +133,8 @@ fn right_above(p: Pt, x: i32, y: i32) -> Pt
 
 fn left_above(p: Pt, x: i32, y: i32) -> Pt
     requires p { IsWithin point_limit p }
-    requires x { unsigned_abs x ≤ 100000 }
-    requires y { unsigned_abs y ≤ 100000 }
+    requires x { unsigned_abs x ≤ distance_limit }
+    requires y { unsigned_abs y ≤ distance_limit }
     ensures { result ≡ at (p.x -ℤ x) (p.y +ℤ y) }
 {
     Pt {

@@ -2,6 +2,7 @@
 ghost use Rattle.std.specs.Prelude.{◌≡◌, ◌≤◌, [], ◌∷◌, unsigned_abs};
 ghost use Rattle.scad_geom.specs.Limits.{point_limit};
 ghost use Rattle.scad_geom.specs.Within.{IsWithin, IsEdgeWithin};
+ghost use Rattle.scad_ring.specs.Limits.{distance_limit};
 ghost use Rattle.scad_ring.specs.Ring.{IsRing};
 ghost use Rattle.scad_ring.specs.Corners.{corners_of, corners_round, eight_sided, four_sided};
 
@@ -15,7 +16,7 @@ use scad_geom::{Edge, Pt};
 pub fn ring(e: &Edge, c: u32) -> Ring
     requires edge { IsEdgeWithin point_limit e.now }
     requires positive { 1 ≤ c }
-    requires width { c ≤ 100000 }
+    requires width { c ≤ distance_limit }
     ensures corners { result ≡ corners_of c e.now }
     ensures ring { IsRing c e.now result }
 {
@@ -24,7 +25,7 @@ pub fn ring(e: &Edge, c: u32) -> Ring
 
 fn widened(e: &Edge, c: u32) -> Ring
     requires edge { IsEdgeWithin point_limit e.now }
-    requires width { c ≤ 100000 }
+    requires width { c ≤ distance_limit }
     ensures { result ≡ corners_of c e.now }
 {
     let t = slant(c) as i32;
@@ -38,8 +39,8 @@ fn widened(e: &Edge, c: u32) -> Ring
 fn round(p: Pt, r: Pt, c: i32, t: i32) -> Ring
     requires p { IsWithin point_limit p }
     requires r { IsWithin point_limit r }
-    requires c { unsigned_abs c ≤ 100000 }
-    requires t { unsigned_abs t ≤ 100000 }
+    requires c { unsigned_abs c ≤ distance_limit }
+    requires t { unsigned_abs t ≤ distance_limit }
     ensures { result ≡ corners_round c t p r }
 {
     let way = direction_between(p, r);
@@ -53,8 +54,8 @@ fn round(p: Pt, r: Pt, c: i32, t: i32) -> Ring
 fn eight_sided(p: Pt, r: Pt, c: i32, t: i32, way: Direction) -> Ring
     requires p { IsWithin point_limit p }
     requires r { IsWithin point_limit r }
-    requires c { unsigned_abs c ≤ 100000 }
-    requires t { unsigned_abs t ≤ 100000 }
+    requires c { unsigned_abs c ≤ distance_limit }
+    requires t { unsigned_abs t ≤ distance_limit }
     ensures { result ≡ eight_sided c t p r way }
 {
     let p = Eight::round(p, c, t);
@@ -244,7 +245,7 @@ fn left(p: Eight, r: Eight) -> Ring
 fn four_sided(p: Pt, r: Pt, c: i32, way: Direction) -> Ring
     requires p { IsWithin point_limit p }
     requires r { IsWithin point_limit r }
-    requires c { unsigned_abs c ≤ 100000 }
+    requires c { unsigned_abs c ≤ distance_limit }
     ensures { result ≡ four_sided c p r way }
 {
     let p = Four::round(p, c);

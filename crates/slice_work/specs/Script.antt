@@ -10,6 +10,7 @@ use Rattle.scad_script.specs.declared.refusal.Refusal.TheVariants.{Over}
 use Rattle.cli_text.specs.Cli as cli
 use Rattle.gcode_text.specs.declared.rates.Rates.{Rates}
 use Rattle.gcode_text.specs.Amount.{paths_volume}
+use Rattle.gcode_text.specs.Limits.{width_limit, height_limit}
 use Rattle.gcode_text.specs.Gcode as gcode
 use Rattle.gcode_text.specs.Gcode.{Printed, printed_paths}
 use Rattle.slice_work.specs.declared.want.Want.{Want}
@@ -25,8 +26,8 @@ volume_below want rates part n = sum_by (λ layer. paths_volume rates (printed_p
 
 -- these lines can be written
 pub record AreRates (rates : Rates) : Type 0 where
-  pub width : rates.line_width ≤ 2000
-  pub height : rates.layer_height ≤ 2000
+  pub width : rates.line_width ≤ width_limit
+  pub height : rates.layer_height ≤ height_limit
   pub area : 1 ≤ rates.filament_area
 
 -- the outputs that are written to were created

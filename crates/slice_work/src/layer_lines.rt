@@ -8,6 +8,7 @@ ghost use Rattle.scad_script.specs.Play.{Carries, IsThere};
 ghost use Rattle.scad_script.specs.Run.{Sound};
 ghost use Rattle.scad_script.specs.Departure.{Keeps};
 ghost use Rattle.gcode_text.specs.Amount.{paths_volume};
+ghost use Rattle.gcode_text.specs.Limits.{volume_limit};
 ghost use Rattle.slice_work.specs.Part.{layer_limit, move_count};
 ghost use Rattle.slice_work.specs.Script.{AreRates, AreThere, laid_out, layout_lines, move_lines, written, stopped};
 ghost use Rattle.slice_work.specs.Sums.{with_layer};
@@ -150,7 +151,7 @@ fn move_text(
 
 // No memory holds so many points, or is so far through a part, that paths can't be written behind a volume.
 fn check(volume: u128, paths: &[Path]) -> Result<(), AllocError>
-    ensures volume { OnOk result (volume ≤ 10 ^ 30) }
+    ensures volume { OnOk result (volume ≤ volume_limit) }
     ensures points { OnOk result (sum_by length paths.now < 2 ^ 32) }
 {
     if volume > VOLUME_LIMIT || !are_few(paths) {

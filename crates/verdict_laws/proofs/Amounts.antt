@@ -16,6 +16,7 @@ use Rattle.scad_geom.specs.Limits.{point_limit}
 use Rattle.scad_geom.specs.Within.{IsWithin, IsEdgeWithin}
 use Rattle.plan_layer.specs.Moves.{moves_from, moves, all_moves}
 use Rattle.gcode_text.specs.declared.rates.Rates.{Rates}
+use Rattle.gcode_text.specs.Limits.{width_limit, amount_limit}
 use Rattle.gcode_text.specs.Amount.{square, length_of, move_volume, moves_volume, path_volume, paths_volume, layers_volume, filament}
 use Rattle.gcode_text.specs.Gcode.{target, print_line, travel_line, number_line, height_line, supports_line, moves_text, path_text, paths_text, Printed, printed_paths, supports_text, printed_text, layers_text, head, end, gcode}
 use Rattle.gcode_text.specs.Moves.{surface}
@@ -57,12 +58,12 @@ print_some : (rates : Rates) (to : Pt) (e : ℕ) → 1 ≤ length (print_line ra
 unfolding print_line target
 print_some rates to e = omega arith
 
-module _ (rates : Rates) (width : rates.line_width ≤ 2000) (height : rates.layer_height ≤ 1000) where
+module _ (rates : Rates) (width : rates.line_width ≤ width_limit) (height : rates.layer_height ≤ 1000) where
   of_move : (e : Edge) → IsEdgeWithin point_limit e → move_volume rates e.a e.b ≤ move_most
   unfolding move_volume
   of_move e h =
-      mul-le (length_of e.a e.b * rates.line_width) rates.layer_height (3000000 * 2000) 1000
-      (mul-le (length_of e.a e.b) rates.line_width 3000000 2000 (length_most e.a e.b h.a h.b) width) height
+      mul-le (length_of e.a e.b * rates.line_width) rates.layer_height (3000000 * width_limit) 1000
+      (mul-le (length_of e.a e.b) rates.line_width 3000000 width_limit (length_most e.a e.b h.a h.b) width) height
 
   of_moves : (v : ℕ) (from : Pt) (ps : List Pt) → AllByRecursion (IsEdgeWithin point_limit) (moves_from from ps)
       → moves_volume rates from ps ≤ length (moves_text rates v from ps) * move_most
@@ -139,7 +140,7 @@ module _ (rates : Rates) (width : rates.line_width ≤ 2000) (height : rates.lay
   pub amount_in_range : (hot_end bed : ℕ) (layers : List Printed) → 100000 ≤ rates.filament_area
       → AllByRecursion (λ paths. AllByRecursion (IsEdgeWithin point_limit) (all_moves paths)) (map printed_paths layers)
       → length (gcode rates hot_end bed layers) ≤ file_limit
-      → filament rates (layers_volume rates (map printed_paths layers)) ≤ 2000000000000000000
+      → filament rates (layers_volume rates (map printed_paths layers)) ≤ amount_limit
   unfolding filament
   amount_in_range hot_end bed layers area within short =
       let volume = of_layers 0 0 layers within in

@@ -29,6 +29,7 @@ use Rattle.cli_text.specs.Cli.{Layer}
 use Rattle.gcode_text.specs.declared.fault.GFault.{GFault}
 use Rattle.gcode_text.specs.declared.fault.GFault.TheVariants.{UnknownWord}
 use Rattle.gcode_text.specs.declared.machine.Move.{Move}
+use Rattle.gcode_text.specs.Limits.{width_limit}
 use Rattle.plan_verify.specs.declared.verdict.Verdict.TheVariants.{Inside, Outside}
 use Rattle.plan_verify.specs.Stays.{KeepsClear, from_above, IsInLayer, Stays}
 use Rattle.plan_verify.specs.Verdict.{Told, program_moves, extruding, AllDo, IsFirstOut}
@@ -275,9 +276,9 @@ opinion_there layers width program is_width = by_moves (program_moves program) r
 -- by no width that settings can have nothing is said
 opinion_if : (layers : List Layer) (width : ℕ) (program : List ℕ)
     → (opinion : Opinion) × (IsWidth width → IsOpinion layers width program opinion)
-opinion_if layers width program = by_tests (nat_le 100 width) (nat_le width 2000) refl refl
+opinion_if layers width program = by_tests (nat_le 100 width) (nat_le width width_limit) refl refl
   where
-    by_tests : (a b : Bool) → nat_le 100 width ≡ a → nat_le width 2000 ≡ b
+    by_tests : (a b : Bool) → nat_le 100 width ≡ a → nat_le width width_limit ≡ b
         → (opinion : Opinion) × (IsWidth width → IsOpinion layers width program opinion)
     by_tests true true p q =
         let there = opinion_there layers width program (search (rules, arith), search (rules, arith)) in

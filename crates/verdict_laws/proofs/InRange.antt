@@ -11,6 +11,7 @@ use Rattle.scad_geom.specs.declared.point.Pt.{Pt}
 use Rattle.scad_geom.specs.Limits.{coordinate_limit}
 use Rattle.scad_geom.specs.Within.{IsWithin}
 use Rattle.gcode_text.specs.declared.rates.Rates.{Rates}
+use Rattle.gcode_text.specs.Limits.{amount_limit}
 use Rattle.gcode_text.specs.Gcode.{travel_line, print_line, height_line, number_line, supports_line, heat_line, setup, home, end}
 use Rattle.gcode_text.specs.Numeral.{fixed, millimetres}
 use Rattle.gcode_text.specs.Reading.{lines, without_return, without_comment, words, number, size_of, whole_size, are_digits}
@@ -75,7 +76,7 @@ travel_in_range tx ty tf x y f ex ey ef lx ly s = rw (ex, ey, ef, lx, ly) refl
 
 print_in_range : (tx ty te tf : List ℕ) (x y e f : ℤ) → number 3 tx ≡ Some x → number 3 ty ≡ Some y
     → number 5 te ≡ Some e → number 5 tf ≡ Some f → nat_le (unsigned_abs x) coordinate_limit ≡ true
-    → nat_le (unsigned_abs y) coordinate_limit ≡ true → nat_le (unsigned_abs e) 2000000000000000000 ≡ true
+    → nat_le (unsigned_abs y) coordinate_limit ≡ true → nat_le (unsigned_abs e) amount_limit ≡ true
     → AreInRange (codes "G1" ∷ (88 ∷ tx) ∷ (89 ∷ ty) ∷ (69 ∷ te) ∷ (70 ∷ tf) ∷ [])
 unfolding command_of with_words with_word takes was_given with_number limited
 print_in_range tx ty te tf x y e f ex ey ee ef lx ly le s = rw (ex, ey, ee, ef, lx, ly, le) refl
@@ -97,7 +98,7 @@ module _ (rates : Rates) where
       (is_below (unsigned_abs p.y) coordinate_limit within.y)))
 
   pub leads_print : (p : Pt) (e : ℕ) → IsShortPoint p → IsShort rates.print_feed → IsWithin coordinate_limit p
-      → e ≤ 2000000000000000000 → LeadsInRange (print_line rates p e)
+      → e ≤ amount_limit → LeadsInRange (print_line rates p e)
   leads_print p e short feed within most =
       let short_e : e < 10 ^ 64 = omega (arith, most) in
       subst LeadsInRange (sym (print_line_is rates p e))
@@ -106,7 +107,7 @@ module _ (rates : Rates) where
       (pos (rates.print_feed * 10 ^ 5)) (millimetres_back p.x short.0) (millimetres_back p.y short.1)
       (amount_back e short_e) (decimal_back rates.print_feed feed)
       (is_below (unsigned_abs p.x) coordinate_limit within.x) (is_below (unsigned_abs p.y) coordinate_limit within.y)
-      (is_below e 2000000000000000000 most)))
+      (is_below e amount_limit most)))
 
   pub leads_height : (z : ℕ) → IsShort rates.travel_feed → z ≤ coordinate_limit → LeadsInRange (height_line rates z)
   leads_height z feed most =

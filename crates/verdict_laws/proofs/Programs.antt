@@ -8,6 +8,7 @@ use Rattle.scad_geom.specs.declared.point.Pt.{Pt}
 use Rattle.scad_geom.specs.Limits.{coordinate_limit}
 use Rattle.scad_geom.specs.Within.{IsWithin}
 use Rattle.gcode_text.specs.declared.rates.Rates.{Rates}
+use Rattle.gcode_text.specs.Limits.{amount_limit}
 use Rattle.gcode_text.specs.Amount.{move_volume, moves_volume, path_volume, paths_volume, layers_volume, filament}
 use Rattle.gcode_text.specs.Gcode.{travel_line, print_line, height_line, number_line, supports_line, heat_line, moves_text, path_text, paths_text, layer_text, Printed, printed_paths, supports_text, printed_text, layers_text, setup, home, head, end, gcode}
 use Rattle.gcode_text.specs.Machine.{command_of, plain_commands}
@@ -23,8 +24,8 @@ short p h = let x = h.x in let y = h.y in (omega (arith, x), omega (arith, y))
 
 -- The greatest volume takes an amount in range.
 module _ (rates : Rates) (area : 1 ≤ rates.filament_area) (print : IsShort rates.print_feed)
-    (travel : IsShort rates.travel_feed) (most : ℕ) (enough : filament rates most ≤ 2000000000000000000) where
-  amount_most : (v : ℕ) → v ≤ most → filament rates v ≤ 2000000000000000000
+    (travel : IsShort rates.travel_feed) (most : ℕ) (enough : filament rates most ≤ amount_limit) where
+  amount_most : (v : ℕ) → v ≤ most → filament rates v ≤ amount_limit
   amount_most v h = let rises = filament_rises rates v most area h in omega (arith, rises, enough)
 
   moves_lead : (v : ℕ) (from : Pt) (ps : List Pt) → AllByRecursion (IsWithin coordinate_limit) ps
@@ -130,7 +131,7 @@ pub record HasRange (rates : Rates) (hot_end bed : ℕ) (layers : List Printed) 
       (λ paths. AllByRecursion (λ path. AllByRecursion (IsWithin coordinate_limit) path) paths) (map printed_paths layers)
   pub count : length layers < 10 ^ 64
   pub high : length layers * rates.layer_height ≤ coordinate_limit
-  pub amount : filament rates (layers_volume rates (map printed_paths layers)) ≤ 2000000000000000000
+  pub amount : filament rates (layers_volume rates (map printed_paths layers)) ≤ amount_limit
 
 pub program_in_range : (rates : Rates) (hot_end bed : ℕ) (layers : List Printed)
     → HasRange rates hot_end bed layers → LinesAreInRange (gcode rates hot_end bed layers)

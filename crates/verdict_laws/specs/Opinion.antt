@@ -2,6 +2,7 @@
 use Rattle.std.specs.Prelude.{◌≡◌, ◌≢◌, ◌≤◌, List, ℕ, Result, Ok, Err}
 use Rattle.cli_text.specs.Cli.{Layer}
 use Rattle.gcode_text.specs.declared.fault.GFault.{GFault}
+use Rattle.gcode_text.specs.Limits.{width_limit}
 use Rattle.plan_verify.specs.declared.verdict.Verdict.{Verdict}
 use Rattle.plan_verify.specs.declared.verdict.VerifyFault.{VerifyFault}
 use Rattle.plan_verify.specs.declared.verdict.VerifyFault.TheVariants.{Memory}
@@ -22,7 +23,7 @@ Opinions = List Layer → ℕ → List ℕ → Opinion
 
 -- the widths that settings can have
 abbrev pub IsWidth : ℕ → Type 0
-IsWidth width = (100 ≤ width) × (width ≤ 2000)
+IsWidth width = (100 ≤ width) × (width ≤ width_limit)
 
 -- each of them is right
 abbrev pub AreRight : Opinions → Type 0
