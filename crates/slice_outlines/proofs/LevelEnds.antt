@@ -37,7 +37,7 @@ use Rattle.slice_outlines.specs.Level.{IsAtLevel, IsValuedAt, AreSpotsOf}
 use Rattle.slice_outlines.proofs.Joining.{whole_cast}
 use Rattle.slice_outlines.proofs.EndPoints.{passing_within, passes_there}
 use Rattle.slice_outlines.proofs.GroupHeights.{HeadPasses}
-use Rattle.slice_outlines.proofs.Passage.{all_named}
+use Rattle.slice_outlines.proofs.GroupPassing.{all_named}
 use Rattle.slice_outlines.proofs.WayCovers.{grouped, all_drop}
 use Rattle.slice_outlines.proofs.Fitting.{named_size}
 use Rattle.slice_outlines.proofs.Apart.{IsPlaced, at_group, below-append, above-append, below_in_order, above_in_order}

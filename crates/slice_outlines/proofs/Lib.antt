@@ -23,7 +23,11 @@ mod StretchStops
 mod Beginning
 mod Steady
 mod Counting
+mod ChangesAhead
+mod GroupPassing
+mod NextGroup
 mod Passage
+mod SkippedGroups
 mod LevelAhead
 mod GroupHeights
 mod Balancing

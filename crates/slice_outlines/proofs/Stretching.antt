@@ -43,7 +43,7 @@ use Rattle.slice_outlines.specs.Stretch.{AreStopsAt, TellWays, stretch_spots, Ha
 use Rattle.slice_outlines.specs.Ahead.{between, HasComeTo, AreSkipped, KeepsRight}
 use Rattle.slice_outlines.specs.Level.{GoByLeft, AreFlatsOn, IsAtLevel, IsValuedAt}
 use Rattle.slice_outlines.proofs.Placing.{AreNamed, all_append}
-use Rattle.slice_outlines.proofs.Passage.{part_reached, group_past}
+use Rattle.slice_outlines.proofs.GroupPassing.{part_reached, group_past}
 use Rattle.slice_outlines.proofs.Onward.{take_then}
 use Rattle.slice_outlines.proofs.StrandSearch.{scaled_order}
 use Rattle.slice_outlines.proofs.StretchStops.{same_stretch}

@@ -60,7 +60,7 @@ use Rattle.slice_outlines.specs.Sweep.{HasSwept, IsFrontBelow}
 use Rattle.slice_outlines.proofs.EndPoints.{passing_within, passes_there, passes_then_rises}
 use Rattle.slice_outlines.proofs.Placing.{AreNamed, all_append}
 use Rattle.slice_outlines.proofs.GroupHeights.{HeadPasses}
-use Rattle.slice_outlines.proofs.Passage.{group_past}
+use Rattle.slice_outlines.proofs.GroupPassing.{group_past}
 use Rattle.slice_outlines.proofs.Climbing.{swept_named}
 use Rattle.slice_outlines.proofs.Across.{weakly}
 use Rattle.slice_outlines.proofs.Apart.{AreOrdered, in_order}

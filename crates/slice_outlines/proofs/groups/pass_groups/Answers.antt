@@ -6,7 +6,9 @@ use Rattle.slice_bool.specs.Pieces.{passes_at}
 use Rattle.slice_outlines.specs.declared.mark.Mark.{Mark}
 use Rattle.slice_outlines.specs.declared.run.Run.{Run}
 use Rattle.slice_outlines.proofs.Counting.{next_fits, count_more}
-use Rattle.slice_outlines.proofs.Passage.{past_none, past_more, has_passed, all_past, group_there, all_named, size_named, left_by, not_left_by, next_at, end_at, end_past}
+use Rattle.slice_outlines.proofs.GroupPassing.{all_named, size_named}
+use Rattle.slice_outlines.proofs.NextGroup.{group_there}
+use Rattle.slice_outlines.proofs.Passage.{past_none, past_more, has_passed, all_past, left_by, not_left_by, next_at, end_at, end_past}
 use Rattle.slice_outlines.proofs.groups.pass_groups.Goals as goal
 
 pub changes-init : goal.changes-init

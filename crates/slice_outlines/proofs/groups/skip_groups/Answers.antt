@@ -2,7 +2,8 @@
 use Rattle.std.proofs.Common.{◌+◌, refl}
 use Rattle.slice_outlines.specs.Ahead.{between}
 use Rattle.slice_outlines.proofs.Counting.{next_fits, count_more}
-use Rattle.slice_outlines.proofs.Passage.{left_by, not_left_by, skip_more, skip_end, end_past, all_skipped}
+use Rattle.slice_outlines.proofs.Passage.{left_by, not_left_by, end_past}
+use Rattle.slice_outlines.proofs.SkippedGroups.{skip_more, skip_end, all_skipped}
 use Rattle.slice_outlines.proofs.groups.skip_groups.Goals as goal
 
 pub changes-init : goal.changes-init

@@ -1,7 +1,7 @@
 use Rattle.std.proofs.Common.{◌-◌, length}
 use Rattle.slice_outlines.specs.Heights.{IsCountOf}
 use Rattle.slice_outlines.specs.Ahead.{between}
-use Rattle.slice_outlines.proofs.Passage.{IsSkipped}
+use Rattle.slice_outlines.proofs.SkippedGroups.{IsSkipped}
 use Rattle.slice_outlines.proofs.groups.skip_groups.Given as goal
 
 abbrev pub invariant-changes : goal.invariant-changes

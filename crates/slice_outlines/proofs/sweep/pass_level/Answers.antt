@@ -6,7 +6,7 @@ use Rattle.slice_outlines.specs.Stops.{AllPass}
 use Rattle.slice_outlines.specs.Heights.{AreInOrder}
 use Rattle.slice_outlines.specs.Ahead.{between}
 use Rattle.slice_outlines.proofs.Joining.{whole_cast}
-use Rattle.slice_outlines.proofs.Passage.{size_named}
+use Rattle.slice_outlines.proofs.GroupPassing.{size_named}
 use Rattle.slice_outlines.proofs.StretchStops.{run_there}
 use Rattle.slice_outlines.proofs.Levelling.{IsSoFar, between_at, groups_done}
 use Rattle.slice_outlines.proofs.Stretching.{to_stretch, to_end, stretch_passed}
