@@ -207,7 +207,7 @@ module _ (h : Height) (ms : List Mark) (cs : List Change) (p : Passed) (limit : 
     }
 
   -- past the next group, with marks that are the same to its right
-  pub between_past : (x : NextChanges h b.rest b.above (drop p.count cs) b.groups lower upper) (r : Run)
+  unfoldable pub between_past : (x : NextChanges h b.rest b.above (drop p.count cs) b.groups lower upper) (r : Run)
       → r ≡ after p.last x.change → (ns : List Mark) → length ns ≡ length ms → drop r.above_to ns ≡ drop r.above_to ms
       → (q : Passed) → q.last ≡ r → x.later ≡ drop q.count cs → AreBetween h ns cs q limit
   between_past x r is ns size right q last later =
