@@ -102,7 +102,7 @@ low-past n s b within in_n in_b low = by (int_lt s (pos 0)) refl within
     by false e w = grind (arith, ints)
 
 pub high-past : (n s b : ℤ) → is_past n s b ≡ false → unsigned_abs n ≤ most → unsigned_abs b ≤ most
-    → pos 1000000000000000 <ℤ (n +ℤ s) → is_past (n +ℤ s) s b ≡ true
+    → pos most <ℤ (n +ℤ s) → is_past (n +ℤ s) s b ≡ true
 high-past n s b within in_n in_b high = by (int_lt s (pos 0)) refl within
   where
     by : (c : Bool) → int_lt s (pos 0) ≡ c → (if c then int_lt n b else int_lt b n) ≡ false

@@ -10,6 +10,9 @@ use scad_num::Num;
 use scad_value::{Value, copy};
 use std::alloc::{AllocError, Global};
 
+/// The most millionths that a number has, in either direction: `most` of scad_num.
+const MOST: i64 = 1_000_000_000_000_000;
+
 /// Whether a number is past the end of a range.
 fn is_past(n: Num, step: Num, end: Num) -> bool
     ensures { result ≡ is_past n step end }
@@ -31,7 +34,7 @@ fn after(n: Num, step: Num, end: Num) -> Option<Num>
         return None;
     }
     let next = n.millionths() + step.millionths();
-    if next < -1_000_000_000_000_000 || next > 1_000_000_000_000_000 {
+    if next < -MOST || next > MOST {
         return None;
     }
     Some(Num::within(next))

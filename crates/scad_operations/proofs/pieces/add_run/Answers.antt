@@ -11,8 +11,8 @@ numbers-init c = ap (λ (l : List Datum). data_in c.args.out.now ++ l)
     (sym (items-range c.args.start c.args.step c.args.end))
 
 -- past the limit of steps the rest is left out
-pub returns-then-len-gt5000000 : goal.returns-then-len-gt5000000
-returns-then-len-gt5000000 c =
+pub returns-then-len : goal.returns-then-len
+returns-then-len c =
     let count = length-map c.numbers.out.items datum_of in
     alike-left (data_in c.numbers.out) _ c.numbers.next c.args.step c.args.end
-    (omega (arith, count, c.len.ensures, c.if-len-gt5000000.true)) c.numbers.invariant
+    (omega (arith, count, c.len.ensures, c.if-len.true)) c.numbers.invariant
