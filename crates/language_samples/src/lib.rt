@@ -1,6 +1,6 @@
 //! Short sources, read from their bytes to programs and values, against the answers of an independent program: what no run
-//! tells of them, the steps that were taken and the printed text. It promises nothing: it is a crate of tests, so that the
-//! crates that it tries are proved once.
+//! tells of them, the steps that were taken and the printed text; and the frames of a program's names. It promises nothing:
+//! it is a crate of tests, so that the crates that it tries are proved once.
 #![tactic(auto)]
 
 #[cfg(test)]
@@ -11,6 +11,8 @@ mod cases;
 mod comprehensions;
 #[cfg(test)]
 mod expressions;
+#[cfg(test)]
+mod frames;
 #[cfg(test)]
 mod machine;
 #[cfg(test)]
