@@ -10,6 +10,8 @@ mod cases;
 #[cfg(test)]
 mod comprehensions;
 #[cfg(test)]
+mod each_step;
+#[cfg(test)]
 mod expressions;
 #[cfg(test)]
 mod frames;
@@ -23,5 +25,7 @@ mod program_texts;
 mod scopes;
 #[cfg(test)]
 mod stand;
+#[cfg(test)]
+mod step_limits;
 #[cfg(test)]
 mod value_answer;

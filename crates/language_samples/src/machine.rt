@@ -21,8 +21,17 @@ fn dollars<'p>(alloc: Global) -> Result<Frames<'p>, AllocError> {
     Ok(along)
 }
 
-/// A machine whose frames are those of a program's start: what stands outside, and the program's scope.
-pub(crate) fn start<'p>(alloc: Global, scope: &'p Scope) -> Result<Machine<'p>, AllocError> {
+/// The steps that a program may take, unless a test gives it fewer.
+pub(crate) const STEP_LIMIT: u32 = 5_000_000;
+
+/// A machine whose frames are those of a program's start: what stands outside, and the program's scope. It may take so many steps.
+pub(crate) fn start<'p>(
+    alloc: Global,
+    scope: &'p Scope,
+    steps: u32,
+) -> Result<Machine<'p>, AllocError>
+    requires { steps ≤ 5000000 }
+{
     let mut frames = Frames::new(alloc);
     let outside = frames.push(None, None, None)?;
     frames.set(b"PI", Value::Number(Num::within(3_141_593)))?;
@@ -31,7 +40,7 @@ pub(crate) fn start<'p>(alloc: Global, scope: &'p Scope) -> Result<Machine<'p>, 
         frames,
         along: dollars(alloc)?,
         here,
-        steps_left: 5_000_000,
+        steps_left: steps,
         depth_left: 99_999,
         leaves: 0,
         triangles: 0,

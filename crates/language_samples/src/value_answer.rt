@@ -2,7 +2,7 @@
 
 ghost use Rattle.std.specs.Prelude.{◌<◌, length};
 
-use crate::machine::{last_value, start};
+use crate::machine::{STEP_LIMIT, last_value, start};
 use scad_ast::Program;
 use scad_expr::{EvalFault, Machine};
 use scad_fault::{Fault, Text};
@@ -25,7 +25,7 @@ fn fault(alloc: Global, f: &Fault, out: &mut Vec<u8>) -> Result<(), AllocError> 
 }
 
 /// A value, or why there is none.
-fn outcome(
+pub(crate) fn outcome(
     alloc: Global,
     answer: &Result<Value, EvalFault>,
     steps: u32,
@@ -58,10 +58,10 @@ fn lines(m: &Machine, out: &mut Vec<u8>) -> Result<(), AllocError> {
 
 fn evaluated(alloc: Global, program: &Program) -> Result<Vec<u8>, AllocError> {
     let mut out = Vec::new(alloc);
-    let mut m = start(alloc, &program.scope)?;
+    let mut m = start(alloc, &program.scope, STEP_LIMIT)?;
     let answer = last_value(alloc, &program.scope, &mut m);
     lines(&m, &mut out)?;
-    let taken = 5_000_000 - m.steps_left;
+    let taken = STEP_LIMIT - m.steps_left;
     outcome(alloc, &answer, taken, &mut out)?;
     Ok(out)
 }
