@@ -1,7 +1,7 @@
 //! A machine at the start of a program, and the variables of the program's scope.
 
 use scad_ast::{Item, Scope};
-use scad_expr::{DEPTH_LIMIT, EvalFault, Machine, STEP_LIMIT, eval};
+use scad_expr::{DEPTH_LIMIT, EvalFault, Machine, eval};
 use scad_fault::{Budget, BudgetKind, Text};
 use scad_num::Num;
 use scad_scope::{Frames, bindings};
@@ -21,8 +21,14 @@ fn dollars<'p>(alloc: Global) -> Result<Frames<'p>, AllocError> {
     Ok(along)
 }
 
-/// A machine whose frames are those of a program's start: what stands outside, and the program's scope.
-pub(crate) fn start<'p>(alloc: Global, scope: &'p Scope) -> Result<Machine<'p>, AllocError> {
+/// A machine whose frames are those of a program's start: what stands outside, and the program's scope. It may take so many steps.
+pub(crate) fn start<'p>(
+    alloc: Global,
+    scope: &'p Scope,
+    steps: u32,
+) -> Result<Machine<'p>, AllocError>
+    requires { steps ≤ 5000000 }
+{
     let mut frames = Frames::new(alloc);
     let outside = frames.push(None, None, None)?;
     frames.set(b"PI", Value::Number(Num::within(3_141_593)))?;
@@ -31,7 +37,7 @@ pub(crate) fn start<'p>(alloc: Global, scope: &'p Scope) -> Result<Machine<'p>, 
         frames,
         along: dollars(alloc)?,
         here,
-        steps_left: STEP_LIMIT,
+        steps_left: steps,
         depth_left: DEPTH_LIMIT - 1,
         leaves: 0,
         triangles: 0,

@@ -25,7 +25,7 @@ fn fault(alloc: Global, f: &Fault, out: &mut Vec<u8>) -> Result<(), AllocError> 
 }
 
 /// A value, or why there is none.
-fn outcome(
+pub(crate) fn outcome(
     alloc: Global,
     answer: &Result<Value, EvalFault>,
     steps: u32,
@@ -58,7 +58,7 @@ fn lines(m: &Machine, out: &mut Vec<u8>) -> Result<(), AllocError> {
 
 fn evaluated(alloc: Global, program: &Program) -> Result<Vec<u8>, AllocError> {
     let mut out = Vec::new(alloc);
-    let mut m = start(alloc, &program.scope)?;
+    let mut m = start(alloc, &program.scope, STEP_LIMIT)?;
     let answer = last_value(alloc, &program.scope, &mut m);
     lines(&m, &mut out)?;
     let taken = STEP_LIMIT - m.steps_left;
