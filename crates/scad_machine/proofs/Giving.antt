@@ -1,8 +1,9 @@
 -- Arguments that are given one by one.
-use Rattle.std.proofs.Common.{◌≡◌, ℕ, zero, suc, ◌+◌, ◌<◌, ◌≤◌, Bool, true, false, List, [], ◌∷◌, map, length, get_or, drop, Option, Some, None, is_some, if◌then◌else◌, refl, sym, ap, ◌∙◌, arith}
-use Rattle.std.proofs.lemmas.List.{drop_more, drop_all}
+use Rattle.std.proofs.Common.{◌≡◌, ℕ, zero, suc, ◌+◌, ◌<◌, ◌≤◌, Bool, true, false, List, [], ◌∷◌, ◌++◌, map, length, get_or, set, drop, Option, Some, None, is_some, if◌then◌else◌, refl, sym, ap, ap₂, ◌∙◌, arith}
+use Rattle.std.proofs.lemmas.List.{drop_more, drop_all, length-map, map-append, append-nil}
+use Rattle.std.proofs.lemmas.Bool.{ltb-true, ltb-false, lt-ltb, false_from_ne_true}
 use Rattle.std.specs.Borrow.{Bor}
-use Rattle.std.specs.Prelude.{slice_get}
+use Rattle.std.specs.Prelude.{nat_lt, slice_get}
 use Rattle.scad_ast.specs.declared.expression.Arg.{Arg}
 use Rattle.scad_ast.specs.declared.statement.Param.{Param}
 use Rattle.scad_ast.specs.declared.statement.Item.{Item}
@@ -12,8 +13,9 @@ use Rattle.scad_ast.specs.Scope.{parameter, item_of, items}
 use Rattle.scad_value.specs.Datum.{Datum}
 use Rattle.scad_value.specs.View.{datum_of}
 use Rattle.scad_value.specs.declared.value.Value.{Value}
-use Rattle.scad_scope.specs.Names.{Names, is_same_name, value_of_name, with_name}
+use Rattle.scad_scope.specs.Names.{Names, is_same_name, place_in, value_of_name, with_name}
 use Rattle.scad_scope.specs.NamePlaces.{put_in, value_in}
+use Rattle.scad_scope.proofs.Few.{few-set, set-unplaced}
 use Rattle.scad_machine.specs.Arguments.{given_from, is_given, is_statement, statements}
 use Rattle.scad_machine.specs.Parameters.{parameter_names, shown, with_argument, unnamed_before_next}
 use Rattle.scad_machine.proofs.Homes.{items-drop, items-drop_all}
@@ -80,6 +82,70 @@ given_in name (e ∷ es) = by (given_in name es) (is_same_name name e.0.now)
     by rest true = refl
     by rest false = rest
 
+-- ---- names in a list
+next : (name : List ℕ) (all : List (Bor (List ℕ) × Value)) (i : ℕ) (e : Bor (List ℕ) × Value)
+    → i < length all → e ≡ get_or all i e → place_in name (map shown (drop i all))
+    ≡ (if is_same_name name e.0.now then 0 else suc (place_in name (map shown (drop (i + 1) all))))
+next name all i e below is =
+    ap (λ l. place_in name (map shown l)) (drop_more all i e below)
+    ∙ ap (λ p. place_in name (shown p ∷ map shown (drop (i + 1) all))) (sym is)
+
+pub place-here : (name : List ℕ) (all : List (Bor (List ℕ) × Value)) (i : ℕ) (e : Bor (List ℕ) × Value)
+    → i < length all → e ≡ get_or all i e → is_same_name name e.0.now ≡ true
+    → place_in name (map shown (drop i all)) ≡ 0
+place-here name all i e below is same =
+    next name all i e below is
+    ∙ ap (λ b. if b then 0 else suc (place_in name (map shown (drop (i + 1) all)))) same
+
+pub place-past : (name : List ℕ) (all : List (Bor (List ℕ) × Value)) (i : ℕ) (e : Bor (List ℕ) × Value)
+    → i < length all → e ≡ get_or all i e → is_same_name name e.0.now ≡ false
+    → place_in name (map shown (drop i all)) ≡ suc (place_in name (map shown (drop (i + 1) all)))
+place-past name all i e below is other =
+    next name all i e below is
+    ∙ ap (λ b. if b then 0 else suc (place_in name (map shown (drop (i + 1) all)))) other
+
+pub place-none : (name : List ℕ) (all : List (Bor (List ℕ) × Value)) (i : ℕ) → length all ≤ i
+    → place_in name (map shown (drop i all)) ≡ 0
+place-none name all i past = ap (λ l. place_in name (map shown l)) (drop_all i all past)
+
+pub put-there : (name : List ℕ) (v : Value) (all : List (Bor (List ℕ) × Value)) (i : ℕ)
+    (old : Bor (List ℕ) × Value) → i ≡ place_in name (map shown all) → i < length all → old ≡ get_or all i old
+    → map shown (set all i (old.0, v)) ≡ with_name name (datum_of v) (map shown all)
+put-there name v all i old at low is =
+    sym (append-nil (map shown (set all i (old.0, v))))
+    ∙ few-set shown name (datum_of v) all [] i old (old.0, v) refl at low is
+    ∙ ap (with_name name (datum_of v)) (append-nil (map shown all))
+
+pub put-last : (key : Bor (List ℕ)) (v : Value) (all : List (Bor (List ℕ) × Value)) (i : ℕ)
+    → i ≡ place_in key.now (map shown all) → length all ≤ i
+    → map shown (all ++ (key, v) ∷ []) ≡ with_name key.now (datum_of v) (map shown all)
+put-last key v all i at past =
+    let many = length-map all shown in
+    map-append shown all ((key, v) ∷ [])
+    ∙ set-unplaced key.now (datum_of v) (map shown all) [] (omega (arith, many, at, past))
+    ∙ ap (with_name key.now (datum_of v)) (append-nil (map shown all))
+
+one-on : (i n : ℕ) (b : Bool) → nat_lt i n ≡ b → nat_lt (suc i) (suc n) ≡ b
+one-on i n true low = let under = ltb-true i n low in lt-ltb (suc i) (suc n) (omega (arith, under))
+one-on i n false past =
+    let over = ltb-false i n past in
+    false_from_ne_true (nat_lt (suc i) (suc n)) (λ e. let under = ltb-true (suc i) (suc n) e in omega (arith, over, under))
+
+is_placed : (name : List ℕ) (all : Names) → nat_lt (place_in name all) (length all) ≡ is_given name all
+is_placed name [] = refl
+is_placed name (p ∷ all) = by (is_placed name all) (is_same_name name p.0)
+  where
+    by : nat_lt (place_in name all) (length all) ≡ is_given name all → (b : Bool)
+        → nat_lt (if b then 0 else suc (place_in name all)) (suc (length all))
+        ≡ is_some (if b then Some p.1 else value_of_name name all)
+    by rest true = lt-ltb 0 (suc (length all)) (omega arith)
+    by rest false = one-on (place_in name all) (length all) (is_given name all) rest
+
+pub placed-given : (name : List ℕ) (all : List (Bor (List ℕ) × Value)) (i n : ℕ)
+    → i ≡ place_in name (map shown all) → n ≡ length all → nat_lt i n ≡ is_given name (map shown all)
+placed-given name all i n at many =
+    ap₂ nat_lt at (many ∙ sym (length-map all shown)) ∙ is_placed name (map shown all)
+
 -- ---- the arguments that are left
 with-one-argument : (names : List (List ℕ)) (i : ℕ) (word : Option (List ℕ)) (e : _) (more : Arguments) (d : Datum)
     (values : List Datum) (so_far : Names) → given_from names i (argument word e more) (d ∷ values) so_far
@@ -123,6 +189,12 @@ pub statements-end : (all : List Item) (i : ℕ) → length all ≤ i → statem
 statements-end all i past = ap statements (items-drop_all all i past)
 
 pub ruleset names = (names-drop, names-drop_all, name_there, name_past)
+
+pub ruleset places = (place-here, place-past, place-none)
+
+pub ruleset listed = (put-there, put-last)
+
+pub ruleset has = (placed-given, given_in)
 
 pub ruleset misses = (parameters-drop, parameters-drop_all)
 

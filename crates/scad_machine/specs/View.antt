@@ -9,8 +9,12 @@ use Rattle.scad_scope.specs.FrameStore.{env_at}
 use Rattle.scad_machine.specs.declared.functions.Defined.{Defined}
 use Rattle.scad_machine.specs.declared.functions.DefinedAt.{DefinedAt}
 use Rattle.scad_machine.specs.declared.lookup.ItemAt.{ItemAt}
+use Rattle.scad_machine.specs.declared.parameter_values.ParameterValues.{ParameterValues}
+use Rattle.scad_machine.specs.declared.parameter_values.ParameterValues.TheVariants.{Few, Many}
 use Rattle.scad_machine.specs.Functions.{Function, Found}
 use Rattle.scad_machine.specs.Lookup.{FoundItem}
+use Rattle.scad_machine.specs.Parameters.{shown}
+use Rattle.scad_scope.specs.Names.{Names}
 
 -- a function that is defined by these parameters and this expression
 abbrev pub function_of : List Param → Expr → Function
@@ -27,3 +31,8 @@ found_at envs d = record { function = function_at d.function; home = env_at envs
 -- the item that stands there
 abbrev pub item_found_at : List Env → ItemAt → FoundItem
 item_found_at envs i = record { item = item_of i.item.now; home = env_at envs i.home }
+
+-- the values of parameters, with their names
+abbrev pub values_in : ParameterValues → Names
+values_in (Few all) = map shown all.items
+values_in (Many all) = map shown all

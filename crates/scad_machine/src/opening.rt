@@ -7,17 +7,19 @@ ghost use Rattle.scad_scope.specs.View.{stored, children_stored};
 ghost use Rattle.scad_value.specs.View.{datum_of, data_in};
 ghost use Rattle.scad_machine.specs.Answers.{Does, nothing, done_at};
 ghost use Rattle.scad_machine.specs.Arguments.{given, set_all};
-ghost use Rattle.scad_machine.specs.Parameters.{missing, parameter_names, shown};
+ghost use Rattle.scad_machine.specs.Parameters.{missing, parameter_names};
 ghost use Rattle.scad_machine.specs.Machine.{held, env_in, along_in, state_of};
 ghost use Rattle.scad_machine.specs.OpenFrames.{last_of, opened, set_in_last, set_all_in_last, with_count, left, bound_in, outer, IsInner};
 ghost use Rattle.scad_machine.specs.Variables.{empty, within};
 ghost use Rattle.scad_machine.specs.Variables.{set as set_name};
+ghost use Rattle.scad_machine.specs.View.{values_in};
 
 use crate::fault::EvalFault;
 use crate::invocation::{Callee, Invocation};
 use crate::machine::Machine;
 use crate::names::is_dollar;
-use crate::parameters::{Given, given, missing, number_of_children};
+use crate::parameter_values::ParameterValues;
+use crate::parameters::{given, missing, number_of_children};
 use scad_ast::Param;
 use scad_scope::{Frames, Kept};
 use scad_value::Value;
@@ -140,11 +142,11 @@ impl<'p> Machine<'p> {
     }
 
     /// Sets names in the last frames of their kinds.
-    fn set_all(&mut self, all: Given<'p>) -> Result<(), EvalFault>
+    fn set_all(&mut self, all: ParameterValues<'p>) -> Result<(), EvalFault>
         ensures does { Does nothing (done_at (state_of self.old)) result (state_of self.new) }
         ensures steps { OnOk result (self.new.steps_left ≡ self.old.steps_left) }
         ensures held { OnOk result (held self.new
-            ≡ set_all_in_last (map shown all.entry) (held self.old)) }
+            ≡ set_all_in_last (values_in all.entry) (held self.old)) }
     {
         'names: for (name, value) in all.into_entries() {
             self.set(name, value)?;

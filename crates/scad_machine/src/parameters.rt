@@ -1,23 +1,20 @@
 //! Which parameter takes which argument.
 
-ghost use Rattle.std.specs.Prelude.{◌≡◌, ◌<◌, ◌^◌, ◌||◌, ◌++◌, ◌∷◌, [], if◌then◌else◌, IfOk, OnOk, map, slice_get};
+ghost use Rattle.std.specs.Prelude.{◌≡◌, ◌<◌, ◌^◌, ◌||◌, IfOk, OnOk, map};
 ghost use Rattle.scad_ast.specs.Scope.{parameter, item_of, items};
 ghost use Rattle.scad_ast.specs.View.{arguments};
 ghost use Rattle.scad_value.specs.View.{datum_of, data_in};
-ghost use Rattle.scad_scope.specs.Names.{with_name};
-ghost use Rattle.scad_machine.specs.Arguments.{is_parameter, to_parameter, to_name, given, is_given, is_statement, number_of_children};
-ghost use Rattle.scad_machine.specs.Parameters.{parameter_names, shown, unnamed_before_next, missing, with_argument};
+ghost use Rattle.scad_machine.specs.Arguments.{is_parameter, given, is_statement, number_of_children};
+ghost use Rattle.scad_machine.specs.Parameters.{parameter_names, unnamed_before_next, missing, with_argument};
 ghost use Rattle.scad_machine.specs.Variables.{is_dollar};
+ghost use Rattle.scad_machine.specs.View.{values_in};
 
 use crate::names::is_dollar;
+use crate::parameter_values::ParameterValues;
 use scad_ast::{Arg, Item, Param, Scope};
 use scad_num::Num;
-use scad_scope::NameMap;
 use scad_value::Value;
 use std::alloc::{AllocError, Global};
-
-/// The values of parameters and `$` names by their names, in the order in which they are first given.
-pub(crate) type Given<'p> = NameMap<'p, Value>;
 
 /// Whether a parameter has the name.
 #[tactic(auto, using(crate::proofs::Giving::names))]
@@ -32,32 +29,6 @@ fn is_parameter(params: &[Param], name: &[u8]) -> bool
     false
 }
 
-/// The name takes the value.
-#[tactic(auto, using(crate::proofs::Giving::shown_put))]
-fn put<'p>(got: &mut Given<'p>, name: &'p [u8], value: Value) -> Result<(), AllocError>
-    ensures { OnOk result (map shown got.new
-        ≡ with_name name.now (datum_of value) (map shown got.old)) }
-{
-    got.put(name, value)
-}
-
-/// The value of an unnamed argument goes to the parameter of its number.
-#[tactic(auto, using(crate::proofs::Giving::names))]
-fn give_unnamed<'p>(
-    params: &'p [Param],
-    i: usize,
-    value: Value,
-    got: &mut Given<'p>,
-) -> Result<(), AllocError>
-    ensures { OnOk result (map shown got.new ≡ to_parameter
-        (slice_get (parameter_names params.now) i) (datum_of value) (map shown got.old)) }
-{
-    if i >= params.len() {
-        return Ok(());
-    }
-    put(got, params[i].name.as_slice(), value)
-}
-
 /// Whether a call takes an argument of the name.
 fn takes(params: &[Param], name: &[u8]) -> bool
     ensures { result ≡ is_parameter name.now (parameter_names params.now) || is_dollar name.now }
@@ -65,37 +36,33 @@ fn takes(params: &[Param], name: &[u8]) -> bool
     is_parameter(params, name) || is_dollar(name)
 }
 
-/// The value of a named argument goes to the parameter of its name.
-fn give_named<'p>(
-    params: &'p [Param],
-    name: &'p [u8],
-    value: Value,
-    got: &mut Given<'p>,
-) -> Result<(), AllocError>
-    ensures { OnOk result (map shown got.new ≡ to_name
-        (parameter_names params.now) name.now (datum_of value) (map shown got.old)) }
-{
-    if takes(params, name) {
-        put(got, name, value)
-    } else {
-        Ok(())
-    }
-}
-
 /// The value of an argument goes to its parameter, where so many unnamed ones stand before.
+#[tactic(auto, using(crate::proofs::Giving::names))]
 fn give<'p>(
     params: &'p [Param],
     arg: &'p Arg,
     i: usize,
     value: Value,
-    got: &mut Given<'p>,
+    got: &mut ParameterValues<'p>,
 ) -> Result<(), AllocError>
-    ensures { OnOk result (map shown got.new ≡ with_argument (parameter_names params.now) i
-        arg.now.name (datum_of value) (map shown got.old)) }
+    ensures { OnOk result (values_in got.new ≡ with_argument (parameter_names params.now) i
+        arg.now.name (datum_of value) (values_in got.old)) }
 {
     match &arg.name {
-        Some(name) => give_named(params, name.as_slice(), value, got),
-        None => give_unnamed(params, i, value, got),
+        Some(name) => {
+            if takes(params, name.as_slice()) {
+                got.put(name.as_slice(), value)
+            } else {
+                Ok(())
+            }
+        }
+        None => {
+            if i < params.len() {
+                got.put(params[i].name.as_slice(), value)
+            } else {
+                Ok(())
+            }
+        }
     }
 }
 
@@ -117,11 +84,11 @@ pub(crate) fn given<'p>(
     params: &'p [Param],
     args: &'p [Arg],
     values: Vec<Value>,
-) -> Result<Given<'p>, AllocError>
-    ensures { IfOk result (λ got. map shown got
+) -> Result<ParameterValues<'p>, AllocError>
+    ensures { IfOk result (λ got. values_in got
         ≡ given (parameter_names params.now) (arguments args.now) (data_in values)) }
 {
-    let mut got = NameMap::new(alloc);
+    let mut got = ParameterValues::new(alloc, args.len());
     let mut unnamed = 0;
     let mut at = 0;
     'values: for value in values {
@@ -135,38 +102,21 @@ pub(crate) fn given<'p>(
     Ok(got)
 }
 
-/// Whether the name is given.
-#[tactic(auto, using(crate::proofs::Giving::given_in))]
-fn is_given(got: &Given, name: &[u8]) -> bool
-    ensures { result ≡ is_given name.now (map shown got.now) }
-{
-    got.has(name)
-}
-
-/// Puts a parameter behind others, if it isn't given.
-fn add_missing<'p>(all: &mut Vec<&'p Param>, p: &'p Param, given: bool) -> Result<(), AllocError>
-    ensures { OnOk result (map (λ q. parameter q.now) all.new.items
-        ≡ map (λ q. parameter q.now) all.old.items ++ (if given then [] else parameter p.now ∷ [])) }
-{
-    if !given {
-        all.push(p)?;
-    }
-    Ok(())
-}
-
 /// The parameters that aren't given, in their order.
 #[tactic(auto, using(crate::proofs::Giving::misses))]
 pub(crate) fn missing<'p>(
     alloc: Global,
     params: &'p [Param],
-    got: &Given<'p>,
+    got: &ParameterValues<'p>,
 ) -> Result<Vec<&'p Param>, AllocError>
     ensures { IfOk result (λ all. map (λ p. parameter p.now) all.items
-        ≡ missing (map shown got.now) (map parameter params.now)) }
+        ≡ missing (values_in got.now) (map parameter params.now)) }
 {
     let mut all = Vec::new(alloc);
     'parameters: for p in params {
-        add_missing(&mut all, p, is_given(got, p.name.as_slice()))?;
+        if !got.has(p.name.as_slice()) {
+            all.push(p)?;
+        }
     }
     Ok(all)
 }
