@@ -1,7 +1,7 @@
 """Checks that neither the depth nor the breadth of a source takes the machine's stack.
 
 Each form in which a source calls itself is run as deep as the limit of depth allows, and one level deeper;
-each list that a source may have is run with thousands of members. All under an ordinary stack, and under
+each list that a source may have is run with 100,000 members. All under an ordinary stack, and under
 one of 1 MiB. The reports are those of the reference program.
 """
 
@@ -44,18 +44,42 @@ def each_of(count, form):
     return ", ".join(form.format(i=i) for i in range(count))
 
 
+# Members of each list: each source is below 4 MiB, the limit of sources, and takes fewer than 500,000 steps.
+MANY = 100_000
+LAST = MANY - 1
+# Parameters that are all given by name are compared with one another, each with each, so they are fewer.
+NAMED = 2_000
+LAST_NAMED = NAMED - 1
+
+VARIABLES = each_of(MANY, "v{i} = {i}")
+TURNS = each_of(MANY, "v{i} = [0]")
+PLAIN = each_of(MANY, "{i}")
+PARAMETERS = each_of(MANY, "v{i}")
+BY_NAME = each_of(NAMED, "v{i} = {i}")
+FEW_PARAMETERS = each_of(NAMED, "v{i}")
+LAST_ECHOED = f"ECHO: {LAST}\n{NOTHING}"
+
 # name: (source, report)
 LISTS = {
-    "variables_of_a_for": (lambda: f"for ({each_of(6000, 'v{i} = [0]')}) cube(1);", SOLID),
-    "variables_of_an_intersection_for":
-        (lambda: f"intersection_for ({each_of(6000, 'v{i} = [0]')}) cube(1);", SOLID),
-    "variables_of_a_comprehension":
-        (lambda: f"echo([for ({each_of(6000, 'v{i} = [{i}]')}) v5999]);", f"ECHO: [5999]\n{NOTHING}"),
-    "names_of_a_let": (lambda: f"echo(let({each_of(50000, 'v{i} = {i}')}) v49999);", f"ECHO: 49999\n{NOTHING}"),
-    "arguments": (lambda: f"echo(max({each_of(50000, '{i}')}));", f"ECHO: 49999\n{NOTHING}"),
-    "parameters": (lambda: f"function f({each_of(50000, 'v{i} = {i}')}) = v49999; echo(f());", f"ECHO: 49999\n{NOTHING}"),
-    "elements": (lambda: f"echo(len([{each_of(50000, '{i}')}]));", f"ECHO: 50000\n{NOTHING}"),
-    "statements_without_shapes": (lambda: "union();" * 50000, NOTHING),
+    "variables_of_a_for": (f"for ({TURNS}) cube(1);", SOLID),
+    "variables_of_an_intersection_for": (f"intersection_for ({TURNS}) cube(1);", SOLID),
+    "variables_of_a_comprehension": (f"echo([for ({TURNS}) v{LAST}]);", f"ECHO: [0]\n{NOTHING}"),
+    "variables_of_a_loop_with_start_test_and_step":
+        (f"echo([for ({VARIABLES}; v0 < 1; v0 = 1) v{LAST}]);", f"ECHO: [{LAST}]\n{NOTHING}"),
+    "names_of_a_let": (f"echo(let({VARIABLES}) v{LAST});", LAST_ECHOED),
+    "names_of_a_let_of_statements": (f"let({VARIABLES}) echo(v{LAST});", LAST_ECHOED),
+    "arguments": (f"echo(max({PLAIN}));", LAST_ECHOED),
+    "arguments_past_the_parameters": (f"function f(x) = x; echo(f({PLAIN}));", f"ECHO: 0\n{NOTHING}"),
+    "arguments_of_a_function": (f"function f({PARAMETERS}) = v{LAST}; echo(f({PLAIN}));", LAST_ECHOED),
+    "arguments_of_a_module": (f"module m({PARAMETERS}) echo(v{LAST}); m({PLAIN});", LAST_ECHOED),
+    "arguments_of_a_function_by_name":
+        (f"function f({FEW_PARAMETERS}) = v{LAST_NAMED}; echo(f({BY_NAME}));", f"ECHO: {LAST_NAMED}\n{NOTHING}"),
+    "arguments_of_a_module_by_name":
+        (f"module m({FEW_PARAMETERS}) echo(v{LAST_NAMED}); m({BY_NAME});", f"ECHO: {LAST_NAMED}\n{NOTHING}"),
+    "parameters": (f"function f({VARIABLES}) = v{LAST}; echo(f());", LAST_ECHOED),
+    "parameters_of_a_module": (f"module m({VARIABLES}) echo(v{LAST}); m();", LAST_ECHOED),
+    "elements": (f"echo(len([{PLAIN}]));", f"ECHO: {MANY}\n{NOTHING}"),
+    "statements_without_shapes": ("union();" * MANY, NOTHING),
 }
 
 
@@ -76,5 +100,5 @@ def deep(name, form, deepest, told, place):
 def depth_checks():
     return [
         *(deep(name, *form) for name, form in FORMS.items()),
-        *(Each(f"many_{name}", by_stacks("all", source(), report)) for name, (source, report) in LISTS.items()),
+        *(Each(f"many_{name}", by_stacks("all", source, report)) for name, (source, report) in LISTS.items()),
     ]
