@@ -26,25 +26,35 @@ enum Places {
     DownFarApart,
 }
 
+impl Places {
+    fn upwards(kind: u32) -> Places {
+        match kind {
+            0 => Places::UpByOne,
+            1 => Places::UpBySeven,
+            _ => Places::UpFarApart,
+        }
+    }
+
+    fn downwards(kind: u32) -> Places {
+        match kind {
+            0 => Places::DownByOne,
+            _ => Places::DownFarApart,
+        }
+    }
+}
+
 impl Grid {
     /// A grid of two to ten points a side, from the lower corner upwards.
     pub(crate) fn roll_upwards(dice: &mut Dice) -> Grid {
         let side = 2 + dice.roll(9);
-        let places = match dice.roll(3) {
-            0 => Places::UpByOne,
-            1 => Places::UpBySeven,
-            _ => Places::UpFarApart,
-        };
+        let places = Places::upwards(dice.roll(3));
         Grid { side, places }
     }
 
     /// A grid of two to nine points a side, from the upper corner downwards.
     pub(crate) fn roll_downwards(dice: &mut Dice) -> Grid {
         let side = 2 + dice.roll(8);
-        let places = match dice.roll(2) {
-            0 => Places::DownByOne,
-            _ => Places::DownFarApart,
-        };
+        let places = Places::downwards(dice.roll(2));
         Grid { side, places }
     }
 
