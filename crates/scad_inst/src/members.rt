@@ -81,7 +81,7 @@ pub(crate) fn members<'p>(
 }
 
 /// The tree of an operation over the statements of a scope, which is opened inside the frame from which names are
-/// sought.
+/// sought. Without items it gives nothing, and no frame is opened.
 #[tactic(auto, using(crate::proofs::Onward::nodes), unfolding(crate::specs::Meaning::combined, crate::specs::Meaning::members))]
 pub(crate) fn combined<'p>(
     operation: Operation,
@@ -95,6 +95,9 @@ pub(crate) fn combined<'p>(
         (items scope.now.items) (env_in (held m.old)) (along_in (held m.old)) (state_of m.old)) stack.old m.old
         → Goes o result stack.new m.new }
 {
+    if scope.is_empty() {
+        return Ok(Focus::Given(Tree::empty()));
+    }
     let home = here(m);
     let back = open_scope(stack.alloc, home, scope, m)?;
     stack.begin(operation, at, back)?;
