@@ -45,7 +45,7 @@ use Rattle.scad_inst.specs.declared.work.Focus.{Focus}
 use Rattle.scad_inst.specs.declared.work.Focus.TheVariants.{Members, Children, Variables, Turns}
 use Rattle.scad_inst.specs.Choice.{child_named}
 use Rattle.scad_inst.specs.Frames.{below_of, with_depth}
-use Rattle.scad_inst.specs.Meaning.{statements_meaning, statement_layer, node, assigned, opened_scope, member, members_from, members, combined, called_own, run_children, chosen, children_by, child, turns, for_variables, program_of}
+use Rattle.scad_inst.specs.Meaning.{Below, statements_meaning, statement_layer, node, assigned, opened_scope, member, members_from, members, combined, called_own, run_children, chosen, children_by, child, turns, for_variables, program_of}
 use Rattle.scad_inst.specs.Modules.{Found}
 use Rattle.scad_inst.specs.Near.{NameAlike}
 use Rattle.scad_inst.specs.Portions.{called_with, own_opened}
@@ -97,6 +97,19 @@ module _ (h : Held) (w : Where) (i : Item) (f : Focus) (k : Rest) (ss : List Sol
       (λ (u : State). and_then ((below_of h).statement w (env_in h) (along_in h) (item_of i) u)
       (λ t. pure (if is_marked (item_of i) then ss else ss ++ t ∷ []))) else pure ss) in
       ap (λ (b : Bool). and_then (one b s) (goes_on f k h)) is
+
+-- what isn't a statement gives nothing, whatever is meant by a statement
+pub item-skipped : (below : Below) (w : Where) (env along : Env) (ss : List Solid) (s : State) (all : List Item)
+    (n : ℕ) (i : Item) → n < length all → i ≡ get_or all n i → is_statement (item_of i) ≡ false
+    → members_from below w env along (items (drop n all)) ss s
+    ≡ members_from below w env along (items (drop (n + 1) all)) ss s
+unfolding members_from member
+item-skipped below w env along ss s all n i there found is =
+    let one : Bool → State → Outcome (List Solid) = λ b. (if b then
+    (λ (u : State). and_then (below.statement w env along (item_of i) u)
+    (λ t. pure (if is_marked (item_of i) then ss else ss ++ t ∷ []))) else pure ss) in
+    ap (λ (l : Items). members_from below w env along l ss s) (items-drop all n i there found)
+    ∙ ap (λ (b : Bool). and_then (one b s) (members_from below w env along (items (drop (n + 1) all)))) is
 
 -- the item of a number, and those behind it
 module _ (h : Held) (w : Where) (scope : Bor (Vec Item Global)) (n : ℕ) (k : Rest) (ss : List Solid) (s : State) where
