@@ -1,5 +1,5 @@
 -- What is at work and what follows it, as the parts of a statement begin.
-use Rattle.std.proofs.Common.{◌≡◌, ◌≢◌, ℕ, ◌+◌, ◌-◌, ◌<◌, ◌≤◌, Bool, true, false, if◌then◌else◌, List, [], ◌∷◌, ◌++◌, length, get_or, drop, Option, Some, None, Result, Ok, Err, IfErr, Vec, Global, refl, sym, ap, ap₂, ◌∙◌}
+use Rattle.std.proofs.Common.{◌≡◌, ◌≢◌, ℕ, ◌+◌, ◌-◌, ◌<◌, ◌≤◌, Bool, true, false, if◌then◌else◌, List, [], ◌∷◌, ◌++◌, length, get_or, drop, Option, Some, None, Result, Ok, Err, IfErr, Vec, Global, refl, sym, ap, ap₂, ◌∙◌, arith}
 use Rattle.std.proofs.lemmas.List.{drop_all}
 use Rattle.std.specs.Borrow.{Bor}
 use Rattle.scad_fault.specs.declared.place.Place.{Place}
@@ -11,7 +11,7 @@ use Rattle.scad_ast.specs.View.{arguments}
 use Rattle.scad_value.specs.Datum.{Datum}
 use Rattle.scad_scope.specs.Env.{Env, children}
 use Rattle.scad_tree.specs.declared.node.Node.{Node}
-use Rattle.scad_tree.specs.Normal.{united}
+use Rattle.scad_tree.specs.Normal.{united, intersected, subtracted}
 use Rattle.scad_tree.specs.Solid.{Solid, nothing}
 use Rattle.scad_tree.specs.View.{solids}
 use Rattle.scad_machine.specs.declared.fault.EvalFault.{EvalFault}
@@ -28,7 +28,7 @@ use Rattle.scad_expr.specs.Variables.{set, empty, within, first_env, first_along
 use Rattle.scad_expr.proofs.Homes.{items-drop}
 use Rattle.scad_expr.proofs.Loops.{twice, same-state}
 use Rattle.scad_leaves.specs.declared.operation.Operation.{Operation}
-use Rattle.scad_leaves.specs.declared.operation.Operation.TheVariants.{Unite}
+use Rattle.scad_leaves.specs.declared.operation.Operation.TheVariants.{Unite, Intersect, Subtract}
 use Rattle.scad_leaves.specs.declared.call.Call.{Call}
 use Rattle.scad_leaves.specs.declared.space.Where.{Where}
 use Rattle.scad_leaves.specs.Hulls.{hull_made}
@@ -45,7 +45,7 @@ use Rattle.scad_inst.specs.declared.work.Focus.{Focus}
 use Rattle.scad_inst.specs.declared.work.Focus.TheVariants.{Members, Children, Variables, Turns}
 use Rattle.scad_inst.specs.Choice.{child_named}
 use Rattle.scad_inst.specs.Frames.{below_of, with_depth}
-use Rattle.scad_inst.specs.Meaning.{statements_meaning, statement_layer, node, opened_scope, member, members_from, members, combined, called_own, run_children, chosen, children_by, child, turns, for_variables, program_of}
+use Rattle.scad_inst.specs.Meaning.{Below, statements_meaning, statement_layer, node, assigned, opened_scope, member, members_from, members, combined, called_own, run_children, chosen, children_by, child, turns, for_variables, program_of}
 use Rattle.scad_inst.specs.Modules.{Found}
 use Rattle.scad_inst.specs.ChildRange.{NameAlike}
 use Rattle.scad_inst.specs.Scopes.{item_place, is_marked}
@@ -96,6 +96,19 @@ module _ (h : Held) (w : Where) (i : Item) (f : Focus) (k : Rest) (ss : List Sol
       (λ (u : State). and_then ((below_of h).statement w (env_in h) (along_in h) (item_of i) u)
       (λ t. pure (if is_marked (item_of i) then ss else ss ++ t ∷ []))) else pure ss) in
       ap (λ (b : Bool). and_then (one b s) (goes_on f k h)) is
+
+-- what isn't a statement gives nothing, whatever is meant by a statement
+pub item-skipped : (below : Below) (w : Where) (env along : Env) (ss : List Solid) (s : State) (all : List Item)
+    (n : ℕ) (i : Item) → n < length all → i ≡ get_or all n i → is_statement (item_of i) ≡ false
+    → members_from below w env along (items (drop n all)) ss s
+    ≡ members_from below w env along (items (drop (n + 1) all)) ss s
+unfolding members_from member
+item-skipped below w env along ss s all n i there found is =
+    let one : Bool → State → Outcome (List Solid) = λ b. (if b then
+    (λ (u : State). and_then (below.statement w env along (item_of i) u)
+    (λ t. pure (if is_marked (item_of i) then ss else ss ++ t ∷ []))) else pure ss) in
+    ap (λ (l : Items). members_from below w env along l ss s) (items-drop all n i there found)
+    ∙ ap (λ (b : Bool). and_then (one b s) (members_from below w env along (items (drop (n + 1) all)))) is
 
 -- the item of a number, and those behind it
 module _ (h : Held) (w : Where) (scope : Bor (Vec Item Global)) (n : ℕ) (k : Rest) (ss : List Solid) (s : State) where
@@ -260,6 +273,27 @@ scope-begins o at w scope outer back h h2 k k2 ss ms s s2 opened is_left outer_i
     (listed q h2)) (sym is) (sym none)
     ∙ ap (λ (d : ℕ). and_then (members_from (statements_meaning d) w (env_in h2) (along_in h2) all ms s2)
     (listed k2 h2)) (sym (depth-left back h2 h is_left))
+
+-- a scope without items gives nothing, and needs no frames
+pub scope-empty : (o : Operation) (at : Place) (w : Where) (scope : Bor (Vec Item Global)) (h : Held) (k : Rest)
+    (ss : List Solid) (t : Solid) (s : State) → length scope.now.items ≡ 0 → t ≡ nothing
+    → and_then (combined (below_of h) o at w (items scope.now.items) (env_in h) (along_in h) s) (k h ss) ≡ k h ss t s
+unfolding combined members members_from opened_scope assigned judged united intersected subtracted
+scope-empty o at w scope h k ss t s is none =
+    ap (λ (l : List Item). and_then (combined (below_of h) o at w (items l) (env_in h) (along_in h) s) (k h ss))
+    (no-items scope.now.items is)
+    ∙ by o
+    ∙ ap (λ (x : Solid). k h ss x s) (sym none)
+  where
+    no-items : (all : List Item) → length all ≡ 0 → all ≡ []
+    no-items [] zero_long = refl
+    no-items (i ∷ all) some = absurd (let no : ⊥ = omega (arith, some) in no)
+
+    by : (q : Operation) → and_then (combined (below_of h) q at w (items []) (env_in h) (along_in h) s) (k h ss)
+        ≡ k h ss nothing s
+    by Unite = refl
+    by Intersect = refl
+    by Subtract = refl
 
 -- ---- children
 pub children-begin : (at : Place) (w : Where) (scope : Items) (home : Env) (which : Option Datum)

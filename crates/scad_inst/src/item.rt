@@ -1,8 +1,13 @@
 //! Items of a scope.
 
-ghost use Rattle.std.specs.Prelude.{◌≡◌, None, option_map};
+ghost use Rattle.std.specs.Prelude.{◌≡◌, List, drop, None, option_map};
 ghost use Rattle.scad_ast.specs.Scope.{item_of, items};
-ghost use Rattle.scad_expr.specs.Arguments.{statements};
+ghost use Rattle.scad_tree.specs.Solid.{Solid};
+ghost use Rattle.scad_scope.specs.Env.{Env};
+ghost use Rattle.scad_expr.specs.Arguments.{is_statement, statements};
+ghost use Rattle.scad_expr.specs.State.{State};
+ghost use Rattle.scad_leaves.specs.declared.space.Where.{Where};
+ghost use Rattle.scad_inst.specs.Meaning.{Below, members_from};
 ghost use Rattle.scad_inst.specs.Scopes.{item_place, is_marked, child_at};
 
 use scad_ast::{Item, Scope};
@@ -64,4 +69,18 @@ pub(crate) fn child_at<'p>(scope: &'p Scope, n: usize) -> Option<&'p Item>
         }
     }
     None
+}
+
+/// The number of the first statement from a number on, or of none. What is passed over, definitions and assignments,
+/// gives nothing, whatever is meant by a statement.
+pub(crate) fn next_statement(scope: &Scope, from: usize) -> usize
+    ensures { (below : Below) (w : Where) (env along : Env) (so_far : List Solid) (s : State)
+        → members_from below w env along (items (drop from scope.now.items)) so_far s
+        ≡ members_from below w env along (items (drop result scope.now.items)) so_far s }
+{
+    let mut number = from;
+    'items: while number < scope.len() && !is_statement(&scope[number]) {
+        number += 1;
+    }
+    number
 }

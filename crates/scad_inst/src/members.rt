@@ -1,10 +1,9 @@
 //! The statements of a scope, and the tree of an operation over them.
 
-ghost use Rattle.std.specs.Prelude.{◌≡◌, true, drop, IfErr};
+ghost use Rattle.std.specs.Prelude.{◌≡◌, drop, IfErr};
 ghost use Rattle.scad_ast.specs.Scope.{item_of, items};
 ghost use Rattle.scad_tree.specs.Solid.{Solid};
 ghost use Rattle.scad_machine.specs.declared.fault.EvalFault.TheVariants.{Memory};
-ghost use Rattle.scad_expr.specs.Arguments.{is_statement};
 ghost use Rattle.scad_expr.specs.Machine.{Held, held, env_in, along_in, state_of};
 ghost use Rattle.scad_expr.specs.State.{State, Outcome, and_then};
 ghost use Rattle.scad_leaves.specs.Operation.{operated};
@@ -15,7 +14,7 @@ ghost use Rattle.scad_inst.specs.Meaning.{member, members_from, combined};
 ghost use Rattle.scad_inst.specs.Stack.{Goes, Starts, rest, made_in, goes_on, listed, onward};
 
 use crate::frames::here;
-use crate::item::is_marked;
+use crate::item::{is_marked, next_statement};
 use crate::scopes::open_scope;
 use crate::stack::Stack;
 use crate::work::{Focus, Frame, at_work};
@@ -26,7 +25,8 @@ use scad_leaves::{Operation, Where, tree_of_operation};
 use scad_machine::is_statement;
 use scad_tree::Tree;
 
-/// An item is run where it is a statement, and then what comes behind it.
+/// An item is run where it is a statement, its tree is a member unless it is marked `%`, and then comes what is behind
+/// it.
 pub(crate) fn member<'p>(
     item: &'p Item,
     behind: Focus<'p>,
@@ -38,32 +38,15 @@ pub(crate) fn member<'p>(
         → Starts o result stack.new h s }
     ensures memory { IfErr result (λ e. e ≡ Memory) }
 {
-    if is_statement(item) {
-        run_item(item, behind, w, stack)
-    } else {
-        Ok(behind)
+    if !is_statement(item) {
+        return Ok(behind);
     }
-}
-
-/// A statement is run, its tree is a member unless it is marked `%`, and then comes what is behind it.
-fn run_item<'p>(
-    item: &'p Item,
-    behind: Focus<'p>,
-    w: &Where,
-    stack: &mut Stack<'p>,
-) -> Result<Focus<'p>, EvalFault>
-    requires { is_statement (item_of item.now) ≡ true }
-    ensures goes { (h : Held) (s : State) (o : Outcome Solid) → o ≡ and_then (member (below_of h) w.now (env_in h)
-        (along_in h) (item_of item.now) (made_in stack.old) s) (goes_on behind.entry (rest stack.old) h)
-        → Starts o result stack.new h s }
-    ensures memory { IfErr result (λ e. e ≡ Memory) }
-{
     stack.push(Frame::Then(behind))?;
     stack.push(Frame::Member(is_marked(item)))?;
     Ok(Focus::Statement(item, *w))
 }
 
-/// The items of a scope from a number on.
+/// The items of a scope from a number on: the first statement among them is run, and then those behind it.
 pub(crate) fn members<'p>(
     scope: &'p Scope,
     next: usize,
@@ -75,14 +58,20 @@ pub(crate) fn members<'p>(
         stack.new h s }
     ensures memory { IfErr result (λ e. e ≡ Memory) }
 {
-    if next >= scope.len() {
+    let number = next_statement(scope, next);
+    if number >= scope.len() {
         return Ok(Focus::Given(Tree::empty()));
     }
-    member(&scope[next], Focus::Members(scope, next + 1, *w), w, stack)
+    member(
+        &scope[number],
+        Focus::Members(scope, number + 1, *w),
+        w,
+        stack,
+    )
 }
 
 /// The tree of an operation over the statements of a scope, which is opened inside the frame from which names are
-/// sought.
+/// sought. Without items it gives nothing, and no frame is opened.
 #[tactic(auto, using(crate::proofs::Onward::nodes), unfolding(crate::specs::Meaning::combined, crate::specs::Meaning::members))]
 pub(crate) fn combined<'p>(
     operation: Operation,
@@ -96,6 +85,9 @@ pub(crate) fn combined<'p>(
         (items scope.now.items) (env_in (held m.old)) (along_in (held m.old)) (state_of m.old)) stack.old m.old
         → Goes o result stack.new m.new }
 {
+    if scope.is_empty() {
+        return Ok(Focus::Given(Tree::empty()));
+    }
     let home = here(m);
     let back = open_scope(stack.alloc, home, scope, m)?;
     stack.begin(operation, at, back)?;

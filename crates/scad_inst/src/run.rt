@@ -113,7 +113,7 @@ fn turn<'p>(
 }
 
 /// The tree of a program, by turns. A program takes at most 5,000,000 steps, and the turns past those of its steps
-/// are one for each item, argument or value that is passed over: the loop counts far beyond them.
+/// are one for each argument or value that is passed over: the loop counts far beyond them.
 pub(crate) fn run<'p>(
     first: Focus<'p>,
     stack: &mut Stack<'p>,
