@@ -1,5 +1,5 @@
 -- What isn't a statement is passed over.
-use Rattle.std.proofs.Common.{refl, sym, ◌∙◌}
+use Rattle.std.proofs.Common.{refl, sym, ◌∙◌, arith}
 use Rattle.scad_inst.proofs.Onward.{item-skipped}
 use Rattle.scad_inst.proofs.item.next_statement.Goals as goal
 
@@ -10,4 +10,4 @@ pub items-preserved : goal.items-preserved
 items-preserved c = λ below w env along so_far s.
     c.items.invariant below w env along so_far s
     ∙ item-skipped below w env along so_far s c.args.scope.now.items c.items.number c.index.result.now
-    c.items-test.true c.index.ensures (sym c.is_statement.ensures ∙ c.if-not-is_statement.true)
+    (omega (arith, c.items-test.true, c.len.ensures)) c.index.ensures (sym c.is_statement.ensures ∙ c.if-not-is_statement.true)
