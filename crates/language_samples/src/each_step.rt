@@ -1,6 +1,7 @@
 //! Sources of expressions, begun with each limit of steps up to the one at which they end.
 
 ghost use Rattle.std.specs.Prelude.{◌≤◌};
+ghost use Rattle.scad_expr.specs.State.{step_limit};
 
 use crate::cases::expect;
 use crate::machine::{last_value, start};
@@ -13,7 +14,7 @@ use std::alloc::{AllocError, Global};
 
 /// What the last variable gives where so many steps may be taken, or the budget and its place; and the steps that were taken.
 fn told(alloc: Global, program: &Program, limit: u32) -> Result<Vec<u8>, AllocError>
-    requires { limit ≤ 5000000 }
+    requires { limit ≤ step_limit }
 {
     let mut out = Vec::new(alloc);
     let mut m = start(alloc, &program.scope, limit)?;
@@ -29,7 +30,7 @@ fn told(alloc: Global, program: &Program, limit: u32) -> Result<Vec<u8>, AllocEr
 
 /// With this limit comes the budget of steps at a place, with so many steps taken.
 fn is_passed(alloc: Global, program: &Program, limit: u32, place: &str) -> bool
-    requires { limit ≤ 5000000 }
+    requires { limit ≤ step_limit }
 {
     match (
         told(alloc, program, limit),
@@ -42,7 +43,7 @@ fn is_passed(alloc: Global, program: &Program, limit: u32, place: &str) -> bool
 
 /// With this limit comes a value.
 fn is_enough(alloc: Global, program: &Program, limit: u32, wanted: &str) -> bool
-    requires { limit ≤ 5000000 }
+    requires { limit ≤ step_limit }
 {
     match told(alloc, program, limit) {
         Ok(given) => given.as_slice() == wanted.as_bytes(),

@@ -1,5 +1,8 @@
 //! A machine at the start of a program, and the variables of the program's scope.
 
+ghost use Rattle.std.specs.Prelude.{◌≤◌};
+ghost use Rattle.scad_expr.specs.State.{step_limit};
+
 use scad_ast::{Item, Scope};
 use scad_expr::{DEPTH_LIMIT, EvalFault, Machine, eval};
 use scad_fault::{Budget, BudgetKind, Text};
@@ -27,7 +30,7 @@ pub(crate) fn start<'p>(
     scope: &'p Scope,
     steps: u32,
 ) -> Result<Machine<'p>, AllocError>
-    requires { steps ≤ 5000000 }
+    requires { steps ≤ step_limit }
 {
     let mut frames = Frames::new(alloc);
     let outside = frames.push(None, None, None)?;
