@@ -4,14 +4,8 @@ ghost use Rattle.std.specs.Fmt.{signed_decimal};
 ghost use Rattle.scad_fault.specs.Line.{kind_text, place_text, count_text, layer_text, word_text};
 
 use crate::place::Place;
-use itoa::{Buffer, Integer};
 use std::alloc::AllocError;
-
-pub(crate) fn push_number<I: Integer>(text: &mut Vec<u8>, n: I) -> Result<(), AllocError>
-    ensures { OnOk result (text.new.items ≡ text.old.items ++ I.text n) }
-{
-    text.extend_from_slice(Buffer::new().format(n).as_bytes())
-}
+use text_scan::push_number;
 
 pub(crate) fn push_word(text: &mut Vec<u8>, word: &[u8]) -> Result<(), AllocError>
     ensures { OnOk result (text.new.items ≡ text.old.items ++ word_text word.now) }

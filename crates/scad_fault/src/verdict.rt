@@ -6,6 +6,7 @@ ghost use Rattle.scad_fault.specs.Line.{outside_line, bad_line, second_text};
 use crate::line;
 use crate::text::Text;
 use std::alloc::{AllocError, Global};
+use text_scan::push_number;
 
 /// Why a file is not of the form.
 #[derive(Clone, Copy, Debug, PartialEq, Eq)]
@@ -83,9 +84,9 @@ pub(crate) fn outside_line(alloc: Global, number: u64, line: u32) -> Result<Text
     ensures { IfOk result (λ t. t ≡ outside_line number line) }
 {
     let mut text = Vec::from_slice(alloc, b"outside: move ")?;
-    line::push_number(&mut text, number)?;
+    push_number(&mut text, number)?;
     text.extend_from_slice(b" line ")?;
-    line::push_number(&mut text, line)?;
+    push_number(&mut text, line)?;
     text.push(b'\n')?;
     Ok(Text::from_vec(text))
 }

@@ -1,13 +1,15 @@
-//! Marks in bytes, by which lines and words are parted, and texts that are appended whole or not at all.
+//! Marks in bytes, by which lines and words are parted, numbers in decimal, and texts that are appended whole or not at all.
 //!
-//! The contracts promise the place of the first mark, and that what is cut back is the text before.
+//! The contracts promise the place of the first mark, exactly the digits, and that what is cut back is the text before.
 #![tactic(auto)]
 
+mod number;
 mod writing;
 
 ghost use Rattle.std.specs.Prelude.{◌≡◌, ◌≤◌, length};
 ghost use Rattle.text_scan.specs.Marks.{first_at};
 
+pub use number::push_number;
 pub use writing::whole_or_nothing;
 
 /// Where the first mark stands, or the length where there is none.
