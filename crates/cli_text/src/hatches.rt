@@ -4,10 +4,10 @@ ghost use Rattle.std.specs.List.{flat_map};
 ghost use Rattle.cli_text.specs.Cli.{hatch_text, hatches_start, hatches_line, hatches_text};
 ghost use Rattle.scad_base.specs.Appends.{BeginsWith};
 
-use crate::number::push_unsigned;
 use crate::polyline::push_point;
 use scad_geom::Edge;
 use std::alloc::AllocError;
+use text_scan::push_number;
 
 /// Appends the line of a layer's hatches, where there are any.
 pub fn push_hatches(out: &mut Vec<u8>, hatches: &[Edge]) -> Result<(), AllocError>
@@ -30,7 +30,7 @@ fn push_hatches_line(out: &mut Vec<u8>, hatches: &[Edge]) -> Result<(), AllocErr
     ensures err { OnErr result (BeginsWith out.old.items out.new.items) }
 {
     push_hatches_start(out)?;
-    push_unsigned(out, hatches.len() as u64)?;
+    push_number(out, hatches.len() as u64)?;
     push_each_hatch(out, hatches)
 }
 

@@ -5,7 +5,6 @@
 #![tactic(auto, using(scad_geom::proofs::Casts::casts))]
 
 mod hatches;
-mod number;
 mod polyline;
 mod writer;
 

@@ -4,9 +4,9 @@ ghost use Rattle.std.specs.List.{flat_map};
 ghost use Rattle.cli_text.specs.Cli.{direction, point_text, polyline_start, polyline_text, closed};
 ghost use Rattle.scad_base.specs.Appends.{BeginsWith};
 
-use crate::number::{push_signed, push_unsigned};
 use scad_geom::{Pt, twice_area};
 use std::alloc::AllocError;
+use text_scan::push_number;
 
 // `$$POLYLINE/1,dir,n,x1,y1,..`
 /// Appends the line of an outline, with its direction and its first point again at the end.
@@ -15,9 +15,9 @@ pub fn push_polyline(out: &mut Vec<u8>, points: &[Pt]) -> Result<(), AllocError>
     ensures err { OnErr result (BeginsWith out.old.items out.new.items) }
 {
     push_polyline_start(out)?;
-    push_unsigned(out, direction(points))?;
+    push_number(out, direction(points))?;
     out.push(b',')?;
-    push_unsigned(out, points.len() as u64 + 1)?;
+    push_number(out, points.len() as u64 + 1)?;
     push_closed(out, points)?;
     out.push(b'\n')?;
     Ok(())
@@ -57,7 +57,7 @@ pub fn push_point(out: &mut Vec<u8>, point: Pt) -> Result<(), AllocError>
     ensures err { OnErr result (BeginsWith out.old.items out.new.items) }
 {
     out.push(b',')?;
-    push_signed(out, point.x)?;
+    push_number(out, point.x)?;
     out.push(b',')?;
-    push_signed(out, point.y)
+    push_number(out, point.y)
 }

@@ -7,11 +7,10 @@ ghost use Rattle.cli_text.specs.Cli.{head_start, head_end, head, layer_start, la
 ghost use Rattle.scad_base.specs.Appends.{BeginsWith};
 
 use crate::hatches::push_hatches;
-use crate::number::push_unsigned;
 use crate::polyline::push_polyline;
 use scad_geom::{Edge, Loop};
 use std::alloc::AllocError;
-use text_scan::whole_or_nothing;
+use text_scan::{push_number, whole_or_nothing};
 
 /// Appends the head of a file of `layers` layers. Where memory runs out, `out` is as it was.
 pub fn write_head(out: &mut Vec<u8>, layers: u32) -> Result<(), AllocError>
@@ -55,7 +54,7 @@ fn push_head(out: &mut Vec<u8>, layers: u32) -> Result<(), AllocError>
     ensures err { OnErr result (BeginsWith out.old.items out.new.items) }
 {
     push_head_start(out)?;
-    push_unsigned(out, u64::from(layers))?;
+    push_number(out, u64::from(layers))?;
     push_head_end(out)
 }
 
@@ -81,7 +80,7 @@ fn push_layer(out: &mut Vec<u8>, z: u32, loops: &[Loop], hatches: &[Edge]) -> Re
     ensures err { OnErr result (BeginsWith out.old.items out.new.items) }
 {
     push_layer_start(out)?;
-    push_unsigned(out, u64::from(z))?;
+    push_number(out, u64::from(z))?;
     out.push(b'\n')?;
     push_polylines(out, loops)?;
     push_hatches(out, hatches)

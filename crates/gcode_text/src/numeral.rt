@@ -1,27 +1,11 @@
 //! Numbers as text.
 ghost use Rattle.std.specs.Prelude.{◌≡◌, ◌++◌, ◌+◌, ◌%◌, OnOk, OnErr};
-ghost use Rattle.std.specs.Fmt.{decimal};
 ghost use Rattle.scad_base.specs.Characters.{digit_zero};
 ghost use Rattle.gcode_text.specs.Numeral.{last_digits, fixed, millimetres};
 ghost use Rattle.scad_base.specs.Appends.{BeginsWith};
 
-use itoa::Buffer;
 use std::alloc::AllocError;
-
-/// Appends a number in decimal.
-pub fn push_unsigned(out: &mut Vec<u8>, n: u32) -> Result<(), AllocError>
-    ensures ok { OnOk result (out.new.items ≡ out.old.items ++ decimal n) }
-    ensures err { OnErr result (out.new.items ≡ out.old.items) }
-{
-    out.extend_from_slice(Buffer::new().format(n).as_bytes())
-}
-
-fn push_wide(out: &mut Vec<u8>, n: u128) -> Result<(), AllocError>
-    ensures ok { OnOk result (out.new.items ≡ out.old.items ++ decimal n) }
-    ensures err { OnErr result (out.new.items ≡ out.old.items) }
-{
-    out.extend_from_slice(Buffer::new().format(n).as_bytes())
-}
+use text_scan::push_number;
 
 fn last_digit(n: u32) -> u8
     ensures { result ≡ digit_zero + n % 10 }
@@ -48,7 +32,7 @@ pub fn push_thousandths(out: &mut Vec<u8>, n: u64) -> Result<(), AllocError>
     ensures ok { OnOk result (out.new.items ≡ out.old.items ++ fixed 3 n) }
     ensures err { OnErr result (BeginsWith out.old.items out.new.items) }
 {
-    push_wide(out, u128::from(n / 1000))?;
+    push_number(out, n / 1000)?;
     out.push(b'.')?;
     push_last_digits(out, 3, (n % 1000) as u32)
 }
@@ -59,7 +43,7 @@ pub fn push_hundred_thousandths(out: &mut Vec<u8>, n: u128) -> Result<(), AllocE
     ensures ok { OnOk result (out.new.items ≡ out.old.items ++ fixed 5 n) }
     ensures err { OnErr result (BeginsWith out.old.items out.new.items) }
 {
-    push_wide(out, n / 100_000)?;
+    push_number(out, n / 100_000)?;
     out.push(b'.')?;
     push_last_digits(out, 5, (n % 100_000) as u32)
 }

@@ -3,10 +3,11 @@ ghost use Rattle.std.specs.Prelude.{◌≡◌, List, ◌++◌, OnOk, OnErr};
 ghost use Rattle.gcode_text.specs.Gcode.{target, feed_end, amount, travel_line, print_line, height_line, heat_line, number_line, supports_line};
 ghost use Rattle.scad_base.specs.Appends.{BeginsWith};
 
-use crate::numeral::{push_hundred_thousandths, push_millimetres, push_thousandths, push_unsigned};
+use crate::numeral::{push_hundred_thousandths, push_millimetres, push_thousandths};
 use crate::rates::Rates;
 use scad_geom::Pt;
 use std::alloc::AllocError;
+use text_scan::push_number;
 
 // `G1 Xx Yy`
 fn push_target(out: &mut Vec<u8>, to: Pt) -> Result<(), AllocError>
@@ -25,7 +26,7 @@ fn push_feed(out: &mut Vec<u8>, feed: u32) -> Result<(), AllocError>
     ensures err { OnErr result (BeginsWith out.old.items out.new.items) }
 {
     out.extend_from_slice(b" F")?;
-    push_unsigned(out, feed)?;
+    push_number(out, feed)?;
     out.push(b'\n')?;
     Ok(())
 }
@@ -76,7 +77,7 @@ pub fn push_heat(out: &mut Vec<u8>, command: &[u8], degrees: u32) -> Result<(), 
 {
     out.extend_from_slice(command)?;
     out.extend_from_slice(b" S")?;
-    push_unsigned(out, degrees)?;
+    push_number(out, degrees)?;
     out.push(b'\n')?;
     Ok(())
 }
@@ -88,7 +89,7 @@ pub fn push_layer_number(out: &mut Vec<u8>, layer: u32) -> Result<(), AllocError
     ensures err { OnErr result (BeginsWith out.old.items out.new.items) }
 {
     out.extend_from_slice(b"; layer ")?;
-    push_unsigned(out, layer)?;
+    push_number(out, layer)?;
     out.push(b'\n')?;
     Ok(())
 }

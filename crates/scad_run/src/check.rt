@@ -5,12 +5,12 @@ ghost use Rattle.scad_tree.specs.View.{solid_of};
 ghost use Rattle.scad_run.specs.SourceReport.{ok_line, check_end, check_script, tree_script};
 ghost use Rattle.scad_run.specs.Playing.{IsEnd};
 
-use itoa::Buffer;
 use scad_fault::{Budget, Text};
 use scad_script::{Refusal, Stop};
 use scad_slice::LAYER_LIMIT;
 use scad_tree::Tree;
 use std::alloc::{AllocError, Global};
+use text_scan::push_number;
 
 /// The tree's text.
 pub fn shown(alloc: Global, tree: &Tree) -> Result<Text, Stop>
@@ -50,13 +50,12 @@ fn numbers(alloc: Global, leaves: u64, triangles: u64, layers: u32) -> Result<Te
 fn ok_line(alloc: Global, leaves: u64, triangles: u64, layers: u32) -> Result<Vec<u8>, AllocError>
     ensures { IfOk result (λ line. line.items ≡ ok_line leaves triangles layers) }
 {
-    let mut number = Buffer::new();
     let mut line = Vec::from_slice(alloc, b"ok: ")?;
-    line.extend_from_slice(number.format(leaves).as_bytes())?;
+    push_number(&mut line, leaves)?;
     line.extend_from_slice(b" leaves, ")?;
-    line.extend_from_slice(number.format(triangles).as_bytes())?;
+    push_number(&mut line, triangles)?;
     line.extend_from_slice(b" triangles, ")?;
-    line.extend_from_slice(number.format(layers).as_bytes())?;
+    push_number(&mut line, layers)?;
     line.extend_from_slice(b" layers\n")?;
     Ok(line)
 }

@@ -10,13 +10,13 @@ ghost use Rattle.scad_run.specs.Judging.{opinion_end, judgement, judged_end, ins
 ghost use Rattle.scad_run.specs.Playing.{IsEnd, Judges, LoadsWhole, IsRefusedBy};
 
 use cli_read::{Cli, CliFault, read};
-use itoa::Buffer;
 use plan_verify::laws::files_are_within;
 use plan_verify::{Verdict, VerifyFault, check};
 use scad_fault::{BadKind, Budget, Text};
 use scad_io::Desk;
 use scad_script::{Input, Refusal, Stop, load};
 use std::alloc::{AllocError, Global};
+use text_scan::push_number;
 
 /// The most bytes that a file may have that is judged.
 const FILE_LIMIT: usize = 268_435_456;
@@ -120,11 +120,10 @@ fn bad_file(kind: BadKind, first: u64, second: u64) -> Stop
 fn inside_line(alloc: Global, layers: u64, moves: u64) -> Result<Vec<u8>, AllocError>
     ensures { IfOk result (λ line. line.items ≡ inside_line layers moves) }
 {
-    let mut number = Buffer::new();
     let mut line = Vec::from_slice(alloc, b"inside: ")?;
-    line.extend_from_slice(number.format(layers).as_bytes())?;
+    push_number(&mut line, layers)?;
     line.extend_from_slice(b" layers, ")?;
-    line.extend_from_slice(number.format(moves).as_bytes())?;
+    push_number(&mut line, moves)?;
     line.extend_from_slice(b" moves\n")?;
     Ok(line)
 }

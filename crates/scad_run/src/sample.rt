@@ -10,9 +10,10 @@ use gcode_text::push_hundred_thousandths;
 use scad_fault::Text;
 use scad_io::{Gate, NullDesk, Out};
 use scad_script::{Stop, make};
-use scad_slice::{Summary, Want, Workpiece, Written, count_layers, draw, push_number};
+use scad_slice::{Summary, Want, Workpiece, Written, count_layers, draw};
 use std::alloc::{AllocError, Global};
 use std::thread::Threads;
+use text_scan::push_number;
 
 /// The line with what the plan of the sample of this number has, or the budget that it passes.
 pub fn sampled<R: Threads + Sync, G: Gate>(

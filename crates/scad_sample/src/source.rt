@@ -6,9 +6,9 @@ ghost use Rattle.gcode_text.specs.Numeral.{last_digits, fixed};
 ghost use Rattle.scad_sample.specs.Sample.{plate_start, hole_start, hole_middle, hole_end, plate_end, hole_text, holes, sample_text};
 
 use crate::radius::{next, radius};
-use itoa::Buffer;
 use scad_fault::Text;
 use std::alloc::{AllocError, Global};
+use text_scan::push_number;
 
 /// The sample of this number, as the text of a source: a plate of 100 by 100 by 2 millimetres with 36 holes in six
 /// rows, of radii from 2 to 6 millimetres. It has at most 8,192 bytes.
@@ -109,10 +109,4 @@ fn push_digit(out: &mut Vec<u8>, n: u32) -> Result<(), AllocError>
 {
     out.push(b'0' + (n % 10) as u8)?;
     Ok(())
-}
-
-fn push_number(out: &mut Vec<u8>, n: u32) -> Result<(), AllocError>
-    ensures { OnOk result (out.new.items ≡ out.old.items ++ decimal n) }
-{
-    out.extend_from_slice(Buffer::new().format(n).as_bytes())
 }

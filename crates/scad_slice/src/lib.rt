@@ -19,7 +19,6 @@ mod tree_work;
 mod workpiece;
 
 pub use layer_count::{LAYER_LIMIT, count_layers};
-pub use lines::push_number;
 pub use plan_command::plan;
 pub use slice_command::slice;
 pub use slice_work::{Summary, Want};

@@ -3,9 +3,9 @@ ghost use Rattle.std.specs.Prelude.{◌≡◌, ◌++◌, decimal, IfOk, OnOk};
 ghost use Rattle.scad_slice.specs.Script.{done_line, plan_line};
 
 use gcode_text::push_hundred_thousandths;
-use itoa::Buffer;
 use slice_work::Summary;
 use std::alloc::{AllocError, Global};
+use text_scan::push_number;
 
 /// `done: N layers, L loops`
 #[tactic(auto, unfolding(crate::specs::Script::done_line))]
@@ -35,12 +35,4 @@ pub fn plan_line(alloc: Global, told: &Summary) -> Result<Vec<u8>, AllocError>
     push_hundred_thousandths(&mut line, u128::from(told.e))?;
     line.extend_from_slice(b"\n")?;
     Ok(line)
-}
-
-/// Writes a number in decimal.
-pub fn push_number(line: &mut Vec<u8>, number: u64) -> Result<(), AllocError>
-    ensures { OnOk result (line.new.items ≡ line.old.items ++ decimal number) }
-{
-    let mut buffer = Buffer::new();
-    line.extend_from_slice(buffer.format(number).as_bytes())
 }

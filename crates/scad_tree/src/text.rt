@@ -10,10 +10,10 @@ ghost use Rattle.scad_tree.specs.View.{solid_of, solids};
 use crate::node::Node;
 use crate::number::next;
 use crate::tree::Tree;
-use itoa::{Buffer, Integer};
 use scad_fault::Text;
 use scad_solid::Triangles;
 use std::alloc::{AllocError, Global};
+use text_scan::push_number;
 
 impl Tree {
     /// One line for each node: its name, a leaf's with its number in tree order and that of its triangles,
@@ -153,10 +153,4 @@ fn push_triangles_end(out: &mut Vec<u8>) -> Result<(), AllocError>
     ensures { OnOk result (out.new.items ≡ out.old.items ++ triangles_end) }
 {
     out.extend_from_slice(b" triangles")
-}
-
-fn push_number<I: Integer>(out: &mut Vec<u8>, n: I) -> Result<(), AllocError>
-    ensures { OnOk result (out.new.items ≡ out.old.items ++ I.text n) }
-{
-    out.extend_from_slice(Buffer::new().format(n).as_bytes())
 }

@@ -12,17 +12,17 @@ returns-in_err-extend_from_slice-2-clause-err c =
     on_err c.from_residual-in_err-extend_from_slice-2.result
     (begins_still command c.in_err-extend_from_slice-2.ensures.items)
 
-pub returns-in_err-push_unsigned-clause-err : goal.returns-in_err-push_unsigned-clause-err
-returns-in_err-push_unsigned-clause-err c =
+pub returns-in_err-push_number-clause-err : goal.returns-in_err-push_number-clause-err
+returns-in_err-push_number-clause-err c =
     let command = begins _ c.in_ok-extend_from_slice.ensures.items in
     let letter = begins_more _ command c.in_ok-extend_from_slice-2.ensures.items in
-    on_err c.from_residual-in_err-push_unsigned.result (begins_still letter c.in_err-push_unsigned.ensures.err)
+    on_err c.from_residual-in_err-push_number.result (begins_still letter c.in_err-push_number.ensures.err)
 
 pub returns-in_err-push-clause-err : goal.returns-in_err-push-clause-err
 returns-in_err-push-clause-err c =
     let command = begins _ c.in_ok-extend_from_slice.ensures.items in
     let letter = begins_more _ command c.in_ok-extend_from_slice-2.ensures.items in
-    let degrees = begins_more _ letter c.in_ok-push_unsigned.ensures.ok in
+    let degrees = begins_more _ letter c.in_ok-push_number.ensures.ok in
     on_err c.from_residual-in_err-push.result (begins_still degrees c.in_err-push.ensures.items)
 
 pub returns-clause-ok : goal.returns-clause-ok
@@ -34,4 +34,4 @@ returns-clause-ok c =
     behind before ((command ++ codes " S") ++ degrees) (codes "\n")
     (behind before (command ++ codes " S") degrees (behind before command (codes " S")
     c.in_ok-extend_from_slice.ensures.items c.in_ok-extend_from_slice-2.ensures.items)
-    c.in_ok-push_unsigned.ensures.ok) c.in_ok-push.ensures.items
+    c.in_ok-push_number.ensures.ok) c.in_ok-push.ensures.items

@@ -6,20 +6,20 @@ use Rattle.scad_base.proofs.Appends.{begins, begins_more, begins_still, behind}
 use Rattle.scad_base.proofs.Results.{on_err}
 use Rattle.gcode_text.proofs.word.push_layer_number.Goals as goal
 
-pub returns-in_err-push_unsigned-clause-err : goal.returns-in_err-push_unsigned-clause-err
-returns-in_err-push_unsigned-clause-err c =
+pub returns-in_err-push_number-clause-err : goal.returns-in_err-push_number-clause-err
+returns-in_err-push_number-clause-err c =
     let comment = begins _ c.in_ok-extend_from_slice.ensures.items in
-    on_err c.from_residual-in_err-push_unsigned.result (begins_still comment c.in_err-push_unsigned.ensures.err)
+    on_err c.from_residual-in_err-push_number.result (begins_still comment c.in_err-push_number.ensures.err)
 
 pub returns-in_err-push-clause-err : goal.returns-in_err-push-clause-err
 returns-in_err-push-clause-err c =
     let comment = begins _ c.in_ok-extend_from_slice.ensures.items in
-    let number = begins_more _ comment c.in_ok-push_unsigned.ensures.ok in
+    let number = begins_more _ comment c.in_ok-push_number.ensures.ok in
     on_err c.from_residual-in_err-push.result (begins_still number c.in_err-push.ensures.items)
 
 pub returns-clause-ok : goal.returns-clause-ok
 unfolding number_line
 returns-clause-ok c =
     behind c.args.out.now.items (codes "; layer ") _ c.in_ok-extend_from_slice.ensures.items
-    (behind c.extend_from_slice.new.self.items (decimal c.args.layer) (codes "\n") c.in_ok-push_unsigned.ensures.ok
+    (behind c.extend_from_slice.new.self.items (decimal c.args.layer) (codes "\n") c.in_ok-push_number.ensures.ok
     c.in_ok-push.ensures.items)
