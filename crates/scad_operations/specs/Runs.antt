@@ -1,6 +1,9 @@
 -- Ranges, and what `for` and `each` run over (OpenSCAD User Manual, "Ranges", "For Loop", "List Comprehensions").
-use Rattle.std.specs.Prelude.{ℕ, zero, suc, ◌+◌, ℤ, pos, ◌+ℤ◌, ◌-ℤ◌, int_lt, int_div, unsigned_abs, Bool, List, [], ◌∷◌, map, Option, Some, None, if◌then◌else◌}
+use Rattle.std.specs.Prelude.{ℕ, zero, suc, ◌+◌, ℤ, pos, ◌+ℤ◌, ◌-ℤ◌, int_lt, int_div, unsigned_abs, Bool, List, [], ◌∷◌, map, drop, Option, Some, None, if◌then◌else◌}
 use Rattle.scad_value.specs.Datum.{Datum, undef, boolean, number, string, vector, range, Elements, no_elements, element}
+use Rattle.scad_value.specs.View.{data_of}
+use Rattle.scad_operations.specs.declared.remainder.Remainder.{Remainder}
+use Rattle.scad_operations.specs.declared.remainder.Remainder.TheVariants.{Values, Numbers}
 
 -- so many numbers from the first one on, each a step after the one before
 abbrev pub numbers_from : ℤ → ℤ → ℕ → List Datum
@@ -44,6 +47,11 @@ items (number z) = number z ∷ []
 items (string chars) = map (λ c. string (c ∷ [])) chars
 items (vector all) = as_list all
 items (range start step end) = numbers_from start step (count_of_range start step end)
+
+-- the values that are left
+unfoldable pub left_in : Remainder → List Datum
+left_in (Values all next) = data_of (drop next all.items)
+left_in (Numbers next step end) = numbers_left next step end
 
 -- the ends of a range without a step, exchanged where the first is the greater
 abbrev pub range_of_ends : ℤ → ℤ → Datum

@@ -10,6 +10,7 @@ mod operation;
 mod operations;
 mod part;
 mod pieces;
+mod remainder;
 mod requirements;
 mod sequence;
 
@@ -19,5 +20,6 @@ pub use operation::{Bounds, Operation, operate};
 pub use operations::{binary_at, builtin_at, in_memory};
 pub use part::Part;
 pub use pieces::add_parts;
+pub use remainder::{Remainder, next_value, run_over};
 pub use requirements::{asserted, judge_named, judge_variables};
 pub use sequence::{items_of, next_number};
