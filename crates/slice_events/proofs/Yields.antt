@@ -14,7 +14,7 @@ use Rattle.slice_events.specs.Boxes.{boxes_meet}
 use Rattle.slice_events.specs.Collection.{levels_in}
 use Rattle.slice_events.specs.Stays.{at_home, edge_at, are_at_home}
 use Rattle.slice_events.specs.Pairs.{pairs}
-use Rattle.slice_events.specs.Yields.{Yield, nothing, and_then, yield_of, yield_at, yield_with, yield_of_first, yield_among, HasRoom, HasYielded, IsLeft}
+use Rattle.slice_events.specs.Yields.{Yield, nothing, and_then, yield_of, yield_at, yield_with, yield_among, HasRoom, HasYielded, IsLeft}
 use Rattle.slice_events.proofs.Pairs.{count-cons}
 
 pub left_first : (b : Found) (y : Yield) → IsLeft b b y y
@@ -68,13 +68,9 @@ pub with_more : (es : List Edge) (s : Stay) (ts : List Stay) (i : ℕ) (t : Stay
     → yield_with es s (drop i ts) ≡ and_then (yield_at es s (get_or ts i t)) (yield_with es s (drop (i + 1) ts))
 with_more es s ts i t l = at_drop_more (yield_with es s) ts i t l
 
-pub among_more : (es : List Edge) (ss : List Stay) (i : ℕ) → i < length ss
-    → yield_among es (drop i ss) ≡ and_then (yield_of_first es (drop i ss)) (yield_among es (drop (i + 1) ss))
-among_more es [] i l = absurd (omega arith)
-among_more es (s ∷ ss) i l =
-    at_drop_more (yield_among es) (s ∷ ss) i s l
-    ∙ ap (λ (y : Yield). and_then y (yield_among es (drop (i + 1) (s ∷ ss))))
-    (sym (at_drop_more (yield_of_first es) (s ∷ ss) i s l))
+pub among_more : (es : List Edge) (ss : List Stay) (i : ℕ) (s : Stay) → i < length ss
+    → yield_among es (drop i ss) ≡ and_then (yield_with es (get_or ss i s) (drop (i + 1) ss)) (yield_among es (drop (i + 1) ss))
+among_more es ss i s l = at_drop_more (yield_among es) ss i s l
 
 none_and : (y : Yield) → and_then nothing y ≡ y
 none_and y = λ i. record { tests = zero_plus y.tests i; count = zero_plus y.count i; levels = y.levels }

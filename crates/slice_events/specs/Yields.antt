@@ -41,11 +41,6 @@ abbrev pub yield_with : List Edge → Stay → List Stay → Yield
 yield_with es s [] = nothing
 yield_with es s (t ∷ ts) = and_then (yield_at es s t) (yield_with es s ts)
 
--- of the first of a list with all others
-abbrev pub yield_of_first : List Edge → List Stay → Yield
-yield_of_first es [] = nothing
-yield_of_first es (s ∷ ss) = yield_with es s ss
-
 -- of all pairs of a list
 abbrev pub yield_among : List Edge → List Stay → Yield
 yield_among es [] = nothing

@@ -4,7 +4,7 @@ ghost use Rattle.scad_geom.specs.Line.{low, high};
 ghost use Rattle.slice_events.specs.Lines.{edges_in};
 ghost use Rattle.slice_events.specs.Boxes.{left_end, right_end, boxes_meet};
 ghost use Rattle.slice_events.specs.Stays.{edge_at, IsStayOf, are_at_home, at_home, lies_past, AreInOrder};
-ghost use Rattle.slice_events.specs.Yields.{yield_at, yield_of_first, yield_with, yield_among, HasRoom, HasYielded};
+ghost use Rattle.slice_events.specs.Yields.{yield_at, yield_with, yield_among, HasRoom, HasYielded};
 
 use crate::comparison::{Found, compare};
 use crate::line::Line;
@@ -24,22 +24,9 @@ pub(crate) fn compare_all(
     ensures { OnOk result (HasYielded found.old found.new (yield_among (edges_in lines.now) stays.now)) }
 {
     'stays: for i in 0..stays.len() {
-        compare_first(found, lines, &stays[i..])?;
+        compare_with(found, lines, &stays[i], &stays[i + 1..])?;
     }
     Ok(())
-}
-
-// The first with all others.
-fn compare_first(found: &mut Found, lines: &[Line], stays: &[Stay]) -> Result<(), AllocError>
-    requires stays { All (IsStayOf (edges_in lines.now)) stays.now }
-    requires order { AreInOrder stays.now }
-    requires room { HasRoom found.old (yield_of_first (edges_in lines.now) stays.now) }
-    ensures { OnOk result (HasYielded found.old found.new (yield_of_first (edges_in lines.now) stays.now)) }
-{
-    match stays {
-        [] => Ok(()),
-        [s, later @ ..] => compare_with(found, lines, s, later),
-    }
 }
 
 // One with all later ones: none of another bucket, or past its right end, meets it.
