@@ -1,11 +1,12 @@
 -- Where the chains of all pieces go on as far as they can, their wholes are the merged pieces.
-use Rattle.std.proofs.Common.{◌≡◌, List, All, sym, subst}
+use Rattle.std.proofs.Common.{◌≡◌, ℕ, true, false, List, All, sym, subst}
 use Rattle.std.proofs.lemmas.Result.{IfOk-weaker}
 use Rattle.scad_geom.specs.Limits.{coordinate_limit}
 use Rattle.slice_snap.specs.declared.piece.Piece.{Piece}
 use Rattle.slice_snap.specs.Pieces.{IsPieceWithin, ArePiecesBalanced}
 use Rattle.slice_snap.specs.Merging.{AreMerged}
-use Rattle.slice_snap.specs.Chains.{wholes_of}
+use Rattle.slice_snap.specs.Chains.{HaveLengths, wholes_of}
+use Rattle.slice_snap.specs.EndOrder.{AreInOrder}
 use Rattle.slice_snap.proofs.Balance.{merging_keeps_balance}
 use Rattle.slice_snap.proofs.ChainLinks.{alone, all_merged}
 use Rattle.slice_snap.proofs.merging.merge.Goals as goal
@@ -32,3 +33,22 @@ returns-clause-balanced c =
     (λ v. ArePiecesBalanced c.args.pieces.now → ArePiecesBalanced v.items)
     (λ v h. merging_keeps_balance coordinate_limit c.args.pieces.now v.items c.requires.within h)
     (returns-clause-merged c)
+
+pub go_on-requires-clause-within : goal.go_on-requires-clause-within
+go_on-requires-clause-within c = c.requires.within
+
+pub go_on-requires-clause-levels : goal.go_on-requires-clause-levels
+go_on-requires-clause-levels c = c.requires.levels
+
+pub go_on-requires-clause-starts : goal.go_on-requires-clause-starts
+go_on-requires-clause-starts c =
+    subst (AreInOrder true c.args.pieces.now) (sym c.deref.ensures.value) c.in_ok-starts.ensures
+
+pub go_on-requires-clause-ends : goal.go_on-requires-clause-ends
+go_on-requires-clause-ends c =
+    subst (AreInOrder false c.args.pieces.now) (sym c.deref-in-pieces.ensures.value) c.in_ok-ends.ensures
+
+pub wholes-requires : goal.wholes-requires
+wholes-requires c =
+    let lengths = c.pieces.invariant.lengths in
+    subst (λ (n : ℕ). HaveLengths n c.pieces.chains) (sym lengths.wholes) lengths
