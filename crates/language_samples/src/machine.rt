@@ -4,10 +4,11 @@ ghost use Rattle.std.specs.Prelude.{◌≤◌};
 ghost use Rattle.scad_expr.specs.State.{step_limit};
 
 use scad_ast::{Item, Scope};
+use scad_bindings::bindings;
 use scad_expr::{DEPTH_LIMIT, EvalFault, Machine, eval};
 use scad_fault::{Budget, BudgetKind, Text};
 use scad_num::Num;
-use scad_scope::{Frames, bindings};
+use scad_scope::Frames;
 use scad_value::{Value, copy};
 use std::alloc::{AllocError, Global};
 

@@ -8,8 +8,8 @@ use Rattle.scad_ast.specs.Tree.{Expression, Arguments, no_arguments, argument, I
 use Rattle.scad_ast.specs.Tree.{Item, assignment, call_of, choice, module_of, function_of}
 use Rattle.scad_value.specs.Datum.{Datum, undef}
 use Rattle.scad_value.specs.Comparison.{truth}
-use Rattle.scad_scope.specs.Assignments.{bindings}
-use Rattle.scad_scope.specs.declared.binding.Binding.{Binding}
+use Rattle.scad_bindings.specs.Assignments.{bindings}
+use Rattle.scad_bindings.specs.declared.binding.Binding.{Binding}
 use Rattle.scad_scope.specs.Env.{Env, Children, no_children, children}
 use Rattle.scad_expr.specs.State.{Action}
 use Rattle.scad_expr.specs.Variables.{Bound, set, empty}

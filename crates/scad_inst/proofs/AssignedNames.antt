@@ -2,7 +2,7 @@
 use Rattle.std.proofs.Common.{◌≡◌, ℕ, ◌+◌, ◌<◌, ◌≤◌, List, [], ◌∷◌, length, get_or, drop, sym, ap, ◌∙◌}
 use Rattle.std.proofs.lemmas.List.{drop_more, drop_all}
 use Rattle.scad_ast.specs.Tree.{Items}
-use Rattle.scad_scope.specs.declared.binding.Binding.{Binding}
+use Rattle.scad_bindings.specs.declared.binding.Binding.{Binding}
 use Rattle.scad_scope.specs.Env.{Env}
 use Rattle.scad_machine.specs.declared.fault.EvalFault.{EvalFault}
 use Rattle.scad_expr.specs.State.{State, Outcome, gives, refuses, and_then, pure}

@@ -10,8 +10,8 @@ use Rattle.scad_expr.specs.Machine.{Held, env_in, along_in}
 use Rattle.scad_expr.specs.OpenFrames.{last_of, set_in_last, left, bound_in, opened_in}
 use Rattle.scad_expr.specs.Variables.{is_dollar, Bound, empty, within}
 use Rattle.scad_expr.specs.Variables.{set as set_name}
-use Rattle.scad_scope.specs.Assignments.{bindings}
-use Rattle.scad_scope.specs.declared.binding.Binding.{Binding}
+use Rattle.scad_bindings.specs.Assignments.{bindings}
+use Rattle.scad_bindings.specs.declared.binding.Binding.{Binding}
 use Rattle.scad_machine.specs.declared.fault.EvalFault.{EvalFault}
 use Rattle.scad_expr.specs.State.{State, gives, refuses, and_then, pure}
 use Rattle.scad_inst.specs.Frames.{below_of, scope_held, IsScope}

@@ -10,8 +10,8 @@ use Rattle.scad_fault.specs.declared.budget.BudgetKind.TheVariants.{Depth}
 use Rattle.scad_ast.specs.Tree.{Expression, Arguments, no_arguments, argument, Items, no_items, entry, Item, assignment, call_of, choice}
 use Rattle.scad_value.specs.Datum.{Datum, undef}
 use Rattle.scad_value.specs.Comparison.{truth}
-use Rattle.scad_scope.specs.Assignments.{bindings}
-use Rattle.scad_scope.specs.declared.binding.Binding.{Binding}
+use Rattle.scad_bindings.specs.Assignments.{bindings}
+use Rattle.scad_bindings.specs.declared.binding.Binding.{Binding}
 use Rattle.scad_scope.specs.Env.{Env, Children, no_children, children}
 use Rattle.scad_expr.specs.State.{Outcome, Action, pure, ◌>>=◌, ◌>>◌, fault_of, over, step, say, start, depth_limit}
 use Rattle.scad_expr.specs.Variables.{Bound, set, empty, first_env, first_along}

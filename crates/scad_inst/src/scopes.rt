@@ -4,7 +4,7 @@ ghost use Rattle.std.specs.Prelude.{◌≡◌, ◌∷◌, [], Some, IfOk, OnOk};
 ghost use Rattle.scad_ast.specs.Scope.{item_of, items};
 ghost use Rattle.scad_ast.specs.View.{expression_of};
 ghost use Rattle.scad_value.specs.View.{datum_of};
-ghost use Rattle.scad_scope.specs.Assignments.{bindings};
+ghost use Rattle.scad_bindings.specs.Assignments.{bindings};
 ghost use Rattle.scad_scope.specs.FrameStore.{env_at, envs};
 ghost use Rattle.scad_expr.specs.Answers.{Does};
 ghost use Rattle.scad_expr.specs.Machine.{held, env_in, along_in, state_of};
@@ -15,10 +15,10 @@ ghost use Rattle.scad_inst.specs.Scopes.{item_at};
 
 use crate::frames::{depth, go_back, go_deeper, open_frames};
 use scad_ast::{Expr, Item, Scope};
+use scad_bindings::{Binding, bindings};
 use scad_expr::{EvalFault, Machine, eval};
 use scad_fault::{BudgetKind, Place};
 use scad_machine::over;
-use scad_scope::{Binding, bindings};
 use scad_value::Value;
 use std::alloc::Global;
 

@@ -14,7 +14,7 @@ use Rattle.scad_value.specs.Datum.{Datum}
 use Rattle.scad_value.specs.View.{datum_of}
 use Rattle.scad_value.specs.declared.value.Value.{Value}
 use Rattle.scad_scope.specs.Names.{Names, is_same_name, place_in, value_of_name, with_name}
-use Rattle.scad_scope.specs.NamePlaces.{put_in, value_in}
+use Rattle.scad_bindings.specs.NamePlaces.{put_in, value_in}
 use Rattle.scad_scope.proofs.Few.{few-set, set-unplaced}
 use Rattle.scad_machine.specs.Arguments.{given_from, is_given, is_statement, statements}
 use Rattle.scad_machine.specs.Parameters.{parameter_names, shown, with_argument, unnamed_before_next}

@@ -2,8 +2,8 @@
 
 ghost use Rattle.std.specs.Prelude.{◌≡◌, ◌<◌, length, option_map, IfOk, IfSome};
 ghost use Rattle.scad_ast.specs.Scope.{item_of};
+ghost use Rattle.scad_scope.specs.Definitions.{word_of_kind};
 ghost use Rattle.scad_scope.specs.FrameStore.{env_at, envs};
-ghost use Rattle.scad_scope.specs.Tables.{word_in};
 ghost use Rattle.scad_scope.specs.View.{stored};
 ghost use Rattle.scad_machine.specs.Functions.{function_by, function_named};
 ghost use Rattle.scad_machine.specs.Lookup.{item_named};
@@ -32,7 +32,7 @@ fn item_from<'p>(
     name: &[u8],
 ) -> Result<Option<ItemAt<'p>>, AllocError>
     ensures found { IfOk result (λ r. option_map (item_found_at (envs (stored frames.old))) r
-        ≡ item_named (word_in kind) name.now (env_at (envs (stored frames.old)) from)) }
+        ≡ item_named (word_of_kind kind) name.now (env_at (envs (stored frames.old)) from)) }
     ensures there { IfOk result (λ r. IfSome r (λ i. i.home < length (stored frames.old))) }
     ensures same { stored frames.new ≡ stored frames.old }
 {
@@ -74,7 +74,7 @@ impl<'p> Machine<'p> {
     #[tactic(auto, unfolding(crate::specs::Machine::held, crate::specs::Machine::env_in, crate::specs::Machine::state_of))]
     pub fn item(&mut self, kind: Kind, name: &[u8]) -> Result<Option<ItemAt<'p>>, AllocError>
         ensures found { IfOk result (λ r. option_map (item_found_at (envs (held self.old).frames)) r
-            ≡ item_named (word_in kind) name.now (env_in (held self.old))) }
+            ≡ item_named (word_of_kind kind) name.now (env_in (held self.old))) }
         ensures there { IfOk result (λ r. IfSome r (λ i. i.home < length (held self.old).frames)) }
         ensures kept { held self.new ≡ held self.old }
         ensures state { state_of self.new ≡ state_of self.old }

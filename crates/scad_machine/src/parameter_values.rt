@@ -5,7 +5,7 @@ ghost use Rattle.scad_value.specs.View.{datum_of};
 ghost use Rattle.scad_scope.specs.Names.{place_in, with_name};
 ghost use Rattle.scad_machine.specs.Parameters.{shown};
 
-use scad_scope::NameMap;
+use scad_bindings::NameMap;
 use scad_value::Value;
 use std::alloc::{AllocError, Global};
 

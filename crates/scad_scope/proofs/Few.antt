@@ -6,7 +6,7 @@ use Rattle.scad_value.specs.declared.value.Value.{Value}
 use Rattle.scad_value.specs.View.{datum_of}
 use Rattle.scad_scope.specs.Names.{Names, is_same_name, place_in, value_of_name, with_name}
 use Rattle.scad_scope.specs.FrameNames.{named}
-use Rattle.scad_scope.specs.NamePlaces.{before}
+use Rattle.scad_bindings.specs.NamePlaces.{before}
 
 -- ---- a name that stands there
 set-placed : (name : List ℕ) (d : Datum) (xs more : Names) (q : List ℕ × Datum) → place_in name xs < length xs

@@ -2,11 +2,8 @@ pub mod Few
 pub mod Finding
 pub mod HeldNames
 pub mod Listing
-pub mod NamePlaces
-pub mod Notes
 pub mod OnLiterals
 pub mod Outwards
 pub mod ListedValues
 pub mod FoundSlots
-pub mod Rows
 pub mod Tables

@@ -4,7 +4,7 @@ use Rattle.std.specs.Prelude.{nat_lt, is_some, not}
 use Rattle.std.specs.List.{prefix_len}
 use Rattle.std.proofs.lemmas.List.{length-map, map-append}
 use Rattle.scad_scope.specs.Names.{is_same_name}
-use Rattle.scad_scope.specs.NamePlaces.{before, place_in}
+use Rattle.scad_bindings.specs.NamePlaces.{before, place_in}
 use Rattle.scad_scope.specs.Listing.{Listing, place_of, with_listed}
 
 -- the names of words in memory

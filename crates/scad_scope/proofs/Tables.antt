@@ -13,8 +13,8 @@ use Rattle.scad_ast.specs.Scope.{item_of, body_of, items}
 use Rattle.scad_ast.specs.Tree.{Item as TreeItem}
 use Rattle.scad_ast.proofs.ScopeRows.{module_view}
 use Rattle.scad_scope.specs.Names.{is_same_name}
-use Rattle.scad_scope.specs.NamePlaces.{value_in}
-use Rattle.scad_scope.specs.Notes.{Places, with_place, noted, noted_all, placed}
+use Rattle.scad_bindings.specs.NamePlaces.{value_in}
+use Rattle.scad_bindings.specs.Notes.{Places, with_place, noted, noted_all, placed}
 use Rattle.scad_scope.specs.Definitions.{function_word, module_word, is_word, last_item}
 use Rattle.scad_scope.specs.Tables.{words_by, tabled, place_of, item_at, item_by}
 

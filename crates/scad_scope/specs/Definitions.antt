@@ -2,6 +2,8 @@
 -- holds in the whole scope, and the last definition of a name counts.
 use Rattle.std.specs.Prelude.{ℕ, Bool, false, List, Option, Some, None, if◌then◌else◌}
 use Rattle.scad_ast.specs.Tree.{Item, function_of, module_of, Items, no_items, entry}
+use Rattle.scad_scope.specs.declared.kind.Kind.{Kind}
+use Rattle.scad_scope.specs.declared.kind.Kind.TheVariants.{Function, Module}
 use Rattle.scad_scope.specs.Names.{is_same_name}
 
 -- the name of the function that an item defines, where it defines one
@@ -13,6 +15,11 @@ function_word _ = None
 abbrev pub module_word : Item → Option (List ℕ)
 module_word (module_of at word parameters body) = Some word
 module_word _ = None
+
+-- the name that an item defines, among those of a kind
+abbrev pub word_of_kind : Kind → Item → Option (List ℕ)
+word_of_kind Function = function_word
+word_of_kind Module = module_word
 
 -- whether it is this name
 abbrev pub is_word : List ℕ → Option (List ℕ) → Bool

@@ -1,13 +1,10 @@
-pub mod Assignments
 pub mod Chain
 pub mod Definitions
 pub mod Env
 pub mod NameSearch
 pub mod FrameNames
 pub mod Listing
-pub mod NamePlaces
 pub mod Names
-pub mod Notes
 pub mod ListedValues
 pub mod Slots
 pub mod FrameStore

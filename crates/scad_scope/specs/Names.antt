@@ -1,11 +1,7 @@
 -- Names with their values: the values of variables in one frame.
-use Rattle.std.specs.Prelude.{ℕ, suc, Bool, List, [], ◌∷◌, Option, Some, None, if◌then◌else◌, nat_eq}
-use Rattle.std.specs.Cmp.Lexicographic.{pointwise}
+use Rattle.std.specs.Prelude.{ℕ, suc, List, [], ◌∷◌, Option, Some, None, if◌then◌else◌}
 use Rattle.scad_value.specs.Datum.{Datum}
-
--- byte for byte
-abbrev pub is_same_name : List ℕ → List ℕ → Bool
-is_same_name a b = pointwise nat_eq a b
+pub use Rattle.scad_bindings.specs.Names.{is_same_name}
 
 -- each name with its value, in the order in which the names were first set
 abbrev pub Names : Type 0

@@ -4,16 +4,8 @@ use Rattle.scad_ast.specs.declared.statement.Item.{Item}
 use Rattle.scad_ast.specs.Scope.{item_of}
 use Rattle.scad_ast.specs.Tree.{Items, no_items, entry}
 use Rattle.scad_ast.specs.Tree.{Item as TreeItem}
-use Rattle.scad_scope.specs.declared.kind.Kind.{Kind}
-use Rattle.scad_scope.specs.declared.kind.Kind.TheVariants.{Function, Module}
-use Rattle.scad_scope.specs.Definitions.{function_word, module_word}
 use Rattle.scad_scope.specs.Names.{is_same_name}
-use Rattle.scad_scope.specs.Notes.{Places, noted_all}
-
--- the name that an item defines, among those of a kind
-abbrev pub word_in : Kind → TreeItem → Option (List ℕ)
-word_in Function = function_word
-word_in Module = module_word
+use Rattle.scad_bindings.specs.Notes.{Places, noted_all}
 
 -- of each item of a scope the name that it defines
 abbrev pub words_by : (TreeItem → Option (List ℕ)) → Items → List (Option (List ℕ))

@@ -2,19 +2,19 @@
 
 ghost use Rattle.std.specs.Prelude.{◌≡◌, None, IfOk, OnOk, map, option_map};
 ghost use Rattle.scad_ast.specs.Scope.{item_of, items};
-ghost use Rattle.scad_scope.specs.Definitions.{defining, last_item};
-ghost use Rattle.scad_scope.specs.Notes.{noted, placed};
-ghost use Rattle.scad_scope.specs.Tables.{word_in, tabled, item_by};
+ghost use Rattle.scad_scope.specs.Definitions.{defining, last_item, word_of_kind};
+ghost use Rattle.scad_bindings.specs.Notes.{noted, placed};
+ghost use Rattle.scad_scope.specs.Tables.{tabled, item_by};
 
 use crate::kind::Kind;
-use crate::name_map::NameMap;
 use scad_ast::{Item, Scope};
+use scad_bindings::NameMap;
 use std::alloc::{AllocError, Global};
 
 /// The name that an item defines, where it is of the kind.
 #[tactic(auto, using(crate::proofs::Tables::words))]
 fn word_of<'p>(kind: Kind, item: &'p Item) -> Option<&'p [u8]>
-    ensures { option_map (λ w. w.now) result ≡ word_in kind (item_of item.now) }
+    ensures { option_map (λ w. w.now) result ≡ word_of_kind kind (item_of item.now) }
 {
     match item {
         Item::Function(word, _, _, _) => match kind {
@@ -37,7 +37,7 @@ fn defining<'p>(
     item: &'p Item,
     other: Option<&'p Item>,
 ) -> Option<&'p Item>
-    ensures { option_map (λ i. item_of i.now) result ≡ defining (word_in kind) name.now
+    ensures { option_map (λ i. item_of i.now) result ≡ defining (word_of_kind kind) name.now
         (item_of item.now) (option_map (λ i. item_of i.now) other.entry) }
 {
     match word_of(kind, item) {
@@ -47,10 +47,10 @@ fn defining<'p>(
 }
 
 /// The last item of a scope that defines the name.
-#[tactic(auto, using(crate::proofs::Rows::rest))]
+#[tactic(auto, using(scad_bindings::proofs::Rows::rest))]
 pub fn last_item<'p>(kind: Kind, name: &[u8], scope: &'p Scope) -> Option<&'p Item>
     ensures { option_map (λ i. item_of i.now) result
-        ≡ last_item (word_in kind) name.now None (items scope.now.items) }
+        ≡ last_item (word_of_kind kind) name.now None (items scope.now.items) }
 {
     let mut found = None;
     'items: for item in scope {
@@ -60,7 +60,7 @@ pub fn last_item<'p>(kind: Kind, name: &[u8], scope: &'p Scope) -> Option<&'p It
 }
 
 /// Notes the item at a place: where it defines a name, it is the last one to define it so far.
-#[tactic(auto, using(crate::proofs::Notes::placed_put))]
+#[tactic(auto, using(scad_bindings::proofs::Notes::placed_put))]
 fn note<'p>(
     kind: Kind,
     item: &'p Item,
@@ -68,7 +68,7 @@ fn note<'p>(
     rows: &mut NameMap<'p, usize>,
 ) -> Result<(), AllocError>
     ensures { OnOk result (map placed rows.new
-        ≡ noted (map placed rows.old) place (word_in kind (item_of item.now))) }
+        ≡ noted (map placed rows.old) place (word_of_kind kind (item_of item.now))) }
 {
     if let Some(word) = word_of(kind, item) {
         rows.put(word, place)?;
@@ -77,14 +77,14 @@ fn note<'p>(
 }
 
 /// The names that a scope defines, each with the place of the item that defines it last.
-#[tactic(auto, using(crate::proofs::Rows::rest))]
+#[tactic(auto, using(scad_bindings::proofs::Rows::rest))]
 pub fn rows_of<'p>(
     alloc: Global,
     kind: Kind,
     scope: &'p Scope,
 ) -> Result<NameMap<'p, usize>, AllocError>
     ensures { IfOk result (λ rows. map placed rows
-        ≡ tabled (word_in kind) (items scope.now.items)) }
+        ≡ tabled (word_of_kind kind) (items scope.now.items)) }
 {
     let mut rows = NameMap::new(alloc);
     let mut place = 0;

@@ -23,12 +23,11 @@ impl<'p> Frame<'p> {
     ghost use Rattle.scad_ast.specs.Scope.{item_of};
     ghost use Rattle.scad_value.specs.View.{datum_of};
     ghost use Rattle.scad_scope.specs.Chain.{names_held};
-    ghost use Rattle.scad_scope.specs.Definitions.{item_in};
+    ghost use Rattle.scad_scope.specs.Definitions.{item_in, word_of_kind};
     ghost use Rattle.scad_scope.specs.Listing.{Listing};
     ghost use Rattle.scad_scope.specs.Names.{value_of_name};
     ghost use Rattle.scad_scope.specs.Slots.{slots_from};
     ghost use Rattle.scad_scope.specs.FrameStore.{with_name_in};
-    ghost use Rattle.scad_scope.specs.Tables.{word_in};
     ghost use Rattle.scad_scope.specs.View.{frame_listed, frame_stored};
 
     /// Sets the name.
@@ -83,7 +82,7 @@ impl<'p> Frame<'p> {
         name: &[u8],
     ) -> Result<Option<&'p Item>, AllocError>
         ensures found { IfOk result (λ r. option_map (λ i. item_of i.now) r
-            ≡ item_in (word_in kind) name.now (frame_stored self.old).scope) }
+            ≡ item_in (word_of_kind kind) name.now (frame_stored self.old).scope) }
         ensures same { frame_stored self.new ≡ frame_stored self.old }
         ensures listed { frame_listed self.new ≡ frame_listed self.old }
     {

@@ -27,12 +27,11 @@ impl<'p> Frames<'p> {
     ghost use Rattle.scad_ast.specs.Scope.{item_of, items};
     ghost use Rattle.scad_value.specs.View.{datum_of};
     ghost use Rattle.scad_scope.specs.Chain.{names_at, HoldNames};
-    ghost use Rattle.scad_scope.specs.Definitions.{item_in};
+    ghost use Rattle.scad_scope.specs.Definitions.{item_in, word_of_kind};
     ghost use Rattle.scad_scope.specs.Env.{sought};
     ghost use Rattle.scad_scope.specs.Listing.{Listing};
     ghost use Rattle.scad_scope.specs.Slots.{slots_of};
     ghost use Rattle.scad_scope.specs.FrameStore.{pushed, stored_at, with_name_in_last, env_at, envs};
-    ghost use Rattle.scad_scope.specs.Tables.{word_in};
     ghost use Rattle.scad_scope.specs.View.{listed, stored, children_stored};
 
     /// No frames. It takes no memory.
@@ -197,7 +196,7 @@ impl<'p> Frames<'p> {
     #[tactic(auto, using(crate::proofs::Outwards::writes), unfolding(crate::specs::View::stored, crate::specs::View::listed))]
     pub fn item(&mut self, at: u32, kind: Kind, name: &[u8]) -> Result<Option<&'p Item>, AllocError>
         ensures found { IfOk result (λ r. option_map (λ i. item_of i.now) r
-            ≡ item_in (word_in kind) name.now (stored_at (stored self.old) at).scope) }
+            ≡ item_in (word_of_kind kind) name.now (stored_at (stored self.old) at).scope) }
         ensures same { stored self.new ≡ stored self.old }
         ensures listed { listed self.new ≡ listed self.old }
     {

@@ -18,7 +18,7 @@ impl Model for FurtherNames {
     ghost use Rattle.scad_value.specs.declared.value.Value.{Value as Held};
     ghost use Rattle.scad_value.specs.contracts.value.Value as held;
     ghost use Rattle.std.specs.Coded.{codes};
-    ghost use Rattle.scad_scope.specs.NamePlaces.{HasPlaces};
+    ghost use Rattle.scad_bindings.specs.NamePlaces.{HasPlaces};
 
     ghost Value = { List (Vec ℕ Global × Held) };
 

@@ -24,8 +24,7 @@ pub enum Home<'p> {
 impl<'p> Home<'p> {
     ghost use Rattle.std.specs.Prelude.{◌≡◌, option_map};
     ghost use Rattle.scad_ast.specs.Scope.{item_of, items};
-    ghost use Rattle.scad_scope.specs.Definitions.{item_in};
-    ghost use Rattle.scad_scope.specs.Tables.{word_in};
+    ghost use Rattle.scad_scope.specs.Definitions.{item_in, word_of_kind};
     ghost use Rattle.scad_scope.specs.View.{scope_in};
 
     /// The home of a scope, where there is one. It takes no memory.
@@ -66,7 +65,7 @@ impl<'p> Home<'p> {
 
     /// The item that the name means.
     pub fn item(&self, kind: Kind, name: &[u8]) -> Option<&'p Item>
-        ensures { option_map (λ i. item_of i.now) result ≡ item_in (word_in kind) name.now (scope_in self.now) }
+        ensures { option_map (λ i. item_of i.now) result ≡ item_in (word_of_kind kind) name.now (scope_in self.now) }
     {
         match self {
             Home::Unscoped => None,

@@ -15,7 +15,7 @@ pub struct Names {
 impl Model for Names {
     ghost use Rattle.std.specs.Prelude.{map};
     ghost use Rattle.scad_scope.specs.Listing.{Listing};
-    ghost use Rattle.scad_scope.specs.NamePlaces.{HasPlaces};
+    ghost use Rattle.scad_bindings.specs.NamePlaces.{HasPlaces};
 
     ghost Value = { Listing };
 

@@ -3,13 +3,13 @@
 ghost use Rattle.std.specs.Prelude.{◌≡◌, map};
 ghost use Rattle.scad_ast.specs.Scope.{items};
 ghost use Rattle.scad_scope.specs.Definitions.{function_word, module_word};
-ghost use Rattle.scad_scope.specs.Notes.{placed};
+ghost use Rattle.scad_bindings.specs.Notes.{placed};
 ghost use Rattle.scad_scope.specs.Tables.{tabled};
 
 use crate::entries::{item_by, rows_of};
 use crate::kind::Kind;
-use crate::name_map::NameMap;
 use scad_ast::{Item, Scope};
+use scad_bindings::NameMap;
 use std::alloc::{AllocError, Global};
 
 /// A scope, and for each name that it defines the place of the item that defines it last.
@@ -25,8 +25,7 @@ pub struct Table<'p> {
 impl<'p> Table<'p> {
     ghost use Rattle.std.specs.Prelude.{IfOk, None, option_map};
     ghost use Rattle.scad_ast.specs.Scope.{item_of};
-    ghost use Rattle.scad_scope.specs.Definitions.{last_item};
-    ghost use Rattle.scad_scope.specs.Tables.{word_in};
+    ghost use Rattle.scad_scope.specs.Definitions.{last_item, word_of_kind};
 
     /// The tables of a scope.
     pub fn of(alloc: Global, scope: &'p Scope) -> Result<Table<'p>, AllocError>
@@ -52,7 +51,7 @@ impl<'p> Table<'p> {
     #[tactic(auto, using(crate::proofs::Tables::found))]
     pub fn item(&self, kind: Kind, name: &[u8]) -> Option<&'p Item>
         ensures { option_map (λ i. item_of i.now) result
-            ≡ last_item (word_in kind) name.now None (items self.now.scope.now.items) }
+            ≡ last_item (word_of_kind kind) name.now None (items self.now.scope.now.items) }
     {
         match kind {
             Kind::Function => item_by(self.scope, &self.functions, name),

@@ -1,6 +1,6 @@
 use Rattle.std.proofs.Common.{ap, ◌∙◌, map}
-use Rattle.scad_scope.specs.Notes.{noted, placed}
-use Rattle.scad_scope.proofs.Notes.{placed_put}
+use Rattle.scad_bindings.specs.Notes.{noted, placed}
+use Rattle.scad_bindings.proofs.Notes.{placed_put}
 use Rattle.scad_scope.proofs.entries.note.Goals as goal
 
 pub returns-in_ok-put : goal.returns-in_ok-put

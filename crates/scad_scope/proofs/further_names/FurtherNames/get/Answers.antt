@@ -1,7 +1,7 @@
 use Rattle.std.proofs.Common.{map, ap, ◌∙◌, arith}
 use Rattle.scad_scope.specs.Names.{value_of_name}
 use Rattle.scad_scope.specs.FrameNames.{named}
-use Rattle.scad_scope.proofs.NamePlaces.{place-told, place-untold}
+use Rattle.scad_bindings.proofs.NamePlaces.{place-told, place-untold}
 use Rattle.scad_scope.proofs.Few.{word_of, further-value, further-none}
 use Rattle.scad_scope.proofs.further_names.FurtherNames.get.Goals as goal
 

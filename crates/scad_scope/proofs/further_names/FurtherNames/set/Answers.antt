@@ -1,9 +1,9 @@
 use Rattle.std.proofs.Common.{[], ◌∷◌, ◌++◌, map, refl, sym, ap, ◌∙◌, arith}
 use Rattle.scad_value.specs.View.{datum_of}
 use Rattle.scad_scope.specs.Names.{with_name}
-use Rattle.scad_scope.specs.NamePlaces.{before}
+use Rattle.scad_bindings.specs.NamePlaces.{before}
 use Rattle.scad_scope.specs.FrameNames.{named}
-use Rattle.scad_scope.proofs.NamePlaces.{word_in, place-told, place-untold, place-set, places-more}
+use Rattle.scad_bindings.proofs.NamePlaces.{word_in, place-told, place-untold, place-set, places-more}
 use Rattle.scad_scope.proofs.Few.{word_of, further-set, further-push}
 use Rattle.scad_scope.proofs.further_names.FurtherNames.set.Goals as goal
 

@@ -1,7 +1,7 @@
 use Rattle.std.proofs.Common.{[], ◌∷◌, ◌++◌, is_some, sym, ap, ◌∙◌}
 use Rattle.scad_scope.specs.Listing.{with_listed}
-use Rattle.scad_scope.specs.NamePlaces.{before, place_in}
-use Rattle.scad_scope.proofs.NamePlaces.{word_in, place-unfound, places-more}
+use Rattle.scad_bindings.specs.NamePlaces.{before, place_in}
+use Rattle.scad_bindings.proofs.NamePlaces.{word_in, place-unfound, places-more}
 use Rattle.scad_scope.proofs.Listing.{words, word-there, word-last}
 use Rattle.scad_scope.proofs.names.Names.add.Goals as goal
 

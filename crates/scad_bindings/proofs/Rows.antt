@@ -4,7 +4,7 @@ use Rattle.std.proofs.lemmas.List.{drop_more, drop_all}
 use Rattle.scad_ast.specs.declared.statement.Item.{Item}
 use Rattle.scad_ast.specs.Scope.{item_of, items}
 use Rattle.scad_ast.specs.Tree.{no_items, entry}
-use Rattle.scad_scope.specs.Assignments.{assigned, assigned_by}
+use Rattle.scad_bindings.specs.Assignments.{assigned, assigned_by}
 
 -- what the items of a list assign
 abbrev pub assigned_in : List Item → List (Option (List ℕ))

@@ -20,7 +20,7 @@ pub struct Bindings {
 
 impl Model for Bindings {
     ghost use Rattle.std.specs.Prelude.{List};
-    ghost use Rattle.scad_scope.specs.declared.binding.Binding.{Binding};
+    ghost use Rattle.scad_bindings.specs.declared.binding.Binding.{Binding};
 
     ghost Value = { List Binding };
 

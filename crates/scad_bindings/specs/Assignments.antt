@@ -2,8 +2,8 @@
 -- name gives its value.
 use Rattle.std.specs.Prelude.{ℕ, ◌+◌, Bool, not, List, [], ◌∷◌, filter, map, Option, Some, None, if◌then◌else◌}
 use Rattle.scad_ast.specs.Tree.{Item, assignment, Items, no_items, entry}
-use Rattle.scad_scope.specs.declared.binding.Binding.{Binding}
-use Rattle.scad_scope.specs.Names.{is_same_name}
+use Rattle.scad_bindings.specs.declared.binding.Binding.{Binding}
+use Rattle.scad_bindings.specs.Names.{is_same_name}
 
 -- the name that an item assigns, where it is an assignment
 abbrev pub assigned : Item → Option (List ℕ)

@@ -1,7 +1,7 @@
 use Rattle.std.proofs.Common.{get_or, Some, ap, ◌∙◌, arith}
-use Rattle.scad_scope.specs.NamePlaces.{value_in}
-use Rattle.scad_scope.proofs.NamePlaces.{name_in, place-told, place-untold, value-there, value-none}
-use Rattle.scad_scope.proofs.name_map.NameMap.get.Goals as goal
+use Rattle.scad_bindings.specs.NamePlaces.{value_in}
+use Rattle.scad_bindings.proofs.NamePlaces.{name_in, place-told, place-untold, value-there, value-none}
+use Rattle.scad_bindings.proofs.name_map.NameMap.get.Goals as goal
 
 pub index-requires : goal.index-requires
 index-requires g c =

@@ -2,7 +2,7 @@
 use Rattle.std.specs.Prelude.{◌≡◌, ℕ, suc, List, [], ◌∷◌, length, Option, Some, None, if◌then◌else◌, nat_lt}
 use Rattle.std.specs.Borrow.{Bor}
 use Rattle.std.specs.HashMap.{HashMap, get_by}
-use Rattle.scad_scope.specs.Names.{is_same_name}
+use Rattle.scad_bindings.specs.Names.{is_same_name}
 
 module _ {V : Type 0} where
   -- a name that is there takes the value, another one goes last with it

@@ -1,8 +1,8 @@
 use Rattle.std.proofs.Common.{ℕ, List, [], ◌∷◌, ◌++◌, get_or, Bor, refl, ap, sym, ◌∙◌, arith}
 use Rattle.std.specs.Prelude.{slice_set}
-use Rattle.scad_scope.specs.NamePlaces.{put_in, place_in}
-use Rattle.scad_scope.proofs.NamePlaces.{name_in, lent_name, place-told, place-untold, places-more, place-kept, put-there, put-last}
-use Rattle.scad_scope.proofs.name_map.NameMap.put.Goals as goal
+use Rattle.scad_bindings.specs.NamePlaces.{put_in, place_in}
+use Rattle.scad_bindings.proofs.NamePlaces.{name_in, lent_name, place-told, place-untold, places-more, place-kept, put-there, put-last}
+use Rattle.scad_bindings.proofs.name_map.NameMap.put.Goals as goal
 
 pub index_mut-requires : goal.index_mut-requires
 index_mut-requires g c =

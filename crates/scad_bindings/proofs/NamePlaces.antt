@@ -6,8 +6,8 @@ use Rattle.std.proofs.lemmas.Bool.{ltb-true, ltb-false, lt-ltb, false_from_ne_tr
 use Rattle.std.specs.HashMap.{HashMap, get_by, UpdatesBy}
 use Rattle.std.specs.Map.{KeepsOthers}
 use Rattle.std.proofs.lemmas.List.{length-append, length-set}
-use Rattle.scad_scope.specs.Names.{is_same_name}
-use Rattle.scad_scope.specs.NamePlaces.{put_in, value_in, before, place_in, HasPlaces}
+use Rattle.scad_bindings.specs.Names.{is_same_name}
+use Rattle.scad_bindings.specs.NamePlaces.{put_in, value_in, before, place_in, HasPlaces}
 
 same_turned : (a b : List ℕ) → is_same_name a b ≡ is_same_name b a
 same_turned a b = nat_list_eq_equiv.symm a b

@@ -4,11 +4,11 @@ use Rattle.std.specs.Borrow.{Bor}
 use Rattle.std.specs.Cmp.Lexicographic.{nat_list_eq_equiv, bytes_decides}
 use Rattle.std.proofs.lemmas.Bool.{or_parts}
 use Rattle.scad_ast.specs.Tree.{Items}
-use Rattle.scad_scope.specs.declared.binding.Binding.{Binding}
-use Rattle.scad_scope.specs.Names.{is_same_name}
-use Rattle.scad_scope.specs.NamePlaces.{put_in}
-use Rattle.scad_scope.specs.Notes.{Places, with_place, noted_all, placed, as_binding}
-use Rattle.scad_scope.specs.Assignments.{assigned_by, differs_from, first_assigned, last_place, binding, bindings}
+use Rattle.scad_bindings.specs.declared.binding.Binding.{Binding}
+use Rattle.scad_bindings.specs.Names.{is_same_name}
+use Rattle.scad_bindings.specs.NamePlaces.{put_in}
+use Rattle.scad_bindings.specs.Notes.{Places, with_place, noted_all, placed, as_binding}
+use Rattle.scad_bindings.specs.Assignments.{assigned_by, differs_from, first_assigned, last_place, binding, bindings}
 use Rattle.std.proofs.lemmas.List.{append-nil}
 
 abbrev has : List ℕ → Places → Bool

@@ -15,7 +15,7 @@ pub struct NameMap<'p, V: Drop> {
 impl<'p, V: Drop> Model for NameMap<'p, V> {
     ghost use Rattle.std.specs.Prelude.{List, ℕ};
     ghost use Rattle.std.specs.Borrow.{Bor};
-    ghost use Rattle.scad_scope.specs.NamePlaces.{HasPlaces};
+    ghost use Rattle.scad_bindings.specs.NamePlaces.{HasPlaces};
 
     ghost Value = { List (Bor (List ℕ) × V) };
 
@@ -26,7 +26,7 @@ impl<'p, V: Drop> Model for NameMap<'p, V> {
 
 impl<'p, V: Drop> NameMap<'p, V> {
     ghost use Rattle.std.specs.Prelude.{◌≡◌, [], option_copied, is_some, length, OnOk, OnErr};
-    ghost use Rattle.scad_scope.specs.NamePlaces.{put_in, value_in};
+    ghost use Rattle.scad_bindings.specs.NamePlaces.{put_in, value_in};
 
     /// No names. They take no memory.
     pub fn new(alloc: Global) -> NameMap<'p, V>

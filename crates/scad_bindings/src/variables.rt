@@ -2,8 +2,8 @@
 
 ghost use Rattle.std.specs.Prelude.{◌≡◌, IfOk, OnOk, map};
 ghost use Rattle.scad_ast.specs.Scope.{item_of, items};
-ghost use Rattle.scad_scope.specs.Assignments.{assigned, bindings};
-ghost use Rattle.scad_scope.specs.Notes.{noted, placed, as_binding};
+ghost use Rattle.scad_bindings.specs.Assignments.{assigned, bindings};
+ghost use Rattle.scad_bindings.specs.Notes.{noted, placed, as_binding};
 
 use crate::binding::{Binding, Bindings};
 use crate::name_map::NameMap;

@@ -1,9 +1,9 @@
 use Rattle.std.proofs.Common.{ap, sym, ◌∙◌, map}
 use Rattle.scad_ast.specs.Scope.{item_of}
-use Rattle.scad_scope.specs.Assignments.{assigned}
-use Rattle.scad_scope.specs.Notes.{with_place, noted, placed}
-use Rattle.scad_scope.proofs.Notes.{placed_put}
-use Rattle.scad_scope.proofs.variables.note.Goals as goal
+use Rattle.scad_bindings.specs.Assignments.{assigned}
+use Rattle.scad_bindings.specs.Notes.{with_place, noted, placed}
+use Rattle.scad_bindings.proofs.Notes.{placed_put}
+use Rattle.scad_bindings.proofs.variables.note.Goals as goal
 
 pub returns-in_ok-put : goal.returns-in_ok-put
 returns-in_ok-put c =

@@ -1,8 +1,8 @@
 -- Names noted one by one, each with the place of its last assignment so far.
 use Rattle.std.specs.Prelude.{ℕ, ◌+◌, List, [], ◌∷◌, Option, Some, None, if◌then◌else◌}
 use Rattle.std.specs.Borrow.{Bor}
-use Rattle.scad_scope.specs.declared.binding.Binding.{Binding}
-use Rattle.scad_scope.specs.Names.{is_same_name}
+use Rattle.scad_bindings.specs.declared.binding.Binding.{Binding}
+use Rattle.scad_bindings.specs.Names.{is_same_name}
 
 -- each name with a place
 abbrev pub Places : Type 0

@@ -1,0 +1,3 @@
+pub mod NamePlaces
+pub mod Notes
+pub mod Rows
