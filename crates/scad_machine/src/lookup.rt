@@ -93,15 +93,12 @@ impl<'p> Machine<'p> {
         ensures state { state_of self.new ≡ state_of self.old }
         ensures same { self.new.steps_left ≡ self.old.steps_left }
     {
-        match self.item(Kind::Function, name)? {
-            Some(found) => match function_by(found.item) {
-                Some(function) => Ok(Some(DefinedAt {
-                    function,
-                    home: found.home,
-                })),
-                None => Ok(None),
-            },
-            None => Ok(None),
-        }
+        let Some(ItemAt { item, home }) = self.item(Kind::Function, name)? else {
+            return Ok(None);
+        };
+        let Some(function) = function_by(item) else {
+            return Ok(None);
+        };
+        Ok(Some(DefinedAt { function, home }))
     }
 }

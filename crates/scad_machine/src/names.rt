@@ -25,17 +25,6 @@ pub fn is_dollar(name: &[u8]) -> bool
     }
 }
 
-/// A copy of what was found, or `undef`.
-#[inline(always)]
-fn copied(alloc: Global, found: Option<&Value>) -> Result<Value, EvalFault>
-    ensures { (s : State) → Does datum_of (gives (or_undef (option_map (λ v. datum_of v.now) found.entry)) s) result s }
-{
-    match found {
-        Some(value) => Ok(copy(alloc, value)?),
-        None => Ok(Value::Undef),
-    }
-}
-
 /// Whether every argument has a name.
 #[tactic(auto, using(scad_value::proofs::Lists::lists))]
 pub fn are_named(args: &[Arg]) -> bool
@@ -71,6 +60,9 @@ impl<'p> Machine<'p> {
         ensures { (s : State) → Does datum_of (gives
             (variable name.now (env_in (held self.now)) (along_in (held self.now))) s) result s }
     {
-        copied(alloc, self.seek(name))
+        match self.seek(name) {
+            Some(value) => Ok(copy(alloc, value)?),
+            None => Ok(Value::Undef),
+        }
     }
 }
