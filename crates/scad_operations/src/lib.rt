@@ -22,4 +22,4 @@ pub use part::Part;
 pub use pieces::add_parts;
 pub use remainder::{Remainder, next_value, run_over};
 pub use requirements::{asserted, judge_named, judge_variables};
-pub use sequence::{items_of, next_number};
+pub use sequence::next_number;

@@ -103,7 +103,7 @@ fn add_values(out: &mut Vec<Value>, part: Part) -> Result<(), AllocError>
 pub(crate) fn values_of(alloc: Global, found: Vec<Part>) -> Result<Vec<Value>, AllocError>
     ensures { IfOk result (λ all. MakeAlike (data_in all) (parts_in found)) }
 {
-    let mut out = Vec::new(alloc);
+    let mut out = Vec::with_capacity(alloc, found.len())?;
     'parts: for part in found {
         add_values(&mut out, part)?;
     }

@@ -112,7 +112,7 @@ fn add(alloc: Global, out: &mut Vec<Value>, value: &Value) -> Result<(), AllocEr
 }
 
 /// What `for` runs over.
-pub fn items_of(alloc: Global, value: &Value) -> Result<Vec<Value>, AllocError>
+pub(crate) fn items_of(alloc: Global, value: &Value) -> Result<Vec<Value>, AllocError>
     ensures { IfOk result (λ all. data_in all ≡ items (datum_of value.now)) }
 {
     let mut all = Vec::new(alloc);
