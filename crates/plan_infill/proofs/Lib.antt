@@ -4,6 +4,7 @@ pub mod Parts
 pub mod Steps
 pub mod Nearer
 pub mod RowReach
+mod Places
 pub mod StepOrder
 pub mod Edges
 pub mod Stretches
