@@ -1,10 +1,11 @@
 -- Places and tests on them as numbers of 128 bits.
-use Rattle.std.proofs.Common.{◌≡◌, ℕ, ◌+◌, ◌^◌, ◌<◌, ◌≤◌, Bool, true, false, List, length, get_or, ℤ, pos, ◌+ℤ◌, ◌-ℤ◌, unsigned_abs, to_z, of_z, FitsSigned, refl, sym, ap, ap₂, ◌∙◌, subst, arith}
+use Rattle.std.proofs.Common.{◌≡◌, ℕ, ◌+◌, ◌*◌, ◌^◌, ◌<◌, ◌≤◌, Bool, true, false, List, length, get_or, ℤ, pos, ◌+ℤ◌, ◌-ℤ◌, unsigned_abs, to_z, of_z, FitsSigned, refl, sym, ap, ap₂, ◌∙◌, subst, arith}
 use Rattle.std.proofs.lemmas.Int.{ints, to_z-of_z, by_lt_z}
 use Rattle.std.proofs.lemmas.List.{get_or_default}
 use lib.Dec.{T}
 use lib.Signed.{◌<ℤ◌, ◌≤ℤ◌, lt_z, le_z}
 use mir.Syntax.{w32, w128}
+use Rattle.scad_geom.specs.Limits.{coordinate_limit}
 use Rattle.scad_geom.proofs.Casts.{sizes, fits_by_size, read_widened}
 use Rattle.plan_infill.specs.declared.step.Step.{Step}
 use Rattle.plan_infill.specs.declared.stretch.Stretch.{Stretch}
@@ -24,6 +25,9 @@ less a b test = record { lt = subst T (sym test) tt }
 
 pub least : (a b : ℤ) → lt_z a b ≡ false → b ≤ℤ a
 least a b test = by_lt_z a b (λ under. absurd (subst T test under.lt)) (λ most. most)
+
+pub at_most : (a b : ℤ) → le_z a b ≡ true → a ≤ℤ b
+at_most a b test = record { le = subst T (sym test) tt }
 
 holds : (b : Bool) → T b → b ≡ true
 holds true t = refl
@@ -103,6 +107,22 @@ natural_size n small = omega (arith, ints)
 pub negated_size : (y z : ℤ) → unsigned_abs z ≤ 0 + unsigned_abs (to_z w128 (of_z w128 (to_z w32 (of_z w32 y))))
     → unsigned_abs (to_z w128 (of_z w128 z)) ≤ 2 ^ 33
 negated_size y z small = kept_size z (let most = widened_size y in omega (arith, small, most))
+
+pub column_size : (z : ℤ) → FitsSigned w32 z → unsigned_abs z ≤ coordinate_limit
+    → unsigned_abs (to_z w128 (of_z w128 (to_z w32 (of_z w32 z)))) ≤ 2 ^ 21
+column_size z fits small = rw (read_widened z fits) (omega arith)
+
+pub rise_size : (z : ℤ) → unsigned_abs z ≤ 2 * coordinate_limit → unsigned_abs (to_z w128 (of_z w128 z)) ≤ 2 ^ 22
+rise_size z small = omega (arith, sizes)
+
+-- ---- what is added to or taken from the place where the line of an edge passes a height
+module _ (a b : ℤ) (large : unsigned_abs a ≤ 2 ^ 89) (small : unsigned_abs b ≤ 2 ^ 60) where
+  pub both_fit : unsigned_abs (to_z w128 (of_z w128 a)) + unsigned_abs (to_z w128 (of_z w128 b)) < 2 ^ 127
+  both_fit = omega (arith, sizes)
+
+  pub both_size : (z : ℤ) → unsigned_abs z ≤ unsigned_abs (to_z w128 (of_z w128 a)) + unsigned_abs (to_z w128 (of_z w128 b))
+      → unsigned_abs (to_z w128 (of_z w128 z)) ≤ 2 ^ 90
+  both_size z near = omega (arith, sizes)
 
 -- ---- numbers of 128 bits below 2 ^ 90, and quotients of them
 

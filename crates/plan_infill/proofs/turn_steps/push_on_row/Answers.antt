@@ -1,14 +1,31 @@
-use Rattle.std.proofs.Common.{◌≤◌, rules, [], ◌∷◌, pos, ◌-ℤ◌, ◌<ℤ◌, unsigned_abs, sym}
+use Rattle.std.proofs.Common.{◌≤◌, to_z, of_z, FitsSigned, ℤ, ap, ◌∙◌, rules, [], ◌∷◌, pos, ◌-ℤ◌, ◌<ℤ◌, unsigned_abs, sym}
 use Rattle.std.proofs.lemmas.List.{append-nil}
-use lib.Signed.{◌≤ℤ◌}
+use Rattle.std.proofs.lemmas.Int.{to_z-of_z}
+use lib.Signed.{◌≤ℤ◌, lt_z, le_z}
+use mir.Syntax.{w32}
+use Rattle.scad_geom.specs.declared.point.Pt.{Pt}
 use Rattle.scad_geom.specs.Limits.{coordinate_limit}
 use Rattle.scad_geom.specs.Line.{low, high, rise, x_at}
 use Rattle.scad_geom.proofs.Casts.{casts}
 use Rattle.plan_infill.specs.Quotient.{IsCeiling}
 use Rattle.plan_infill.specs.Columns.{edge_turn}
+use Rattle.plan_infill.proofs.Places.{less, at_most}
 use Rattle.plan_infill.proofs.Steps.{step_of, row_turns, row_below, row_above}
 use Rattle.plan_infill.proofs.turn_steps.push_on_row.Goals as goal
 use Rattle.plan_infill.proofs.turn_steps.push_on_row.Goals.{else-low-y-via-then-low-y+else-y-high, else-low-y-via-else-low-y}
+
+pub crossing-requires : goal.crossing-requires
+crossing-requires c =
+    let at = to_z w32 (of_z w32 c.args.y) in
+    let lower : FitsSigned w32 c.low.result.y = search rules in
+    let upper : FitsSigned w32 c.high.result.y = search rules in
+    let from = to_z-of_z w32 c.low.result.y lower ∙ ap (λ (p : Pt). p.y) c.low.ensures.value in
+    let until = to_z-of_z w32 c.high.result.y upper ∙ ap (λ (p : Pt). p.y) c.high.ensures.value in
+    record {
+      edge = c.requires.edge;
+      from = at_most (low c.args.e.now).y at (sym (ap (λ (z : ℤ). le_z z at) from) ∙ c.if-low-y.true);
+      until = less at (high c.args.e.now).y (sym (ap (λ (z : ℤ). lt_z at z) until) ∙ c.if-y-high.true);
+    }
 
 pub returns-in_ok-push : goal.returns-in_ok-push
 returns-in_ok-push c =
