@@ -41,3 +41,24 @@ levels-preserved c =
 pub returns : goal.returns
 returns c = ends c.args.edges.now c.args.shape.now c.args.levels.now c.levels.i c.levels.out.items c.levels-test.false
     c.levels.invariant.pieces
+
+pub invariant_of-sweep : goal.invariant_of-sweep
+invariant_of-sweep c = record { within = c.requires.edges; few = c.requires.few }
+
+pub push_level-requires-clause-within : goal.push_level-requires-clause-within
+push_level-requires-clause-within c = c.requires.within
+
+pub push_level-requires-clause-levels : goal.push_level-requires-clause-levels
+push_level-requires-clause-levels c = c.requires.levels
+
+pub push_level-requires-clause-there : goal.push_level-requires-clause-there
+push_level-requires-clause-there c = c.levels-test.true
+
+pub push_level-requires-clause-active : goal.push_level-requires-clause-active
+push_level-requires-clause-active c = c.levels.invariant.active c.levels-test.true
+
+pub push_level-requires-clause-tallies : goal.push_level-requires-clause-tallies
+push_level-requires-clause-tallies c = c.levels.invariant.tallies
+
+pub push_level-requires-clause-below : goal.push_level-requires-clause-below
+push_level-requires-clause-below c = c.levels.invariant.below c.levels-test.true

@@ -1,6 +1,7 @@
 -- What holds of all pieces that meet the definition.
-use Rattle.std.proofs.Common.{◌≡◌, List, subst, arith}
+use Rattle.std.proofs.Common.{◌≡◌, List, All, subst, sym, arith}
 use Rattle.scad_geom.specs.Limits.{coordinate_limit}
+use Rattle.scad_geom.specs.Level.{IsLevelWithin}
 use Rattle.scad_geom.specs.declared.level.Level.{Level}
 use Rattle.scad_geom.specs.declared.level.LeafEdge.{LeafEdge}
 use Rattle.scad_geom.specs.declared.shape.Shape.{Shape}
@@ -66,3 +67,28 @@ returns-in-Ok-all_pieces-clause-named c =
     pieces_are_named es shape pieces
     (all es shape c.in-Ok.levels.items c.deref.result.now pieces c.in-Ok.ensures.levels c.deref.ensures.value
     c.in-Ok-all_pieces.ensures)
+
+pub returns-in-Ok-all_pieces-clause-pieces : goal.returns-in-Ok-all_pieces-clause-pieces
+returns-in-Ok-all_pieces-clause-pieces c =
+    all c.args.edges.now c.args.shape.now c.in-Ok.levels.items c.deref.result.now c.in-Ok-all_pieces.pieces.items
+    c.in-Ok.ensures.levels c.deref.ensures.value c.in-Ok-all_pieces.ensures
+
+pub returns-in-Ok-all_pieces-clause-accepted : goal.returns-in-Ok-all_pieces-clause-accepted
+returns-in-Ok-all_pieces-clause-accepted c = c.in-Ok.ensures.accepted
+
+pub returns-in-Ok-all_pieces-clause-few : goal.returns-in-Ok-all_pieces-clause-few
+returns-in-Ok-all_pieces-clause-few c = c.if-count-limit.false
+
+pub all_pieces-requires-clause-edges : goal.all_pieces-requires-clause-edges
+all_pieces-requires-clause-edges c = c.requires
+
+pub all_pieces-requires-clause-few : goal.all_pieces-requires-clause-few
+all_pieces-requires-clause-few c = omega (arith, c.if-count-limit.false, c.ranges.limit)
+
+pub all_pieces-requires-clause-within : goal.all_pieces-requires-clause-within
+all_pieces-requires-clause-within c =
+    subst (All (IsLevelWithin coordinate_limit)) (sym c.deref.ensures.value) c.in-Ok.ensures.within
+
+pub all_pieces-requires-clause-levels : goal.all_pieces-requires-clause-levels
+all_pieces-requires-clause-levels c =
+    subst (AreLevels c.args.edges.now) (sym c.deref.ensures.value) c.in-Ok.ensures.levels

@@ -1,7 +1,8 @@
 -- The pieces on a level, and those between it and the next.
-use Rattle.std.proofs.Common.{ℕ, ◌+◌, List, refl, sym, ap, subst, drop, pos, get_or}
+use Rattle.std.proofs.Common.{ℕ, ◌+◌, List, refl, sym, ap, subst, drop, pos, get_or, IsPermutation}
 use Rattle.scad_geom.specs.declared.level.Level.{Level}
 use Rattle.slice_slab.specs.Bundles.{AreBundles}
+use Rattle.slice_slab.specs.Touching.{touching}
 use Rattle.slice_snap.specs.declared.piece.Piece.{Piece}
 use Rattle.slice_bool.specs.Pieces.{slab_pieces}
 use Rattle.slice_bool.specs.Parts.{AreUpToNext, AreBetweenLevels, Extends}
@@ -9,9 +10,11 @@ use Rattle.slice_bool.proofs.Climbing.{neighbours_at, next_level, last_level}
 use Rattle.slice_bool.proofs.border.push_level.Goals as goal
 use Rattle.slice_bool.proofs.border.push_level.Goals.{then-i-levels+in_ok-push_slab_pieces, else-i-levels}
 
+abbrev none : Level
+none = record { n = pos 0; d = pos 0 }
+
 pub push_slab_pieces-requires-clause-neighbours : goal.push_slab_pieces-requires-clause-neighbours
 push_slab_pieces-requires-clause-neighbours c =
-    let none : Level = record { n = pos 0; d = pos 0 } in
     neighbours_at c.args.sweep.now.edges.now c.args.levels.now c.args.i none none c.if-i-levels.true c.requires.levels
 
 pub returns-clause-pieces : goal.returns-clause-pieces
@@ -20,7 +23,6 @@ returns-clause-pieces c =
     let shape = c.args.sweep.now.shape.now in
     let ls : List Level = c.args.levels.now in
     let i : ℕ = c.args.i in
-    let none : Level = record { n = pos 0; d = pos 0 } in
     let l : Level = get_or ls i none in
     let u : Level = get_or ls (i + 1) none in
     let old : List Piece = c.args.out.now.items in
@@ -38,3 +40,68 @@ returns-clause-pieces c =
           subst (Extends (AreUpToNext es shape (drop i ls)) old) (sym (ap (λ v. v.items) w.out-is))
           (last_level es shape ls i none old mid c.requires.there w.if-i-levels.false c.in_ok-push_flat_pieces.ensures)
     ]
+
+pub rise-requires-clause-within : goal.rise-requires-clause-within
+rise-requires-clause-within c = c.requires.within
+
+pub rise-requires-clause-levels : goal.rise-requires-clause-levels
+rise-requires-clause-levels c = c.requires.levels
+
+pub rise-requires-clause-there : goal.rise-requires-clause-there
+rise-requires-clause-there c = c.requires.there
+
+pub rise-requires-clause-active : goal.rise-requires-clause-active
+rise-requires-clause-active c = c.requires.active
+
+pub edges_near-requires-clause-within : goal.edges_near-requires-clause-within
+edges_near-requires-clause-within c = c.args.sweep.now.within
+
+pub edges_near-requires-clause-at : goal.edges_near-requires-clause-at
+edges_near-requires-clause-at c = c.requires.within c.args.i none c.requires.there
+
+pub edges_near-requires-clause-numbers : goal.edges_near-requires-clause-numbers
+edges_near-requires-clause-numbers c =
+    subst (IsPermutation (touching 0 c.args.sweep.now.edges.now (get_or c.args.levels.now c.args.i none)))
+    (sym c.touching.ensures) c.in_ok-rise.ensures.live
+
+pub side_above-requires-clause-levels : goal.side_above-requires-clause-levels
+side_above-requires-clause-levels c = c.requires.levels
+
+pub side_above-requires-clause-bundles : goal.side_above-requires-clause-bundles
+side_above-requires-clause-bundles c = c.in_ok-rise.ensures.bundles
+
+pub side_above-requires-clause-stands : goal.side_above-requires-clause-stands
+side_above-requires-clause-stands c = c.in_ok-rise.ensures.stands
+
+pub side_above-requires-clause-tallies : goal.side_above-requires-clause-tallies
+side_above-requires-clause-tallies c = c.requires.tallies
+
+pub push_flat_pieces-requires-clause-at : goal.push_flat_pieces-requires-clause-at
+push_flat_pieces-requires-clause-at c = c.requires.within c.args.i none c.requires.there
+
+pub push_flat_pieces-requires-clause-near : goal.push_flat_pieces-requires-clause-near
+push_flat_pieces-requires-clause-near c = c.in_ok-near.ensures
+
+pub push_flat_pieces-requires-clause-sides : goal.push_flat_pieces-requires-clause-sides
+push_flat_pieces-requires-clause-sides c = record { below = c.requires.below; above = c.in_ok-above.ensures.above }
+
+pub push_slab_pieces-requires-clause-lower : goal.push_slab_pieces-requires-clause-lower
+push_slab_pieces-requires-clause-lower c = c.requires.within c.args.i none c.requires.there
+
+pub push_slab_pieces-requires-clause-upper : goal.push_slab_pieces-requires-clause-upper
+push_slab_pieces-requires-clause-upper c = c.requires.within (c.args.i + 1) none c.if-i-levels.true
+
+pub push_slab_pieces-requires-clause-bundles : goal.push_slab_pieces-requires-clause-bundles
+push_slab_pieces-requires-clause-bundles c = c.in_ok-above.ensures.bundles c.if-i-levels.true
+
+pub push_slab_pieces-requires-clause-values : goal.push_slab_pieces-requires-clause-values
+push_slab_pieces-requires-clause-values c = c.in_ok-above.ensures.above.values
+
+pub returns-clause-active : goal.returns-clause-active
+returns-clause-active c = c.in_ok-above.ensures.stands
+
+pub returns-clause-tallies : goal.returns-clause-tallies
+returns-clause-tallies c = c.in_ok-above.ensures.tallies
+
+pub returns-clause-below : goal.returns-clause-below
+returns-clause-below c = c.in_ok-above.ensures.below

@@ -107,3 +107,24 @@ returns-clause-tallies c =
       shows = keeps_last news shape c.put_all_back.new.held zeros
           (c.put_all_back.ensures.held.shows shape c.bundles.invariant.shows);
     }
+
+pub add_bundle-requires-clause-leaves : goal.add_bundle-requires-clause-leaves
+add_bundle-requires-clause-leaves c = c.bundles.invariant.leaves
+
+pub add_bundle-requires-clause-ready : goal.add_bundle-requires-clause-ready
+add_bundle-requires-clause-ready c = c.bundles.invariant.ready
+
+pub add_bundle-requires-clause-size : goal.add_bundle-requires-clause-size
+add_bundle-requires-clause-size c = c.bundles.invariant.room
+
+pub put_all_back-requires-clause-leaves : goal.put_all_back-requires-clause-leaves
+put_all_back-requires-clause-leaves c = c.bundles.invariant.leaves
+
+pub put_all_back-requires-clause-members : goal.put_all_back-requires-clause-members
+put_all_back-requires-clause-members c = c.requires.members
+
+pub put_all_back-requires-clause-ready : goal.put_all_back-requires-clause-ready
+put_all_back-requires-clause-ready c = c.bundles.invariant.ready
+
+pub put_all_back-requires-clause-size : goal.put_all_back-requires-clause-size
+put_all_back-requires-clause-size c = c.bundles.invariant.room

@@ -1,10 +1,12 @@
 -- A stop that stays is kept.
-use Rattle.std.proofs.Common.{◌++◌, ◌∷◌, ◌+◌, drop, sym, ap, ◌∙◌, List}
+use Rattle.std.proofs.Common.{◌≤◌, ◌++◌, ◌∷◌, ◌+◌, ℕ, drop, refl, sym, ap, subst, ◌∙◌, List}
+use Rattle.std.proofs.lemmas.List.{length-map}
 use Rattle.slice_snap.specs.declared.piece.Spot.{Spot}
 use Rattle.slice_bool.specs.declared.stop.Stop.{Stop}
 use Rattle.slice_bool.specs.Stops.{spots_in, is_left}
 use Rattle.slice_events.specs.Distinct.{distinct_by}
 use Rattle.slice_bool.proofs.Stopping.{kept_step}
+use Rattle.slice_events.proofs.Loops.{last_step}
 use Rattle.slice_events.proofs.Repeats.{distinct_kept, distinct_left}
 use Rattle.slice_bool.proofs.stops.distinct.Goals as goal
 use Rattle.slice_bool.proofs.stops.distinct.Goals.{then-stays+in_ok-push, else-stays}
@@ -29,3 +31,10 @@ stops-preserved c = elim c.if-stays.branch [
       ap (λ (xs : List Stop). spots_in xs ++ rest) items ∙ ap (λ (xs : List Spot). spots_in c.stops.out.items ++ xs)
       (sym step) ∙ c.stops.invariant
 ]
+
+pub returns : goal.returns
+returns c =
+    last_step (distinct_by is_left) (spots_in c.stops.out.items) (distinct_by is_left (spots_in c.args.stops.now))
+    (spots_in c.args.stops.now) c.stops.i refl
+    (subst (λ (n : ℕ). n ≤ c.stops.i) (sym (length-map c.args.stops.now (λ (s : Stop). s.spot))) c.stops-test.false)
+    c.stops.invariant
