@@ -8,7 +8,7 @@ use Rattle.scad_ast.specs.declared.expression.Expr.{Expr}
 use Rattle.scad_ast.specs.declared.expression.Elem.{Elem}
 use Rattle.scad_ast.specs.declared.statement.Param.{Param}
 use Rattle.scad_ast.specs.Scope.{parameter}
-use Rattle.scad_ast.specs.Tree.{Expression, Arguments, Element, Elements, Parameter, vector, each, for_loop, let_in, let_element, if_element, if_else}
+use Rattle.scad_ast.specs.Tree.{Expression, Arguments, Element, Elements, Parameter, vector, each, for_loop, let_in, let_element}
 use Rattle.scad_ast.specs.View.{expression_of, element_of, arguments}
 use Rattle.scad_value.specs.Datum.{Datum, undef}
 use Rattle.scad_value.specs.Datum.{vector as vector_datum}
@@ -16,9 +16,10 @@ use Rattle.scad_value.specs.Comparison.{truth}
 use Rattle.scad_scope.specs.Env.{Env}
 use Rattle.scad_scope.specs.FrameStore.{env_at, envs}
 use Rattle.scad_operations.specs.declared.part.Part.{Part}
+use Rattle.scad_operations.specs.declared.remainder.Remainder.{Remainder}
 use Rattle.scad_machine.specs.declared.fault.EvalFault.{EvalFault}
 use Rattle.scad_stack.specs.declared.frame.Frame.TheVariants.{Gathering as GatheringFrame, Round as RoundFrame}
-use Rattle.scad_stack.specs.declared.frame.Gathering.TheVariants.{Vector, Each, If, Either}
+use Rattle.scad_stack.specs.declared.frame.Gathering.TheVariants.{Vector, Each, If}
 use Rattle.scad_stack.specs.declared.frame.Round.TheVariants.{Turns, Body}
 use Rattle.scad_stack.specs.declared.frame.Inside.TheVariants.{Value as InsideValue, Element as InsideElement, Turns as InsideTurns}
 use Rattle.scad_stack.specs.declared.frame.Within.{Within}
@@ -26,20 +27,19 @@ use Rattle.scad_stack.specs.declared.frame.Loop.{Loop}
 use Rattle.scad_stack.specs.declared.frame.Opening.{Opening}
 use Rattle.scad_stack.specs.declared.frame.Variable.{Variable}
 use Rattle.scad_stack.specs.declared.frame.Turning.{Turning}
-use Rattle.scad_stack.specs.declared.frame.Course.{Course}
 use Rattle.scad_machine.specs.State.{State, Outcome, gives, refuses, Action, pure, and_then, ◌>>=◌, step, make, step_limit}
 use Rattle.scad_machine.specs.Machine.{Held, env_in, along_in}
 use Rattle.scad_machine.specs.Functions.{Function, Found}
 use Rattle.scad_machine.specs.Parameters.{missing, parameter_names}
 use Rattle.scad_machine.specs.Arguments.{given, set_all}
 use Rattle.scad_operations.specs.Parts.{parts_in}
-use Rattle.scad_operations.specs.Runs.{as_elements, items}
+use Rattle.scad_operations.specs.Runs.{as_elements, items, left_in}
 use Rattle.scad_machine.specs.Variables.{Bound, set, empty, within}
 use Rattle.scad_stack.specs.Meaning.{Below, meaning, value, node, element_node, default_value, bound, called_own, bound_in_order, loop_turns, turns, for_variables, judge_named}
 use Rattle.scad_stack.specs.Meaning.{elements as elements_given}
 use Rattle.scad_machine.specs.OpenFrames.{opened, set_in_last, left, bound_in, outer, IsInner}
-use Rattle.scad_stack.specs.Pieces.{element_if, either_element, defaulted}
-use Rattle.scad_stack.specs.Stack.{Whole, Rest, added, gathers, goes_round, onto, binds, fills, entered, filling, binding, inside_of, looped, loop_of, renewed, turned, turning, turns_of, course}
+use Rattle.scad_stack.specs.Pieces.{chosen_element, if_with, defaulted}
+use Rattle.scad_stack.specs.Stack.{Whole, Rest, added, gathers, goes_round, onto, binds, fills, entered, filling, binding, inside_of, looped, loop_of, renewed, turned, turning, turns_of}
 use Rattle.scad_machine.specs.View.{function_of}
 use Rattle.scad_stack.proofs.Loops.{twice, same-then, call-begins}
 use Rattle.scad_machine.proofs.OpenFrames.{env_in-opened, along_in-opened, left-opened, gone-opened}
@@ -244,7 +244,7 @@ pub turn-begins : (t : Turning) (held : Box Turning Global) (v : Variable) (d : 
     → env_in h3 ≡ within (env_in h) (set v.name.now d empty).names
     → along_in h3 ≡ within (along_in h) (set v.name.now d empty).dollars
     → left held.value.back h3 ≡ h → made3 ≡ made → s3 ≡ s2
-    → and_then (turns_of t.variable h (d ∷ course t.left) made s) (added k h)
+    → and_then (turns_of t.variable h (d ∷ left_in t.left) made s) (added k h)
     ≡ and_then (for_variables (meaning v.depth) v.at (arguments v.more.now) (element_of v.body.now) (env_in h3)
     (along_in h3) made3 s3) (added k3 h3)
 unfolding turns onto goes_round
@@ -252,22 +252,22 @@ turn-begins t held v d k k3 h h3 made made3 s s2 s3 same_variable held_variable 
     back_is made_is same =
     let more = t.left in
     let into : Env → Env → List Datum → Action (List Datum) = for_variables (meaning v.depth) v.at (arguments v.more.now) (element_of v.body.now) in
-    let rest_turns : List Datum → Action (List Datum) = turns (meaning v.depth) v.at v.name.now into (env_in h) (along_in h) (course more) in
+    let rest_turns : List Datum → Action (List Datum) = turns (meaning v.depth) v.at v.name.now into (env_in h) (along_in h) (left_in more) in
     let e2 = within (env_in h) (set v.name.now d empty).names in
     let a2 = within (along_in h) (set v.name.now d empty).dollars in
-    ap (λ (x : Variable). and_then (turns_of x h (d ∷ course more) made s) (added k h)) (sym same_variable)
+    ap (λ (x : Variable). and_then (turns_of x h (d ∷ left_in more) made s) (added k h)) (sym same_variable)
     ∙ ap (λ r. and_then (and_then r (λ _ u. and_then (into e2 a2 made u) rest_turns)) (added k h)) stepped
     ∙ twice (into e2 a2 made s2) rest_turns (added k h)
     ∙ ap (λ (y : Held). and_then (into e2 a2 made s2)
-    (λ now u. and_then (turns_of v y (course more) now u) (added k y))) (sym back_is)
+    (λ now u. and_then (turns_of v y (left_in more) now u) (added k y))) (sym back_is)
     ∙ ap₂ (λ x y. and_then (into x y made s2)
-    (λ now u. and_then (turns_of v (left held.value.back h3) (course more) now u)
+    (λ now u. and_then (turns_of v (left held.value.back h3) (left_in more) now u)
     (added k (left held.value.back h3)))) (sym env_is) (sym along_is)
     ∙ ap₂ (λ m u. and_then (into (env_in h3) (along_in h3) m u)
-    (λ now w. and_then (turns_of v (left held.value.back h3) (course more) now w)
+    (λ now w. and_then (turns_of v (left held.value.back h3) (left_in more) now w)
     (added k (left held.value.back h3)))) (sym made_is) (sym same)
-    ∙ ap₂ (λ (x : Variable) (c : Course). and_then (into (env_in h3) (along_in h3) made3 s3)
-    (λ now w. and_then (turns_of x (left held.value.back h3) (course c) now w)
+    ∙ ap₂ (λ (x : Variable) (c : Remainder). and_then (into (env_in h3) (along_in h3) made3 s3)
+    (λ now w. and_then (turns_of x (left held.value.back h3) (left_in c) now w)
     (added k (left held.value.back h3)))) (sym held_variable) (sym lefts)
     ∙ ap (λ (q : Rest). and_then (into (env_in h3) (along_in h3) made3 s3) (added q h3)) (sym is3)
 
@@ -347,26 +347,19 @@ later-begins : {A B C D : Type 0} (o : Outcome A) (v : Action B) (f : B → Acti
 later-begins (gives a t) v f g = twice (v t) f g
 later-begins (refuses e t) v f g = refl
 
-pub if-begins : (depth : ℕ) (at : Place) (test : Expression) (e : Bor Elem) (h : Held) (k : Rest) (made : List Datum)
-    (s : State)
-    → and_then (element_node (meaning depth) (env_in h) (along_in h) (if_element at test (element_of e.now)) made s)
-    (added k h)
-    ≡ and_then (and_then (step at s) (λ _. value depth (env_in h) (along_in h) test)) (onto (GatheringFrame (If e depth)) k h made)
-unfolding element_node onto gathers goes_round element_if
-if-begins depth at test e h k made s =
-    later-begins (step at s) (value depth (env_in h) (along_in h) test)
-    (λ d. element_if (meaning depth) (env_in h) (along_in h) d (element_of e.now) made) (added k h)
-
-pub either-begins : (depth : ℕ) (at : Place) (test : Expression) (e other : Bor Elem) (h : Held) (k : Rest)
-    (made : List Datum) (s : State)
+pub if-begins : (depth : ℕ) (at : Place) (test : Expression) (e : Bor Elem) (other : Option (Bor Elem)) (h : Held)
+    (k : Rest) (made : List Datum) (s : State)
     → and_then (element_node (meaning depth) (env_in h) (along_in h)
-    (if_else at test (element_of e.now) (element_of other.now)) made s) (added k h)
+    (if_with at test (element_of e.now) (option_map (λ (b : Bor Elem). element_of b.now) other)) made s) (added k h)
     ≡ and_then (and_then (step at s) (λ _. value depth (env_in h) (along_in h) test))
-    (onto (GatheringFrame (Either e other depth)) k h made)
-unfolding element_node onto gathers goes_round either_element
-either-begins depth at test e other h k made s =
+    (onto (GatheringFrame (If e other depth)) k h made)
+unfolding element_node onto gathers goes_round chosen_element if_with
+if-begins depth at test e None h k made s =
     later-begins (step at s) (value depth (env_in h) (along_in h) test)
-    (λ d. either_element (meaning depth) (env_in h) (along_in h) d (element_of e.now) (element_of other.now) made)
+    (λ d. chosen_element (meaning depth) (env_in h) (along_in h) d (element_of e.now) None made) (added k h)
+if-begins depth at test e (Some other) h k made s =
+    later-begins (step at s) (value depth (env_in h) (along_in h) test)
+    (λ d. chosen_element (meaning depth) (env_in h) (along_in h) d (element_of e.now) (Some (element_of other.now)) made)
     (added k h)
 
 -- ---- nodes and elements as the code reads them

@@ -1,7 +1,7 @@
 -- Pieces of the rules of the meaning of expressions: what is left of a rule once a part of it has its value, or of a list.
 use Rattle.std.specs.Prelude.{ℕ, zero, suc, true, false, List, [], ◌∷◌, ◌++◌, Option, Some, None, if◌then◌else◌}
 use Rattle.scad_fault.specs.declared.place.Place.{Place}
-use Rattle.scad_ast.specs.Tree.{Expression, Parameter, Arguments, no_arguments, argument, Element}
+use Rattle.scad_ast.specs.Tree.{Expression, Parameter, Arguments, no_arguments, argument, Element, if_element, if_else}
 use Rattle.scad_value.specs.Datum.{Datum}
 use Rattle.scad_value.specs.Comparison.{truth}
 use Rattle.scad_value.specs.Index.{indexed}
@@ -15,6 +15,11 @@ abbrev pub named_of : Arguments → Arguments
 named_of no_arguments = no_arguments
 named_of (argument None e more) = named_of more
 named_of (argument (Some name) e more) = argument (Some name) e more
+
+-- an `if`, with `else` where it has one
+unfoldable pub if_with : Place → Expression → Element → Option Element → Element
+if_with at test e None = if_element at test e
+if_with at test e (Some other) = if_else at test e other
 
 module _ (below : Below) where
   -- the end of a range whose start has its value
@@ -45,14 +50,15 @@ module _ (below : Below) where
     e ← below.value env along i
     pure (indexed d e)
 
-  -- the element of an `if` whose test has its value
-  unfoldable pub element_if : Env → Env → Datum → Element → List Datum → Action (List Datum)
-  element_if env along d e so_far = if truth d then below.element env along e so_far else pure so_far
+  -- the element of an `else`, where there is one
+  abbrev pub other_element : Env → Env → Option Element → List Datum → Action (List Datum)
+  other_element env along None so_far = pure so_far
+  other_element env along (Some e) so_far = below.element env along e so_far
 
-  -- the elements of an `if` with `else` whose test has its value
-  unfoldable pub either_element : Env → Env → Datum → Element → Element → List Datum → Action (List Datum)
-  either_element env along d e other so_far =
-      if truth d then below.element env along e so_far else below.element env along other so_far
+  -- the element of an `if` whose test has its value, or that of its `else`
+  unfoldable pub chosen_element : Env → Env → Datum → Element → Option Element → List Datum → Action (List Datum)
+  chosen_element env along d e other so_far =
+      if truth d then below.element env along e so_far else other_element env along other so_far
 
   -- one name of a `let`
   unfoldable pub bind_one : Env → Env → Option (List ℕ) → Expression → Bound → Action Bound

@@ -1,7 +1,9 @@
 -- What is left to do: what each frame of the stack does with a value, and what is at work.
-use Rattle.std.specs.Prelude.{◌≡◌, ◌≢◌, ℕ, zero, suc, ◌+◌, ◌*◌, ◌<◌, ◌≤◌, List, [], ◌∷◌, ◌++◌, length, map, drop, Result, Ok, Err, Option, Some, None, true, false, if◌then◌else◌, IfOk, OnOk, codes}
+use Rattle.std.specs.Prelude.{◌≡◌, ◌≢◌, ℕ, zero, suc, ◌+◌, ◌*◌, ◌<◌, ◌≤◌, List, [], ◌∷◌, ◌++◌, length, map, drop, option_map, Result, Ok, Err, Option, Some, None, true, false, if◌then◌else◌, IfOk, OnOk, codes}
+use Rattle.std.specs.Borrow.{Bor}
 use Rattle.std.specs.List.{flat_map}
 use Rattle.scad_fault.specs.declared.place.Place.{Place}
+use Rattle.scad_ast.specs.declared.expression.Elem.{Elem}
 use Rattle.scad_ast.specs.Scope.{parameter}
 use Rattle.scad_ast.specs.Tree.{Expression, Arguments, no_arguments, argument, Element, Parameter}
 use Rattle.scad_ast.specs.Tree.{call as call_at, assert_in, echo_in}
@@ -9,7 +11,7 @@ use Rattle.scad_ast.specs.View.{expression_of, arguments, element_of, elements}
 use Rattle.scad_value.specs.Datum.{Datum, undef, vector}
 use Rattle.scad_value.specs.Comparison.{truth}
 use Rattle.scad_value.specs.Operators.{op}
-use Rattle.scad_value.specs.View.{datum_of, data_of, data_in}
+use Rattle.scad_value.specs.View.{datum_of, data_in}
 use Rattle.scad_value.specs.declared.value.Value.{Value}
 use Rattle.scad_scope.specs.Env.{Env}
 use Rattle.scad_machine.specs.declared.fault.EvalFault.{EvalFault}
@@ -23,14 +25,12 @@ use Rattle.scad_stack.specs.declared.frame.Inside.{Inside}
 use Rattle.scad_stack.specs.declared.frame.Inside.TheVariants.{Value as InsideValue, Element as InsideElement, Turns as InsideTurns}
 use Rattle.scad_stack.specs.declared.frame.Within.{Within}
 use Rattle.scad_stack.specs.declared.frame.Variable.{Variable}
-use Rattle.scad_stack.specs.declared.frame.Course.{Course}
-use Rattle.scad_stack.specs.declared.frame.Course.TheVariants.{Values, Numbers}
 use Rattle.scad_stack.specs.declared.frame.Frame.{Frame}
 use Rattle.scad_stack.specs.declared.frame.Frame.TheVariants.{Operand, Operation as OperationFrame, Further as FurtherFrame, Arguments as ArgumentsFrame, Default, Leave, Bind, Gathering as GatheringFrame, Round as RoundFrame}
 use Rattle.scad_stack.specs.declared.frame.Further.{Further}
 use Rattle.scad_stack.specs.declared.frame.Further.TheVariants.{RangeEnd, StepAndEnd, SteppedEnd, Right as RightSide, Sides, IndexOf}
 use Rattle.scad_stack.specs.declared.frame.Gathering.{Gathering}
-use Rattle.scad_stack.specs.declared.frame.Gathering.TheVariants.{Vector, Elements, Item, Each, If, Either}
+use Rattle.scad_stack.specs.declared.frame.Gathering.TheVariants.{Vector, Elements, Item, Each, If}
 use Rattle.scad_stack.specs.declared.frame.Round.{Round}
 use Rattle.scad_stack.specs.declared.frame.Round.TheVariants.{Over, Turns, Test, Body}
 use Rattle.scad_stack.specs.declared.frame.Focus.{Focus}
@@ -47,9 +47,9 @@ use Rattle.scad_stack.specs.Meaning.{elements as elements_given}
 use Rattle.scad_operations.specs.Operation.{operates}
 use Rattle.scad_machine.specs.OpenFrames.{set_in_last, left}
 use Rattle.scad_operations.specs.Parts.{parts_in}
-use Rattle.scad_stack.specs.Pieces.{range_end, stepped_end, step_and_end, side, index_of, element_if, either_element}
+use Rattle.scad_stack.specs.Pieces.{range_end, stepped_end, step_and_end, side, index_of, chosen_element}
 use Rattle.scad_machine.specs.EchoLines.{echo_line}
-use Rattle.scad_operations.specs.Runs.{items, as_elements, numbers_left}
+use Rattle.scad_operations.specs.Runs.{items, as_elements, left_in}
 use Rattle.scad_machine.specs.Variables.{empty}
 
 -- a value, and what is held then
@@ -210,11 +210,6 @@ loop_of l depth starts h so_far =
     (element_of l.body.now)
     (env_in h) (along_in h) b so_far
 
--- what a variable still runs over
-abbrev pub course : Course → List Datum
-course (Values all i) = data_of (drop i all.items)
-course (Numbers next step end) = numbers_left next step end
-
 -- the turns of a variable over some values
 abbrev pub turns_of : Variable → Held → List Datum → List Datum → Action (List Datum)
 turns_of v h all made =
@@ -241,16 +236,15 @@ gathers (Elements more depth) k h made d =
     elements_given (meaning depth) (env_in h) (along_in h) (elements more.now) made >>= added k h
 gathers Item k h made d = added k h (made ++ d ∷ [])
 gathers (Each outer) k h made d = added k h (parts_in outer ++ flat_map items made)
-gathers (If e depth) k h made d = element_if (meaning depth) (env_in h) (along_in h) d (element_of e.now) made
-    >>= added k h
-gathers (Either e other depth) k h made d =
-    either_element (meaning depth) (env_in h) (along_in h) d (element_of e.now) (element_of other.now) made
+gathers (If e other depth) k h made d =
+    chosen_element (meaning depth) (env_in h) (along_in h) d (element_of e.now)
+    (option_map (λ (b : Bor Elem). element_of b.now) other) made
     >>= added k h
 
 -- a `for`, and then what follows it
 unfoldable pub goes_round : Round → Rest → Rest
 goes_round (Over t) k h made d = turns_of t.value.variable h (items d) made >>= added k h
-goes_round (Turns t) k h made d = turns_of t.value.variable (left t.value.back h) (course t.value.left) made
+goes_round (Turns t) k h made d = turns_of t.value.variable (left t.value.back h) (left_in t.value.left) made
     >>= added k (left t.value.back h)
 goes_round (Test l back depth) k h made d = turning l.value back depth k h made d
 goes_round (Body l back depth) k h made d = renewing l.value back depth k made h

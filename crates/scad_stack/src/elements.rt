@@ -1,11 +1,12 @@
 //! Elements of a vector that begin, and list comprehensions.
 
-ghost use Rattle.std.specs.Prelude.{◌≡◌, ◌+◌, ◌<◌, ◌^◌, []};
-ghost use Rattle.scad_ast.specs.Tree.{each, for_each, let_element, if_element, if_else};
+ghost use Rattle.std.specs.Prelude.{◌≡◌, ◌+◌, ◌<◌, ◌^◌, option_map};
+ghost use Rattle.scad_ast.specs.Tree.{each, for_each, let_element};
 ghost use Rattle.scad_ast.specs.View.{expression_of, arguments, element_of};
 ghost use Rattle.scad_ast.specs.View.{elements as tree_elements};
 ghost use Rattle.scad_machine.specs.Machine.{held, env_in, along_in, state_of};
 ghost use Rattle.scad_stack.specs.Meaning.{element_node, elements, value, meaning};
+ghost use Rattle.scad_stack.specs.Pieces.{if_with};
 ghost use Rattle.scad_stack.specs.Places.{element_place};
 ghost use Rattle.scad_machine.specs.State.{and_then, step};
 ghost use Rattle.scad_stack.specs.Stack.{Leads, Below_by, followed_list, loop_of, onto, rest, made_in};
@@ -62,7 +63,7 @@ pub fn element<'p>(
 }
 
 /// One arm for each kind of element.
-#[tactic(auto, using(crate::proofs::Views::element_views, crate::proofs::StackTurns::nodes), unfolding(crate::specs::Meaning::element_node, crate::specs::Stack::onto, crate::specs::Stack::gathers))]
+#[tactic(auto, using(crate::proofs::Views::element_views, crate::proofs::StackTurns::nodes), unfolding(crate::specs::Meaning::element_node, crate::specs::Pieces::if_with, crate::specs::Stack::onto, crate::specs::Stack::gathers))]
 fn element_node<'p>(
     e: &'p Elem,
     depth: u32,
@@ -89,46 +90,28 @@ fn element_node<'p>(
             loop_element(all, starts, depth, stack, m)
         }
         Elem::Let(args, e, at) => let_element(*at, args, e, depth, stack, m),
-        Elem::If(test, e, None, at) => if_node(*at, test, e, depth, stack, m),
+        Elem::If(test, e, None, at) => {
+            if_node(*at, test, Branches { e, other: None }, depth, stack, m)
+        }
         Elem::If(test, e, Some(other), at) => {
-            either_node(*at, test, Branches { e, other }, depth, stack, m)
+            let both = Branches {
+                e,
+                other: Some(other),
+            };
+            if_node(*at, test, both, depth, stack, m)
         }
     }
 }
 
-/// `if (test) element`
-fn if_node<'p>(
-    at: Place,
-    test: &'p Expr,
-    e: &'p Elem,
-    depth: u32,
-    stack: &mut Stack<'p>,
-    m: &mut Machine<'p>,
-) -> Result<Focus<'p>, EvalFault>
-    ensures goes { Leads (followed_list (element_node (meaning depth) (env_in (held m.old)) (along_in (held m.old))
-        (if_element at (expression_of test.now) (element_of e.now)) (made_in stack.old)) stack.old m.old)
-        result stack.new m.new }
-    ensures less { Below_by 2 result stack.old m.old stack.new m.new }
-{
-    later(
-        at,
-        Frame::Gathering(Gathering::If(e, depth)),
-        test,
-        depth,
-        stack,
-        m,
-    )
-}
-
-/// The elements of an `if` with `else`.
+/// The element of an `if`, and that of its `else`, where it has one.
 #[derive(Clone, Copy)]
 struct Branches<'p> {
     e: &'p Elem,
-    other: &'p Elem,
+    other: Option<&'p Elem>,
 }
 
-/// `if (test) element else element`
-fn either_node<'p>(
+/// `if (test) element`, and `else element` where it has one.
+fn if_node<'p>(
     at: Place,
     test: &'p Expr,
     both: Branches<'p>,
@@ -137,13 +120,14 @@ fn either_node<'p>(
     m: &mut Machine<'p>,
 ) -> Result<Focus<'p>, EvalFault>
     ensures goes { Leads (followed_list (element_node (meaning depth) (env_in (held m.old)) (along_in (held m.old))
-        (if_else at (expression_of test.now) (element_of both.entry.e.now) (element_of both.entry.other.now))
-        (made_in stack.old)) stack.old m.old) result stack.new m.new }
+        (if_with at (expression_of test.now) (element_of both.entry.e.now)
+        (option_map (λ b. element_of b.now) both.entry.other)) (made_in stack.old)) stack.old m.old)
+        result stack.new m.new }
     ensures less { Below_by 2 result stack.old m.old stack.new m.new }
 {
     later(
         at,
-        Frame::Gathering(Gathering::Either(both.e, both.other, depth)),
+        Frame::Gathering(Gathering::If(both.e, both.other, depth)),
         test,
         depth,
         stack,

@@ -5,8 +5,7 @@ ghost use Rattle.scad_stack.specs.Stack.{GoesOn, Lessens};
 use scad_ast::{Arg, BinOp, Elem, Expr, Param};
 use scad_fault::Place;
 use scad_machine::EvalFault;
-use scad_num::Num;
-use scad_operations::{Bounds, Operation, Part};
+use scad_operations::{Bounds, Operation, Part, Remainder};
 use scad_value::Value;
 
 /// A call as it is written: its place, its name and its arguments.
@@ -66,20 +65,11 @@ pub struct Variable<'p> {
     pub depth: u32,
 }
 
-/// What a variable still runs over.
-#[derive(Drop)]
-pub enum Course {
-    /// Values from a place on.
-    Values(Vec<Value>, usize),
-    /// Numbers of a range: the next one, the step and the end.
-    Numbers(Option<Num>, Num, Num),
-}
-
 /// A variable, what it still runs over, and the number of the frame from which names were sought before the turn that goes on.
 #[derive(Drop)]
 pub struct Turning<'p> {
     pub variable: Variable<'p>,
-    pub left: Course,
+    pub left: Remainder,
     pub back: u32,
 }
 
@@ -119,10 +109,8 @@ pub enum Gathering<'p> {
     Item,
     /// What was added before an `each`.
     Each(Vec<Part>),
-    /// The element of an `if`.
-    If(&'p Elem, u32),
-    /// The elements of an `if` with `else`.
-    Either(&'p Elem, &'p Elem, u32),
+    /// The element of an `if`, and that of its `else`, where it has one.
+    If(&'p Elem, Option<&'p Elem>, u32),
 }
 
 /// What waits in a `for`.

@@ -21,8 +21,8 @@ pub use calls::{call_of_name, first_argument, next_argument};
 pub use defaults::next_parameter;
 pub use elements::{element, more_elements};
 pub use frame::{
-    Course, Focus, Frame, Further, Gathering, Inside, Loop, Opening, Right, Round, Turning,
-    Variable, Within, Written, at_work,
+    Focus, Frame, Further, Gathering, Inside, Loop, Opening, Right, Round, Turning, Variable,
+    Within, Written, at_work,
 };
 pub use gathering::gathered;
 pub use name::{Name, pass_name};

@@ -2,19 +2,17 @@
 
 ghost use Rattle.std.specs.Prelude.{◌≡◌, Some, IfSome, IfOk, OnOk, MatchOption};
 ghost use Rattle.scad_ast.specs.Tree.{no_arguments, argument};
-ghost use Rattle.scad_ast.specs.View.{expression_of, element_of, arguments};
+ghost use Rattle.scad_ast.specs.View.{expression_of, arguments};
 ghost use Rattle.scad_value.specs.View.{datum_of};
-ghost use Rattle.scad_machine.specs.Machine.{held, env_in, along_in, state_of};
-ghost use Rattle.scad_stack.specs.Meaning.{meaning};
+ghost use Rattle.scad_machine.specs.Machine.{held, state_of};
 ghost use Rattle.scad_machine.specs.Answers.{Does, nothing, done_at};
 ghost use Rattle.scad_machine.specs.OpenFrames.{left};
 ghost use Rattle.scad_stack.specs.Pieces.{named_of};
-ghost use Rattle.scad_stack.specs.Stack.{Leads, Below_by, added, behind, set_first, inside, binding, looping, renewing, turning, rest, made_in};
-ghost use Rattle.scad_machine.specs.State.{and_then};
+ghost use Rattle.scad_stack.specs.Stack.{Leads, Below_by, behind, set_first, inside, binding, looping, renewing, turning, rest, made_in};
 
 use crate::frame::{Focus, Frame, Inside, Loop, Round, Within};
 use crate::stack::Stack;
-use scad_ast::{Arg, Elem, Expr};
+use scad_ast::{Arg, Expr};
 use scad_fault::{Budget, BudgetKind};
 use scad_machine::{EvalFault, Machine};
 use scad_value::{Value, truth};
@@ -112,7 +110,7 @@ fn set_first<'p>(args: &'p [Arg], v: Value, m: &mut Machine<'p>) -> Result<&'p [
 }
 
 /// What stands inside names that are bound.
-#[tactic(auto, using(crate::proofs::StackTurns::nodes), unfolding(crate::specs::Stack::inside_of, crate::specs::Stack::onto))]
+#[tactic(auto, using(crate::proofs::StackTurns::nodes), unfolding(crate::specs::Stack::inside_of, crate::specs::Stack::onto, crate::specs::Stack::goes_on))]
 fn enter<'p>(
     within: Within<'p>,
     stack: &mut Stack<'p>,
@@ -129,27 +127,12 @@ fn enter<'p>(
     } = within;
     match inside {
         Inside::Value(e) => stack.wait(Frame::Leave(back), e, depth),
-        Inside::Element(e) => enter_element(e, back, depth, stack, m),
+        Inside::Element(e) => {
+            stack.push(Frame::Leave(back))?;
+            Ok(Focus::Element(e, depth))
+        }
         Inside::Turns(all) => repeat(all, back, depth, stack, m),
     }
-}
-
-/// An element inside names that are bound.
-#[tactic(auto, using(crate::proofs::StackTurns::nodes), unfolding(crate::specs::Stack::inside_of, crate::specs::Stack::onto, crate::specs::Stack::goes_on))]
-fn enter_element<'p>(
-    e: &'p Elem,
-    back: u32,
-    depth: u32,
-    stack: &mut Stack<'p>,
-    _m: &mut Machine<'p>,
-) -> Result<Focus<'p>, EvalFault>
-    ensures goes { Leads (and_then ((meaning depth).element (env_in (held _m.old)) (along_in (held _m.old))
-        (element_of e.now) (made_in stack.old) (state_of _m.old)) (added (rest stack.old) (left back (held _m.old))))
-        result stack.new _m.new }
-    ensures less { Below_by 5 result stack.old _m.old stack.new _m.new }
-{
-    stack.push(Frame::Leave(back))?;
-    Ok(Focus::Element(e, depth))
 }
 
 /// The next turn of a loop with start, test and step: its test.

@@ -7,20 +7,19 @@ ghost use Rattle.scad_value.specs.View.{datum_of};
 ghost use Rattle.scad_machine.specs.Machine.{Held, held, env_in, along_in};
 ghost use Rattle.scad_machine.specs.State.{State, and_then, pure};
 ghost use Rattle.scad_stack.specs.Meaning.{meaning, right_side, truth_of};
-ghost use Rattle.scad_stack.specs.Pieces.{side, step_and_end, stepped_end};
+ghost use Rattle.scad_stack.specs.Pieces.{side};
 ghost use Rattle.scad_stack.specs.Stack.{Rest, Leads, Below_by, followed, goes_further, goes_on, rank};
 
 use crate::frame::{Focus, Frame, Further, Right};
 use crate::stack::Stack;
 use scad_ast::{BinOp, Expr};
-use scad_fault::Place;
 use scad_machine::{EvalFault, Machine};
 use scad_operations::{Bounds, Operation};
 use scad_value::{Value, truth};
 
 /// An expression one of whose parts has its value.
 #[inline(always)]
-#[tactic(auto, using(crate::proofs::StackTurns::nodes), unfolding(crate::specs::Stack::goes_further, crate::specs::Stack::onto, scad_operations::specs::Operation::operates, crate::specs::Pieces::range_end, crate::specs::Pieces::index_of))]
+#[tactic(auto, using(crate::proofs::StackTurns::nodes), unfolding(crate::specs::Stack::goes_further, crate::specs::Stack::onto, scad_operations::specs::Operation::operates, crate::specs::Pieces::range_end, crate::specs::Pieces::step_and_end, crate::specs::Pieces::stepped_end, crate::specs::Pieces::index_of))]
 pub fn further<'p>(
     next: Further<'p>,
     depth: u32,
@@ -35,79 +34,23 @@ pub fn further<'p>(
     match next {
         Further::RangeEnd(end) => stack.wait(Frame::Operation(Operation::Ends(v)), end, depth),
         Further::StepAndEnd(at, step, end) => {
-            let more = StepAndEnd { at, step, end };
-            range_from(more, depth, v, stack, m)
+            let start = Bounds {
+                start: v,
+                step: Value::Undef,
+            };
+            let bounds = Box::new(stack.alloc(), start)?;
+            let next = Further::SteppedEnd(at, bounds, end);
+            stack.wait(Frame::Further(next, depth), step, depth)
         }
         Further::SteppedEnd(at, bounds, end) => {
-            let more = SteppedEnd { at, bounds, end };
-            range_by(more, depth, v, stack, m)
+            let mut bounds = bounds;
+            bounds.step = v;
+            stack.wait(Frame::Operation(Operation::Stepped(at, bounds)), end, depth)
         }
         Further::Right(right) => right_side(right, depth, v, stack, m),
         Further::Sides(a, b) => Ok(side(&v, a, b, depth)),
         Further::IndexOf(i) => stack.wait(Frame::Operation(Operation::Indexed(v)), i, depth),
     }
-}
-
-/// The step and the end of a range.
-#[derive(Clone, Copy)]
-struct StepAndEnd<'p> {
-    at: Place,
-    step: &'p Expr,
-    end: &'p Expr,
-}
-
-/// A range whose start has its value: its step.
-#[tactic(auto, using(crate::proofs::StackTurns::nodes), unfolding(crate::specs::Stack::goes_further, crate::specs::Stack::onto, crate::specs::Pieces::step_and_end))]
-fn range_from<'p>(
-    more: StepAndEnd<'p>,
-    depth: u32,
-    start: Value,
-    stack: &mut Stack<'p>,
-    m: &mut Machine<'p>,
-) -> Result<Focus<'p>, EvalFault>
-    ensures goes { Leads (followed (step_and_end (meaning depth) (env_in (held m.old)) (along_in (held m.old))
-        more.entry.at (datum_of start) (expression_of more.entry.step.now) (expression_of more.entry.end.now)) stack.old m.old)
-        result stack.new m.new }
-    ensures less { Below_by 4 result stack.old m.old stack.new m.new }
-{
-    let _steps = m.steps_left;
-    let StepAndEnd { at, step, end } = more;
-    let none = Value::Undef;
-    let bounds = Box::new(stack.alloc(), Bounds { start, step: none })?;
-    let next = Further::SteppedEnd(at, bounds, end);
-    stack.wait(Frame::Further(next, depth), step, depth)
-}
-
-/// A range with its start, and its end.
-#[derive(Drop)]
-struct SteppedEnd<'p> {
-    at: Place,
-    bounds: Box<Bounds>,
-    end: &'p Expr,
-}
-
-/// A range whose start and step have their values: its end.
-#[tactic(auto, using(crate::proofs::StackTurns::nodes), unfolding(crate::specs::Stack::onto, scad_operations::specs::Operation::operates, crate::specs::Pieces::stepped_end))]
-fn range_by<'p>(
-    more: SteppedEnd<'p>,
-    depth: u32,
-    step: Value,
-    stack: &mut Stack<'p>,
-    m: &mut Machine<'p>,
-) -> Result<Focus<'p>, EvalFault>
-    ensures goes { Leads (followed (stepped_end (meaning depth) (env_in (held m.old)) (along_in (held m.old))
-        more.entry.at (datum_of more.entry.bounds.value.start) (datum_of step) (expression_of more.entry.end.now))
-        stack.old m.old) result stack.new m.new }
-    ensures less { Below_by 4 result stack.old m.old stack.new m.new }
-{
-    let _steps = m.steps_left;
-    let SteppedEnd {
-        at,
-        mut bounds,
-        end,
-    } = more;
-    bounds.step = step;
-    stack.wait(Frame::Operation(Operation::Stepped(at, bounds)), end, depth)
 }
 
 /// The right side of an operator whose left operand has its value.

@@ -29,13 +29,13 @@ fn append<T: Drop>(all: &mut Vec<T>, value: T) -> Result<(), AllocError>
 }
 
 impl<'p> Stack<'p> {
-    ghost use Rattle.std.specs.Prelude.{◌≡◌, ◌+◌, ◌≤◌, ◌*◌, ◌++◌, ◌∷◌, [], OnOk, IfOk, MatchOption};
+    ghost use Rattle.std.specs.Prelude.{◌≡◌, ◌+◌, ◌*◌, ◌++◌, ◌∷◌, [], OnOk, IfOk, MatchOption};
     ghost use Rattle.scad_ast.specs.View.{expression_of};
     ghost use Rattle.scad_value.specs.View.{datum_of};
     ghost use Rattle.scad_machine.specs.Machine.{Held, env_in, along_in};
     ghost use Rattle.scad_stack.specs.Meaning.{value};
     ghost use Rattle.scad_operations.specs.Parts.{parts_in};
-    ghost use Rattle.scad_stack.specs.Stack.{Whole, Goes, rest, ended, onto, height, made_in, rank};
+    ghost use Rattle.scad_stack.specs.Stack.{Whole, Goes, added, rest, ended, onto, height, made_in, rank};
     ghost use Rattle.scad_machine.specs.State.{State, Outcome, and_then};
 
     /// A stack without frames.
@@ -96,15 +96,16 @@ impl<'p> Stack<'p> {
         Ok(Focus::Part(e, depth))
     }
 
-    /// A value is added to the vector.
-    #[tactic(auto, using(scad_operations::proofs::Parts::pushed), unfolding(crate::specs::Stack::rest, crate::specs::Stack::height, crate::specs::Stack::made_in))]
-    pub(crate) fn add(&mut self, v: Value) -> Result<(), AllocError>
-        ensures made { OnOk result (made_in self.new ≡ made_in self.old ++ datum_of v ∷ []) }
-        ensures rest { rest self.new ≡ rest self.old }
-        ensures height { height self.new ≡ height self.old }
+    /// A value is added to the vector, and the frame on the top goes on.
+    #[tactic(auto, using(scad_operations::proofs::Parts::pushed), unfolding(crate::specs::Stack::rest, crate::specs::Stack::height, crate::specs::Stack::made_in, crate::specs::Stack::goes_on))]
+    pub(crate) fn add(&mut self, v: Value) -> Result<Focus<'p>, EvalFault>
+        ensures goes { (h : Held) (s : State) (o : Outcome Whole) → o
+            ≡ added (rest self.old) h (made_in self.old ++ datum_of v ∷ []) s
+            → Goes o result (rest self.new) h (made_in self.new) s }
+        ensures less { IfOk result (λ f. rank f + 2 * height self.new ≡ 2 * height self.old + 4) }
     {
-        self.made.push(Part::One(v))?;
-        Ok(())
+        append(&mut self.made, Part::One(v))?;
+        Ok(Focus::Given(Value::Undef))
     }
 
     /// Another vector is made; gives what was added to the one before.

@@ -1,22 +1,21 @@
 //! Turns of a `for` with variables in a vector.
 
-ghost use Rattle.std.specs.Prelude.{◌≡◌, ◌∷◌, [], IfOk, MatchOption};
+ghost use Rattle.std.specs.Prelude.{◌∷◌};
 ghost use Rattle.scad_ast.specs.View.{arguments, element_of};
 ghost use Rattle.scad_value.specs.View.{datum_of};
-ghost use Rattle.scad_machine.specs.Machine.{held, env_in, along_in, state_of};
+ghost use Rattle.scad_machine.specs.Machine.{held, env_in, along_in};
 ghost use Rattle.scad_stack.specs.Meaning.{for_variables, meaning};
-ghost use Rattle.scad_operations.specs.Runs.{items};
-ghost use Rattle.scad_stack.specs.Stack.{Leads, Below_by, followed_list, turns_of, course, rest, made_in};
+ghost use Rattle.scad_operations.specs.Runs.{left_in};
+ghost use Rattle.scad_stack.specs.Stack.{Leads, Below_by, followed_list, turns_of, made_in};
 
-use crate::frame::{Course, Focus, Frame, Round, Turning, Variable};
+use crate::frame::{Focus, Frame, Round, Turning, Variable};
 use crate::name_bindings::named;
 use crate::stack::Stack;
 use scad_ast::{Arg, Elem};
 use scad_fault::Place;
 use scad_machine::{EvalFault, Machine};
-use scad_operations::{items_of, next_number};
-use scad_value::{Value, copy};
-use std::alloc::{AllocError, Global};
+use scad_operations::{Remainder, next_value};
+use scad_value::Value;
 
 /// The variables of a `for` that follow, and the element inside them.
 #[tactic(auto, using(crate::proofs::StackTurns::variables), unfolding(crate::specs::Stack::onto, crate::specs::Stack::goes_round, crate::specs::Stack::goes_on))]
@@ -42,7 +41,7 @@ pub(crate) fn variables<'p>(
                 body,
                 depth,
             };
-            let left = Course::Values(Vec::new(stack.alloc()), 0);
+            let left = Remainder::Values(Vec::new(stack.alloc()), 0);
             let back = 0;
             let turning = Turning {
                 variable,
@@ -56,42 +55,6 @@ pub(crate) fn variables<'p>(
     }
 }
 
-/// What a value is run over by.
-#[tactic(auto, using(scad_operations::proofs::RunsLeft::kinds))]
-pub(crate) fn course_of(alloc: Global, value: &Value) -> Result<Course, AllocError>
-    ensures { IfOk result (λ c. course c ≡ items (datum_of value.now)) }
-{
-    match value {
-        Value::Range(start, step, end) => Ok(Course::Numbers(Some(*start), *step, *end)),
-        value => Ok(Course::Values(items_of(alloc, value)?, 0)),
-    }
-}
-
-/// The next value; what is left comes behind it.
-#[tactic(auto, using(scad_value::proofs::Lists::lists))]
-fn next_of(alloc: Global, left: &mut Course) -> Result<Option<Value>, AllocError>
-    ensures { IfOk result (λ r. MatchOption r (course left.old ≡ [])
-        (λ v. course left.old ≡ datum_of v ∷ course left.new)) }
-{
-    match left {
-        Course::Values(all, i) => {
-            if *i >= all.len() {
-                return Ok(None);
-            }
-            let value = copy(alloc, &all[*i])?;
-            *i += 1;
-            Ok(Some(value))
-        }
-        Course::Numbers(next, step, end) => match next_number(*next, *step, *end) {
-            Some((n, rest)) => {
-                *next = rest;
-                Ok(Some(Value::Number(n)))
-            }
-            None => Ok(None),
-        },
-    }
-}
-
 /// The next turn of a variable, or none.
 #[tactic(auto, using(crate::proofs::StackTurns::turnings), unfolding(crate::specs::Stack::goes_on))]
 pub(crate) fn turn<'p>(
@@ -99,12 +62,12 @@ pub(crate) fn turn<'p>(
     stack: &mut Stack<'p>,
     m: &mut Machine<'p>,
 ) -> Result<Focus<'p>, EvalFault>
-    ensures goes { Leads (followed_list (turns_of turning.entry.value.variable (held m.old) (course turning.entry.value.left)
+    ensures goes { Leads (followed_list (turns_of turning.entry.value.variable (held m.old) (left_in turning.entry.value.left)
         (made_in stack.old)) stack.old m.old) result stack.new m.new }
     ensures less { Below_by 4 result stack.old m.old stack.new m.new }
 {
     let mut turning = turning;
-    match next_of(stack.alloc(), &mut turning.left)? {
+    match next_value(stack.alloc(), &mut turning.left)? {
         Some(value) => turn_on(turning, value, stack, m),
         None => Ok(Focus::Given(Value::Undef)),
     }
@@ -119,7 +82,7 @@ fn turn_on<'p>(
     m: &mut Machine<'p>,
 ) -> Result<Focus<'p>, EvalFault>
     ensures goes { Leads (followed_list (turns_of turning.entry.value.variable (held m.old) (datum_of value
-        ∷ course turning.entry.value.left) (made_in stack.old)) stack.old m.old) result stack.new m.new }
+        ∷ left_in turning.entry.value.left) (made_in stack.old)) stack.old m.old) result stack.new m.new }
     ensures less { Below_by 4 result stack.old m.old stack.new m.new }
 {
     let mut turning = turning;

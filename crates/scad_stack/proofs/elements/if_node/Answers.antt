@@ -7,5 +7,6 @@ use Rattle.scad_stack.proofs.elements.if_node.Goals as goal
 
 pub returns-clause-goes : goal.returns-clause-goes
 returns-clause-goes c = λ o is.
-    c.later.ensures.goes o (is ∙ if-begins c.args.depth c.args.at (expression_of c.args.test.now) c.args.e
+    c.later.ensures.goes o (is ∙ if-begins c.args.depth c.args.at (expression_of c.args.test.now) c.args.both.e
+    c.args.both.other
     (held c.args.m.now) (rest c.args.stack.now) (made_in c.args.stack.now) (state_of c.args.m.now))

@@ -3,7 +3,6 @@ use Rattle.std.specs.Box.{with_value}
 use Rattle.scad_value.specs.View.{datum_of}
 use Rattle.scad_machine.specs.Machine.{Held, held, env_in, along_in, state_of}
 use Rattle.scad_machine.specs.Variables.{set, empty, within}
-use Rattle.scad_stack.specs.declared.frame.Course.{Course}
 use Rattle.scad_stack.specs.declared.frame.Turning.{Turning}
 use Rattle.scad_stack.specs.declared.frame.Variable.{Variable}
 use Rattle.scad_stack.specs.Stack.{rest, made_in}
