@@ -7,10 +7,8 @@ use Rattle.std.proofs.lemmas.List.Elements.{recursion_from_All, All-from_recursi
 use Rattle.std.proofs.Math.Seq.{drop-cons}
 use Rattle.scad_base.proofs.Lists.{AllByRecursion-append}
 use Rattle.scad_geom.specs.declared.point.Edge.{Edge}
-use Rattle.scad_geom.specs.Point.{whole}
 use Rattle.plan_infill.specs.declared.line.Line.{Line}
 use Rattle.plan_infill.specs.declared.step.Step.{Step}
-use Rattle.plan_infill.specs.Runs.{point_on}
 use Rattle.plan_infill.specs.Steps.{up_to, all_of, ComesNear, IsApart, IsStep, AreTurnSteps, AreNearSteps, AreSteps}
 use Rattle.plan_infill.proofs.RowReach.{not_near}
 

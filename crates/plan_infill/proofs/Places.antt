@@ -108,6 +108,9 @@ pub negated_size : (y z : ℤ) → unsigned_abs z ≤ 0 + unsigned_abs (to_z w12
     → unsigned_abs (to_z w128 (of_z w128 z)) ≤ 2 ^ 33
 negated_size y z small = kept_size z (let most = widened_size y in omega (arith, small, most))
 
+pub small_fits : (z : ℤ) → unsigned_abs z ≤ coordinate_limit → FitsSigned w32 z
+small_fits z small = fits_by_size w32 z (omega arith)
+
 pub column_size : (z : ℤ) → FitsSigned w32 z → unsigned_abs z ≤ coordinate_limit
     → unsigned_abs (to_z w128 (of_z w128 (to_z w32 (of_z w32 z)))) ≤ 2 ^ 21
 column_size z fits small = rw (read_widened z fits) (omega arith)

@@ -1,7 +1,7 @@
 -- An edge comes near to a point of a row exactly where it lies beside the row and the point is in its reach.
-use Rattle.std.proofs.Common.{◌≡◌, ◌⊎◌, inl, inr, ℕ, ◌+◌, ◌*◌, ◌/◌, ◌≤◌, Bool, true, false, cond, ◌&&◌, [], ◌∷◌, refl, sym, subst, ◌∙◌, arith, ℤ, pos, neg_ℤ, negsuc, ◌+ℤ◌, ◌-ℤ◌, ◌*ℤ◌, ◌<ℤ◌, List}
+use Rattle.std.proofs.Common.{◌≡◌, ◌⊎◌, inl, inr, ℕ, Bool, true, false, cond, ◌&&◌, [], ◌∷◌, refl, sym, subst, ◌∙◌, arith, ℤ, pos, neg_ℤ, negsuc, ◌+ℤ◌, ◌-ℤ◌, ◌*ℤ◌, ◌<ℤ◌, List}
 use lib.Signed.{◌≤ℤ◌}
-use Rattle.std.specs.Prelude.{int_lt, int_le, ◌↔◌, if◌then◌else◌}
+use Rattle.std.specs.Prelude.{int_lt, int_le, ◌↔◌}
 use Rattle.std.specs.Int.{int_min, int_max}
 use Rattle.std.specs.List.{AllByRecursion}
 use Rattle.std.proofs.lemmas.Int.{ints}

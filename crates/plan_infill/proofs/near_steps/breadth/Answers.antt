@@ -1,5 +1,5 @@
 -- The sizes of what is handed on, and what comes out by the heading of the way.
-use Rattle.std.proofs.Common.{◌≡◌, ℤ, pos, ◌+ℤ◌, ◌-ℤ◌, ◌*ℤ◌, true, false, sym, ◌∙◌, refl, arith, rules, to_z, of_z}
+use Rattle.std.proofs.Common.{◌≡◌, pos, ◌+ℤ◌, ◌-ℤ◌, ◌*ℤ◌, true, false, sym, ◌∙◌, refl, arith, rules, to_z, of_z}
 use Rattle.std.specs.Prelude.{int_le}
 use Rattle.std.specs.Int.{w128}
 use Rattle.scad_geom.proofs.Casts.{casts, sizes}

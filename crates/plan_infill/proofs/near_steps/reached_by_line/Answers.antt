@@ -1,13 +1,12 @@
-use Rattle.std.proofs.Common.{◌≡◌, ℕ, ◌^◌, ◌≤◌, rules, sym, subst, FitsSigned, ℤ, pos, arith, ◌+ℤ◌, ◌-ℤ◌, ◌<ℤ◌}
+use Rattle.std.proofs.Common.{◌≡◌, ◌∙◌, ℕ, ◌^◌, ◌≤◌, sym, ap, ap₂, subst, FitsSigned, ℤ, pos, arith, ◌+ℤ◌, ◌-ℤ◌, ◌<ℤ◌}
 use lib.Signed.{◌≤ℤ◌}
 use Rattle.std.specs.Prelude.{◌↔◌}
-use Rattle.scad_geom.specs.Line.{rise, x_at}
+use Rattle.scad_geom.specs.Line.{x_at}
 use Rattle.std.proofs.lemmas.Int.{to_z-of_z}
 use mir.Syntax.{w128}
-use Rattle.scad_geom.proofs.Casts.{casts, sizes, by_cast}
-use Rattle.plan_infill.specs.Quotient.{IsFloor, IsCeiling}
-use Rattle.plan_infill.specs.Reach.{line_reach, IsBesideLine}
-use Rattle.plan_infill.proofs.Places.{both_fit, both_size}
+use Rattle.scad_geom.proofs.Casts.{sizes, by_cast, read_widened}
+use Rattle.plan_infill.specs.Reach.{IsBesideLine}
+use Rattle.plan_infill.proofs.Places.{both_fit, both_size, is_floor, is_ceiling}
 use Rattle.plan_infill.proofs.RowReach.{line_those}
 use Rattle.plan_infill.proofs.near_steps.reached_by_line.Goals as goal
 
@@ -42,14 +41,19 @@ ceiling-requires c = record {
 }
 
 next : (c : goal.After-ceiling) → c.plus.result ≡ c.floor.result +ℤ pos 1
-next c = search (rules, casts)
+next c =
+    c.plus.ensures.sum
+    ∙ ap (λ (z : ℤ). z +ℤ pos 1) (to_z-of_z w128 c.floor.result (record { sfits = c.floor.type_inv }))
 
 pub returns : goal.returns
 returns c x =
-    let f : IsFloor (x_at c.args.e.now c.args.y (pos 1) -ℤ line_reach c.args.c c.args.e.now) (rise c.args.e.now)
-    c.floor.result = search (rules, casts) in
-    let u : IsCeiling (x_at c.args.e.now c.args.y (pos 1) +ℤ line_reach c.args.c c.args.e.now) (rise c.args.e.now)
-    c.ceiling.result = search (rules, casts) in
+    let at = by_cast w128 c.x_at-x.type_inv (c.x_at-x.ensures.value
+    ∙ ap (λ (z : ℤ). x_at c.args.e.now z (pos 1)) (read_widened c.args.y c.ranges.y)) in
+    let by = by_cast w128 c.line_reach-reach.type_inv c.line_reach-reach.ensures.value in
+    let f = is_floor (by_cast w128 c.minus.type_inv (c.minus.ensures.difference ∙ ap₂ (λ (s t : ℤ). s -ℤ t) at by))
+    (by_cast w128 c.rise.type_inv c.rise.ensures.value) c.floor.ensures.value in
+    let u = is_ceiling (by_cast w128 c.plus-2.type_inv (c.plus-2.ensures.sum ∙ ap₂ (λ (s t : ℤ). s +ℤ t) at by))
+    (by_cast w128 c.rise-2.type_inv c.rise-2.ensures.value) c.ceiling.ensures.value in
     let w = line_those c.args.c c.args.y c.args.e.now c.floor.result c.ceiling.result c.requires.rises f u x in
     let v : ((c.plus.result ≤ℤ x) × (x <ℤ c.ceiling.result)) ↔ IsBesideLine c.args.c c.args.y c.args.e.now x
     = subst (λ (z : ℤ). ((z ≤ℤ x) × (x <ℤ c.ceiling.result))

@@ -1,13 +1,11 @@
 -- Both ends fit 32 bits, and the test is that of their difference.
-use Rattle.std.proofs.Common.{◌≡◌, ℕ, ◌^◌, ◌<◌, ◌≤◌, Bool, true, false, List, [], ◌∷◌, ◌++◌, ℤ, pos, ◌-ℤ◌, unsigned_abs, to_z, of_z, FitsSigned, refl, sym, ap, ap₂, ◌∙◌, arith}
-use Rattle.std.specs.Prelude.{if◌then◌else◌}
+use Rattle.std.proofs.Common.{◌≡◌, ℕ, ◌^◌, ◌<◌, ◌≤◌, [], ◌∷◌, ◌++◌, ℤ, pos, ◌-ℤ◌, unsigned_abs, to_z, of_z, FitsSigned, refl, sym, ap₂, ◌∙◌, arith}
 use Rattle.std.proofs.lemmas.Int.{ints, to_z-of_z, to_z_pos}
 use Rattle.std.proofs.lemmas.List.{append-nil}
 use lib.Signed.{le_z}
 use mir.Syntax.{w32, w128}
 use Rattle.scad_geom.specs.Limits.{coordinate_limit}
 use Rattle.scad_geom.proofs.Casts.{difference_by, fits_by_size}
-use Rattle.plan_infill.specs.declared.run.Run.{Run}
 use Rattle.plan_infill.proofs.sweep.push_long.Goals as goal
 
 module _ (from to : ℤ) (fits : FitsSigned w128 from) (ends : FitsSigned w128 to)

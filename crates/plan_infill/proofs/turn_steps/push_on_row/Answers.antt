@@ -1,15 +1,14 @@
-use Rattle.std.proofs.Common.{◌≤◌, to_z, of_z, FitsSigned, ℤ, ap, ◌∙◌, rules, [], ◌∷◌, pos, ◌-ℤ◌, ◌<ℤ◌, unsigned_abs, sym}
+use Rattle.std.proofs.Common.{to_z, of_z, ℤ, ap, ap₂, subst, ◌∙◌, rules, [], ◌∷◌, pos, ◌-ℤ◌, ◌<ℤ◌, sym}
 use Rattle.std.proofs.lemmas.List.{append-nil}
 use Rattle.std.proofs.lemmas.Int.{to_z-of_z}
 use lib.Signed.{◌≤ℤ◌, lt_z, le_z}
 use mir.Syntax.{w32}
 use Rattle.scad_geom.specs.declared.point.Pt.{Pt}
-use Rattle.scad_geom.specs.Limits.{coordinate_limit}
 use Rattle.scad_geom.specs.Line.{low, high, rise, x_at}
 use Rattle.scad_geom.proofs.Casts.{casts}
 use Rattle.plan_infill.specs.Quotient.{IsCeiling}
 use Rattle.plan_infill.specs.Columns.{edge_turn}
-use Rattle.plan_infill.proofs.Places.{less, at_most}
+use Rattle.plan_infill.proofs.Places.{less, at_most, small_fits}
 use Rattle.plan_infill.proofs.Steps.{step_of, row_turns, row_below, row_above}
 use Rattle.plan_infill.proofs.turn_steps.push_on_row.Goals as goal
 use Rattle.plan_infill.proofs.turn_steps.push_on_row.Goals.{else-low-y-via-then-low-y+else-y-high, else-low-y-via-else-low-y}
@@ -17,8 +16,8 @@ use Rattle.plan_infill.proofs.turn_steps.push_on_row.Goals.{else-low-y-via-then-
 pub crossing-requires : goal.crossing-requires
 crossing-requires c =
     let at = to_z w32 (of_z w32 c.args.y) in
-    let lower : FitsSigned w32 c.low.result.y = search rules in
-    let upper : FitsSigned w32 c.high.result.y = search rules in
+    let lower = small_fits c.low.result.y (c.low.ensures.within c.requires.edge).y in
+    let upper = small_fits c.high.result.y (c.high.ensures.within c.requires.edge).y in
     let from = to_z-of_z w32 c.low.result.y lower ∙ ap (λ (p : Pt). p.y) c.low.ensures.value in
     let until = to_z-of_z w32 c.high.result.y upper ∙ ap (λ (p : Pt). p.y) c.high.ensures.value in
     record {
@@ -29,11 +28,16 @@ crossing-requires c =
 
 pub returns-in_ok-push : goal.returns-in_ok-push
 returns-in_ok-push c =
-    let from : (low c.args.e.now).y ≤ℤ c.args.y = search (rules, casts) in
-    let until : c.args.y <ℤ (high c.args.e.now).y = search (rules, casts) in
-    let k : IsCeiling (x_at c.args.e.now c.args.y (pos 1)) (rise c.args.e.now) c.crossing.result = search (rules, casts) in
-    let w : unsigned_abs c.crossing.result ≤ coordinate_limit = search (rules, casts) in
-    let steps = row_turns c.args.e.now c.args.y c.crossing.result from until k w in
+    let lower = small_fits c.low.result.y (c.low.ensures.within c.requires.edge).y in
+    let upper = small_fits c.high.result.y (c.high.ensures.within c.requires.edge).y in
+    let at = to_z-of_z w32 c.args.y c.ranges.y in
+    let under = to_z-of_z w32 c.low.result.y lower ∙ ap (λ (p : Pt). p.y) c.low.ensures.value in
+    let over = to_z-of_z w32 c.high.result.y upper ∙ ap (λ (p : Pt). p.y) c.high.ensures.value in
+    let from = at_most (low c.args.e.now).y c.args.y (sym (ap₂ le_z under at) ∙ c.if-low-y.true) in
+    let until = less c.args.y (high c.args.e.now).y (sym (ap₂ lt_z at over) ∙ c.if-y-high.true) in
+    let k = subst (λ (z : ℤ). IsCeiling (x_at c.args.e.now z (pos 1)) (rise c.args.e.now) c.crossing.result) at
+    c.crossing.ensures.value in
+    let steps = row_turns c.args.e.now c.args.y c.crossing.result from until k c.crossing.ensures.size in
     (step_of c.crossing.result (pos 0 -ℤ edge_turn c.args.e.now) ∷ [], steps, search (rules, casts))
 
 pub returns-else-low-y : goal.returns-else-low-y
