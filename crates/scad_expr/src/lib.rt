@@ -15,5 +15,7 @@ mod walk;
 pub use call::{bind, values};
 pub use let_bindings::let_names;
 pub use scad_machine::{Callee, DEPTH_LIMIT, EvalFault, Machine, STEP_LIMIT};
-pub use scad_operations::{asserted, items_of, judge_named, judge_variables, next_number};
+pub use scad_operations::{
+    Remainder, asserted, judge_named, judge_variables, next_number, next_value, run_over,
+};
 pub use walk::eval;
