@@ -1,5 +1,5 @@
 -- What is taken from the input, put together: bytes after others, and a text in pieces.
-use Rattle.std.proofs.Common.{◌≡◌, ◌+◌, ◌≤◌, ℕ, Bool, false, List, ◌++◌, length, drop, Option, Some, None, refl, sym, ap, ◌∙◌, subst, arith, length-append}
+use Rattle.std.proofs.Common.{◌≡◌, ◌+◌, ◌≤◌, ℕ, Bool, false, List, [], ◌++◌, length, drop, Option, Some, None, refl, sym, ap, ◌∙◌, subst, arith, length-append}
 use Rattle.std.specs.Prelude.{IfSome}
 use Rattle.std.specs.Option.{option_map}
 use Rattle.std.proofs.lemmas.List.{drop-drop}
@@ -10,6 +10,24 @@ use Rattle.scad_io.specs.Reading.{ReadsPart}
 pub record ReadSoFar (text : List ℕ) (old now : View) : Type 0 where
   pub front : IfSome old.input.bytes (λ rest. text ++ drop (length text) rest ≡ rest)
   pub view : now ≡ taken (length text) false old
+
+nothing_dropped : (bytes : Option (List ℕ)) → option_map (drop 0) bytes ≡ bytes
+nothing_dropped None = refl
+nothing_dropped (Some bytes) = refl
+
+nothing_taken : (v : View) → v.input.failed ≡ false → taken 0 false v ≡ v
+nothing_taken v sound = rw (nothing_dropped v.input.bytes, ← sound) refl
+
+-- at first nothing was read
+pub begun : (text : List ℕ) (v : View) → text ≡ [] → v.input.failed ≡ false → ReadSoFar text v v
+begun text v empty sound = rw empty (record { front = all v.input.bytes; view = sym (nothing_taken v sound) })
+  where
+    all : (bytes : Option (List ℕ)) → IfSome bytes (λ rest. [] ++ drop (length {A = ℕ} []) rest ≡ rest)
+    all None = tt
+    all (Some rest) = refl
+
+pub still_sound : {text : List ℕ} {old now : View} → ReadSoFar text old now → now.input.failed ≡ false
+still_sound so_far = ap (λ v. v.input.failed) so_far.view
 
 pub taken-twice : (k n : ℕ) (m : Bool) (v : View)
     → taken n m (taken k false v) ≡ taken (k + n) m v

@@ -53,9 +53,17 @@ impl<F: Drop> Handle<F> {
             (λ file. self.new.file ≡ Some file) (λ _. self.new.file ≡ self.old.file) }
         ensures answer { is_ok result ≡ is_ok opened }
     {
-        self.failed = opened.is_err();
-        self.file = Some(opened.map_err(|_| Failed)?);
-        Ok(())
+        match opened {
+            Ok(file) => {
+                self.failed = false;
+                self.file = Some(file);
+                Ok(())
+            }
+            Err(_) => {
+                self.failed = true;
+                Err(Failed)
+            }
+        }
     }
 }
 
@@ -72,9 +80,13 @@ impl<F: Read> Handle<F> {
         let Some(file) = &mut self.file else {
             return Ok(0);
         };
-        let read = file.read(into);
-        self.failed = read.is_err();
-        read.map_err(|_| Failed)
+        match file.read(into) {
+            Ok(n) => Ok(n),
+            Err(_) => {
+                self.failed = true;
+                Err(Failed)
+            }
+        }
     }
 }
 

@@ -56,9 +56,12 @@ fn pull<D: Desk>(desk: &mut D, piece: &mut [u8], text: &mut Vec<u8>) -> Result<u
     ensures later { D.faults desk.old ≤ D.faults desk.new }
     ensures cause { IsErrOf result ReadEnd.Fault → D.faults desk.old < D.faults desk.new }
 {
-    let n = desk.read(piece).map_err(|_| ReadEnd::Fault)?;
-    text.extend_from_slice(&piece[..n])
-        .map_err(|_| ReadEnd::Memory)?;
+    let Ok(n) = desk.read(piece) else {
+        return Err(ReadEnd::Fault);
+    };
+    if text.extend_from_slice(&piece[..n]).is_err() {
+        return Err(ReadEnd::Memory);
+    }
     Ok(n)
 }
 
