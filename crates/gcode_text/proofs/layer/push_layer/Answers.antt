@@ -14,3 +14,15 @@ returns-clause-err c =
     let number = begins _ c.in_ok-push_layer_number.ensures.ok in
     let height = begins_more _ number c.in_ok-push_height.ensures.ok in
     on_err_weaker c.push_paths.result (λ paths. begins_on height paths) c.push_paths.ensures.err
+
+pub push_paths-requires-clause-width : goal.push_paths-requires-clause-width
+push_paths-requires-clause-width c = c.requires.width
+
+pub push_paths-requires-clause-height : goal.push_paths-requires-clause-height
+push_paths-requires-clause-height c = c.requires.height
+
+pub push_paths-requires-clause-area : goal.push_paths-requires-clause-area
+push_paths-requires-clause-area c = c.requires.area
+
+pub push_paths-requires-clause-fits : goal.push_paths-requires-clause-fits
+push_paths-requires-clause-fits c = c.requires.fits

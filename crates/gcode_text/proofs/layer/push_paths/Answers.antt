@@ -32,3 +32,12 @@ pub returns-clause-volume : goal.returns-clause-volume
 returns-clause-volume c =
     no_more_paths_volume c.args.rates.now c.paths.volume _ c.args.paths.now c.paths.path-index (omega arith)
     c.paths.invariant.volume
+
+pub push_path-requires-clause-width : goal.push_path-requires-clause-width
+push_path-requires-clause-width c = c.requires.width
+
+pub push_path-requires-clause-height : goal.push_path-requires-clause-height
+push_path-requires-clause-height c = c.requires.height
+
+pub push_path-requires-clause-area : goal.push_path-requires-clause-area
+push_path-requires-clause-area c = c.requires.area

@@ -29,3 +29,12 @@ pub returns-clause-volume : goal.returns-clause-volume
 returns-clause-volume c =
     no_more_volume c.args.rates.now c.points.volume _ c.points.from c.args.rest.now c.points.to-index (omega arith)
     c.points.invariant.volume
+
+pub push_move-requires-clause-width : goal.push_move-requires-clause-width
+push_move-requires-clause-width c = c.requires.width
+
+pub push_move-requires-clause-height : goal.push_move-requires-clause-height
+push_move-requires-clause-height c = c.requires.height
+
+pub push_move-requires-clause-area : goal.push_move-requires-clause-area
+push_move-requires-clause-area c = c.requires.area
