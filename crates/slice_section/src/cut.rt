@@ -50,13 +50,23 @@ pub(crate) fn rising(triangle: &Triangle, plane: i128) -> Option<Side>
 fn first_falling(sides: &[Side], plane: i128) -> Option<Side>
     ensures { result ≡ find (falls plane) sides.now }
 {
-    sides.iter().copied().find(|side| falls(side, plane))
+    'sides: for side in sides {
+        if falls(side, plane) {
+            return Some(*side);
+        }
+    }
+    None
 }
 
 fn first_rising(sides: &[Side], plane: i128) -> Option<Side>
     ensures { result ≡ find (rises plane) sides.now }
 {
-    sides.iter().copied().find(|side| rises(side, plane))
+    'sides: for side in sides {
+        if rises(side, plane) {
+            return Some(*side);
+        }
+    }
+    None
 }
 
 // Where the side between a point below the plane and one above meets it, rounded.

@@ -1,0 +1,28 @@
+-- The sizes of what is handed on, and the difference of the products.
+use Rattle.std.proofs.Common.{refl, arith}
+use Rattle.std.proofs.lemmas.Int.{to_z-of_z}
+use mir.Syntax.{w128}
+use Rattle.scad_geom.proofs.Casts.{sizes, difference_by, product_by}
+use Rattle.slice_section.proofs.inside.point_apart.Goals as goal
+
+pub times-requires-clause-left : goal.times-requires-clause-left
+times-requires-clause-left c = omega (arith, sizes)
+
+pub times-requires-clause-right : goal.times-requires-clause-right
+times-requires-clause-right c = omega (arith, sizes)
+
+pub times-requires-2-clause-left : goal.times-requires-2-clause-left
+times-requires-2-clause-left c = omega (arith, sizes)
+
+pub minus-requires : goal.minus-requires
+minus-requires c = record { fits = omega (arith, sizes) }
+
+pub returns-clause-value : goal.returns-clause-value
+returns-clause-value c =
+    difference_by w128 c.minus.type_inv c.minus.ensures.difference
+    (product_by w128 c.times.type_inv c.times.ensures.product (to_z-of_z w128 c.args.point c.ranges.point)
+    (to_z-of_z w128 c.args.divisor c.ranges.divisor))
+    (product_by w128 c.times-2.type_inv c.times-2.ensures.product (to_z-of_z w128 c.args.end c.ranges.end) refl)
+
+pub returns-clause-size : goal.returns-clause-size
+returns-clause-size c = omega (arith, sizes)
