@@ -1,5 +1,5 @@
 -- A name that is evaluated, and a call whose one argument it is.
-use Rattle.std.proofs.Common.{◌≡◌, ◌≢◌, ℕ, List, [], ◌∷◌, Some, ap, ◌∙◌}
+use Rattle.std.proofs.Common.{◌≡◌, ◌≢◌, ℕ, List, [], ◌∷◌, Some, ap}
 use Rattle.scad_fault.specs.declared.place.Place.{Place}
 use Rattle.scad_fault.specs.declared.budget.BudgetKind.TheVariants.{Depth}
 use Rattle.scad_ast.specs.Tree.{Expression, Arguments, no_arguments, argument, name}

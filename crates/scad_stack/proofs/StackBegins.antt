@@ -1,5 +1,5 @@
 -- Parts that begin on the stack, as the code has them.
-use Rattle.std.proofs.Common.{◌≡◌, ◌≢◌, ℕ, zero, suc, ◌-◌, ◌+◌, ◌<◌, ◌≤◌, Bool, true, false, if◌then◌else◌, List, [], ◌∷◌, ◌++◌, map, length, get_or, drop, Option, Some, None, option_map, Vec, Box, Global, codes, refl, sym, ap, ap₂, ◌∙◌, arith}
+use Rattle.std.proofs.Common.{◌≡◌, ℕ, suc, ◌+◌, ◌<◌, ◌≤◌, Bool, true, if◌then◌else◌, List, [], ◌∷◌, ◌++◌, map, length, get_or, drop, Option, Some, None, option_map, Vec, Box, Global, codes, refl, sym, ap, ap₂, ◌∙◌}
 use Rattle.std.proofs.lemmas.List.{drop_more, drop_all}
 use Rattle.std.specs.Borrow.{Bor}
 use Rattle.std.specs.List.{flat_map}
@@ -17,19 +17,17 @@ use Rattle.scad_scope.specs.Env.{Env}
 use Rattle.scad_scope.specs.FrameStore.{env_at, envs}
 use Rattle.scad_operations.specs.declared.part.Part.{Part}
 use Rattle.scad_operations.specs.declared.remainder.Remainder.{Remainder}
-use Rattle.scad_machine.specs.declared.fault.EvalFault.{EvalFault}
 use Rattle.scad_stack.specs.declared.frame.Frame.TheVariants.{Gathering as GatheringFrame, Round as RoundFrame}
 use Rattle.scad_stack.specs.declared.frame.Gathering.TheVariants.{Vector, Each, If}
 use Rattle.scad_stack.specs.declared.frame.Round.TheVariants.{Turns, Body}
 use Rattle.scad_stack.specs.declared.frame.Inside.TheVariants.{Value as InsideValue, Element as InsideElement, Turns as InsideTurns}
-use Rattle.scad_stack.specs.declared.frame.Within.{Within}
 use Rattle.scad_stack.specs.declared.frame.Loop.{Loop}
 use Rattle.scad_stack.specs.declared.frame.Opening.{Opening}
 use Rattle.scad_stack.specs.declared.frame.Variable.{Variable}
 use Rattle.scad_stack.specs.declared.frame.Turning.{Turning}
 use Rattle.scad_machine.specs.State.{State, Outcome, gives, refuses, Action, pure, and_then, ◌>>=◌, step, make, step_limit}
 use Rattle.scad_machine.specs.Machine.{Held, env_in, along_in}
-use Rattle.scad_machine.specs.Functions.{Function, Found}
+use Rattle.scad_machine.specs.Functions.{Found}
 use Rattle.scad_machine.specs.Parameters.{missing, parameter_names}
 use Rattle.scad_machine.specs.Arguments.{given, set_all}
 use Rattle.scad_operations.specs.Parts.{parts_in}
@@ -39,11 +37,10 @@ use Rattle.scad_stack.specs.Meaning.{Below, meaning, value, node, element_node, 
 use Rattle.scad_stack.specs.Meaning.{elements as elements_given}
 use Rattle.scad_machine.specs.OpenFrames.{opened, set_in_last, left, bound_in, outer, IsInner}
 use Rattle.scad_stack.specs.Pieces.{chosen_element, if_with, defaulted}
-use Rattle.scad_stack.specs.Stack.{Whole, Rest, added, gathers, goes_round, onto, binds, fills, entered, filling, binding, inside_of, looped, loop_of, renewed, turned, turning, turns_of}
-use Rattle.scad_machine.specs.View.{function_of}
+use Rattle.scad_stack.specs.Stack.{Whole, Rest, added, gathers, goes_round, onto, fills, entered, binding, inside_of, looped, loop_of, renewed, turned, turning, turns_of}
 use Rattle.scad_stack.proofs.Loops.{twice, same-then, call-begins}
 use Rattle.scad_machine.proofs.OpenFrames.{env_in-opened, along_in-opened, left-opened, gone-opened}
-use Rattle.scad_stack.proofs.StackTurns.{inner, inner-value, inner-element, left-inner, binds-opened, repeats-inner, fills-opened}
+use Rattle.scad_stack.proofs.StackTurns.{inner-value, inner-element, left-inner, binds-opened, repeats-inner, fills-opened}
 
 -- ---- vectors
 pub vector-begins : (below : Below) (at : Place) (es : Elements) (k k2 : Rest) (h : Held) (made none : List Datum)
@@ -359,8 +356,8 @@ if-begins depth at test e None h k made s =
     (λ d. chosen_element (meaning depth) (env_in h) (along_in h) d (element_of e.now) None made) (added k h)
 if-begins depth at test e (Some other) h k made s =
     later-begins (step at s) (value depth (env_in h) (along_in h) test)
-    (λ d. chosen_element (meaning depth) (env_in h) (along_in h) d (element_of e.now) (Some (element_of other.now)) made)
-    (added k h)
+    (λ d. chosen_element (meaning depth) (env_in h) (along_in h) d (element_of e.now) (Some (element_of other.now))
+    made) (added k h)
 
 -- ---- nodes and elements as the code reads them
 pub node-same : (depth : ℕ) (h : Held) (k : Rest) (made : List Datum) (s : State) (x y : Expression) → x ≡ y

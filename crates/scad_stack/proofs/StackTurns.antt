@@ -23,7 +23,7 @@ use Rattle.scad_stack.specs.Meaning.{Below, meaning, value, value_layer, node, v
 use Rattle.scad_machine.specs.OpenFrames.{opened, set_in_last, left, bound_in, outer, IsInner}
 use Rattle.scad_stack.specs.Pieces.{defaulted, named_of}
 use Rattle.scad_machine.specs.Arguments.{lone}
-use Rattle.scad_stack.specs.Stack.{Whole, Rest, ended, added, behind, args_of, binds, fills, renewed, turned, repeats, served, supplied, onto, rest_of}
+use Rattle.scad_stack.specs.Stack.{Whole, Rest, behind, args_of, binds, fills, renewed, turned, repeats, served, supplied, onto, rest_of}
 use Rattle.scad_stack.proofs.DepthLeft.{value_none, value_more, place_of, element_none, element_more}
 use Rattle.scad_stack.proofs.LoneNames.{values-lone}
 use Rattle.scad_stack.proofs.Loops.{twice, same-then}

@@ -1,5 +1,5 @@
 -- Pieces of the rules of the meaning of expressions: what is left of a rule once a part of it has its value, or of a list.
-use Rattle.std.specs.Prelude.{ℕ, zero, suc, true, false, List, [], ◌∷◌, ◌++◌, Option, Some, None, if◌then◌else◌}
+use Rattle.std.specs.Prelude.{ℕ, List, [], ◌∷◌, Option, Some, None, if◌then◌else◌}
 use Rattle.scad_fault.specs.declared.place.Place.{Place}
 use Rattle.scad_ast.specs.Tree.{Expression, Parameter, Arguments, no_arguments, argument, Element, if_element, if_else}
 use Rattle.scad_value.specs.Datum.{Datum}

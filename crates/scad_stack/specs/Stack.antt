@@ -1,5 +1,5 @@
 -- What is left to do: what each frame of the stack does with a value, and what is at work.
-use Rattle.std.specs.Prelude.{◌≡◌, ◌≢◌, ℕ, zero, suc, ◌+◌, ◌*◌, ◌<◌, ◌≤◌, List, [], ◌∷◌, ◌++◌, length, map, drop, option_map, Result, Ok, Err, Option, Some, None, true, false, if◌then◌else◌, IfOk, OnOk, codes}
+use Rattle.std.specs.Prelude.{◌≡◌, ◌≢◌, ℕ, zero, suc, ◌+◌, ◌*◌, ◌≤◌, List, [], ◌∷◌, ◌++◌, length, map, drop, option_map, Result, Ok, Err, Some, None, if◌then◌else◌, IfOk, OnOk, codes}
 use Rattle.std.specs.Borrow.{Bor}
 use Rattle.std.specs.List.{flat_map}
 use Rattle.scad_fault.specs.declared.place.Place.{Place}
@@ -38,7 +38,7 @@ use Rattle.scad_stack.specs.declared.frame.Focus.TheVariants.{Part, Element as E
 use Rattle.scad_stack.specs.declared.stack.Stack.{Stack}
 use Rattle.scad_machine.specs.declared.machine.Machine.{Machine}
 use Rattle.scad_machine.specs.Answers.{Does, nothing}
-use Rattle.scad_machine.specs.State.{State, Outcome, gives, refuses, Action, pure, and_then, ◌>>=◌, ◌>>◌, over, step, make, say}
+use Rattle.scad_machine.specs.State.{State, Outcome, refuses, Action, pure, and_then, ◌>>=◌, ◌>>◌, over, step, make, say}
 use Rattle.scad_fault.specs.declared.budget.BudgetKind.TheVariants.{Steps}
 use Rattle.scad_machine.specs.Machine.{Held, held, env_in, along_in, state_of}
 use Rattle.scad_machine.specs.Functions.{function_named}

@@ -209,8 +209,8 @@ fn loop_element<'p>(
     m.step(all.at)?;
     judge_named(stack.alloc(), all.at, b"for", starts)?;
     judge_named(stack.alloc(), all.at, b"for", all.steps)?;
-    let turns = Box::new(stack.alloc(), all)?;
     let back = m.open()?;
+    let turns = Box::new(stack.alloc(), all)?;
     let within = Within {
         inside: Inside::Turns(turns),
         back,

@@ -2,7 +2,7 @@ use Rattle.std.proofs.Common.{◌≡◌, ℕ, ◌<◌, ◌≤◌, [], ◌∷◌,
 use Rattle.std.proofs.lemmas.List.{length-map}
 use Rattle.scad_ast.specs.declared.expression.Arg.{Arg}
 use Rattle.scad_ast.specs.Tree.{Expression}
-use Rattle.scad_ast.specs.View.{expression_of, arguments}
+use Rattle.scad_ast.specs.View.{expression_of}
 use Rattle.scad_value.specs.Datum.{Datum}
 use Rattle.scad_value.specs.View.{datum_of, data_in}
 use Rattle.scad_machine.specs.Machine.{held, env_in, along_in, state_of}

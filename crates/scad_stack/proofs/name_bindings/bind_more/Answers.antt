@@ -1,4 +1,4 @@
-use Rattle.std.proofs.Common.{◌≡◌, sym, ap, ◌∙◌}
+use Rattle.std.proofs.Common.{sym, ap, ◌∙◌}
 use Rattle.scad_ast.specs.Tree.{Arguments}
 use Rattle.scad_ast.specs.View.{expression_of, arguments}
 use Rattle.scad_machine.specs.Machine.{held, env_in, along_in, state_of}

@@ -1,10 +1,9 @@
-use Rattle.std.proofs.Common.{◌≡◌, Box, Global, sym, ap, ◌∙◌}
+use Rattle.std.proofs.Common.{◌≡◌, sym, ap, ◌∙◌}
 use Rattle.std.specs.Box.{with_value}
 use Rattle.scad_value.specs.View.{datum_of}
 use Rattle.scad_machine.specs.Machine.{Held, held, env_in, along_in, state_of}
 use Rattle.scad_machine.specs.Variables.{set, empty, within}
 use Rattle.scad_stack.specs.declared.frame.Turning.{Turning}
-use Rattle.scad_stack.specs.declared.frame.Variable.{Variable}
 use Rattle.scad_stack.specs.Stack.{rest, made_in}
 use Rattle.scad_stack.proofs.Loops.{same-state}
 use Rattle.scad_stack.proofs.StackBegins.{turn-begins}

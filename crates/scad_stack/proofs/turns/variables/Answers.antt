@@ -1,6 +1,5 @@
-use Rattle.std.proofs.Common.{◌≡◌, sym, ap, ◌∙◌}
+use Rattle.std.proofs.Common.{sym, ap, ◌∙◌}
 use Rattle.scad_ast.specs.View.{expression_of, element_of, arguments}
-use Rattle.scad_value.specs.Datum.{Datum}
 use Rattle.scad_machine.specs.Machine.{held, env_in, along_in, state_of}
 use Rattle.scad_machine.specs.State.{and_then}
 use Rattle.scad_stack.specs.declared.frame.Turning.{Turning}
