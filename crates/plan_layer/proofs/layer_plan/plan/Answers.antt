@@ -29,6 +29,16 @@ is_plan c paths kept = record {
   runs_are = refl;
 }
 
+pub returns-clause-accepted : goal.returns-clause-accepted
+returns-clause-accepted c =
+    IfOk-weaker c.judged.result _ _ (λ p kept. c.in_ok-paths.ensures.accepted) c.judged.ensures.kept
+
+pub returns-clause-supports : goal.returns-clause-supports
+returns-clause-supports c = c.judged.ensures.supports
+
+pub returns-clause-moves : goal.returns-clause-moves
+returns-clause-moves c = c.judged.ensures.few
+
 pub returns-clause-clear : goal.returns-clause-clear
 returns-clause-clear c =
     IfOk-weaker c.judged.result _ _
