@@ -16,6 +16,7 @@ use std::alloc::Global;
 
 /// Opens frames for the names of a `let`, and binds them from left to right, each seeing those before it. Gives the number of
 /// the frame from which names were sought before: `leave` takes the frames away again.
+#[tactic(auto, using(scad_machine::proofs::OpenFrames::inner))]
 pub fn let_names<'p>(
     alloc: Global,
     args: &'p Args,
@@ -31,31 +32,8 @@ pub fn let_names<'p>(
     ensures back { IfOk result (λ back. left back (held machine.new) ≡ held machine.old) }
 {
     let depth = machine.depth();
-    bind_names(alloc, args, depth, machine)
-}
-
-/// Opens frames for the names of a `let`, and binds them from left to right. Gives the number of the
-/// frame from which names were sought before.
-#[tactic(auto, using(scad_machine::proofs::OpenFrames::inner))]
-fn bind_names<'p>(
-    alloc: Global,
-    args: &'p [Arg],
-    depth: u32,
-    m: &mut Machine<'p>,
-) -> Result<u32, EvalFault>
-    ensures does { Does (λ _. bound_in (held m.new)) (bound_in_order (meaning depth)
-        (env_in (held m.old)) (along_in (held m.old)) (arguments args.now) empty (state_of m.old))
-        result (state_of m.new) }
-    ensures env { OnOk result (env_in (held m.new)
-        ≡ within (env_in (held m.old)) (bound_in (held m.new)).names) }
-    ensures along { OnOk result (along_in (held m.new)
-        ≡ within (along_in (held m.old)) (bound_in (held m.new)).dollars) }
-    ensures back { IfOk result (λ back. left back (held m.new) ≡ held m.old) }
-    ensures inner { OnOk result (IsInner (held m.new)) }
-    ensures outer { OnOk result (outer (held m.new) ≡ held m.old) }
-{
-    let back = m.open()?;
-    set_names(alloc, args, depth, m)?;
+    let back = machine.open()?;
+    set_names(alloc, args, depth, machine)?;
     Ok(back)
 }
 

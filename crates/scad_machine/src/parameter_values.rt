@@ -9,8 +9,8 @@ use scad_bindings::NameMap;
 use scad_value::Value;
 use std::alloc::{AllocError, Global};
 
-/// Of how many arguments the names lie in a list. Most calls have few, and a map of them takes memory of its own beside the
-/// list.
+/// Of how many arguments the names lie in a list. Most calls have few, and a map of them takes memory of its own beside
+/// the list.
 const FEW_ARGUMENTS: usize = 8;
 
 /// The values of parameters and `$` names by their names, in the order in which they are first given.

@@ -14,12 +14,15 @@ returns-then-at-parent-clause-found c =
     let are = c.outwards.invariant.0 in
     let many = ap length are in
     let inside : n < length (stored c.args.frames.now) = omega (arith, c.len.ensures, many) in
-    let none : item_in (word_of_kind c.args.kind) c.args.name.now (stored_at (stored c.args.frames.now) n).scope ≡ None =
-    sym (ap (λ l. item_in (word_of_kind c.args.kind) c.args.name.now (stored_at l n).scope) are) ∙ sym c.in_ok-item.ensures.found
+    let none : item_in (word_of_kind c.args.kind) c.args.name.now (stored_at (stored c.args.frames.now) n).scope
+    ≡ None =
+    sym (ap (λ l. item_in (word_of_kind c.args.kind) c.args.name.now (stored_at l n).scope) are) ∙ sym
+    c.in_ok-item.ensures.found
     ∙ ap (option_map (λ i. item_of i.now)) c.in-None.is in
     let round : (stored_at (stored c.args.frames.now) n).parent ≡ Some c.in-Some-parent.parent =
     sym (ap (λ l. (stored_at l n).parent) (c.item.ensures.same ∙ are)) ∙ sym c.in-Some-parent.ensures in
-    sym (item-round_past (word_of_kind c.args.kind) c.args.name.now fs n inside none c.in-Some-parent.parent round (omega arith))
+    sym (item-round_past (word_of_kind c.args.kind) c.args.name.now fs n inside none c.in-Some-parent.parent round
+    (omega arith))
     ∙ c.outwards.invariant.1
 
 pub returns-then-len-at-clause-found : goal.returns-then-len-at-clause-found
@@ -38,7 +41,8 @@ returns-in-Some-clause-found c =
     let inside : n < length (stored c.args.frames.now) = omega (arith, c.len.ensures, many) in
     let some : item_in (word_of_kind c.args.kind) c.args.name.now (stored_at (stored c.args.frames.now) n).scope
     ≡ Some (item_of c.in-Some.item.now) =
-    sym (ap (λ l. item_in (word_of_kind c.args.kind) c.args.name.now (stored_at l n).scope) are) ∙ sym c.in_ok-item.ensures.found
+    sym (ap (λ l. item_in (word_of_kind c.args.kind) c.args.name.now (stored_at l n).scope) are) ∙ sym
+    c.in_ok-item.ensures.found
     ∙ ap (option_map (λ i. item_of i.now)) c.in-Some.is in
     sym (item-there (word_of_kind c.args.kind) c.args.name.now fs n inside _ some) ∙ c.outwards.invariant.1
 
@@ -49,8 +53,10 @@ returns-in-None-parent-clause-found c =
     let are = c.outwards.invariant.0 in
     let many = ap length are in
     let inside : n < length (stored c.args.frames.now) = omega (arith, c.len.ensures, many) in
-    let none : item_in (word_of_kind c.args.kind) c.args.name.now (stored_at (stored c.args.frames.now) n).scope ≡ None =
-    sym (ap (λ l. item_in (word_of_kind c.args.kind) c.args.name.now (stored_at l n).scope) are) ∙ sym c.in_ok-item.ensures.found
+    let none : item_in (word_of_kind c.args.kind) c.args.name.now (stored_at (stored c.args.frames.now) n).scope
+    ≡ None =
+    sym (ap (λ l. item_in (word_of_kind c.args.kind) c.args.name.now (stored_at l n).scope) are) ∙ sym
+    c.in_ok-item.ensures.found
     ∙ ap (option_map (λ i. item_of i.now)) c.in-None.is in
     let outermost : (stored_at (stored c.args.frames.now) n).parent ≡ None =
     sym (ap (λ l. (stored_at l n).parent) (c.item.ensures.same ∙ are)) ∙ sym c.in-None-parent.ensures in
@@ -63,12 +69,15 @@ outwards-preserved c =
     let are = c.outwards.invariant.0 in
     let many = ap length are in
     let inside : n < length (stored c.args.frames.now) = omega (arith, c.len.ensures, many) in
-    let none : item_in (word_of_kind c.args.kind) c.args.name.now (stored_at (stored c.args.frames.now) n).scope ≡ None =
-    sym (ap (λ l. item_in (word_of_kind c.args.kind) c.args.name.now (stored_at l n).scope) are) ∙ sym c.in_ok-item.ensures.found
+    let none : item_in (word_of_kind c.args.kind) c.args.name.now (stored_at (stored c.args.frames.now) n).scope
+    ≡ None =
+    sym (ap (λ l. item_in (word_of_kind c.args.kind) c.args.name.now (stored_at l n).scope) are) ∙ sym
+    c.in_ok-item.ensures.found
     ∙ ap (option_map (λ i. item_of i.now)) c.in-None.is in
     let round : (stored_at (stored c.args.frames.now) n).parent ≡ Some c.in-Some-parent.parent =
     sym (ap (λ l. (stored_at l n).parent) (c.item.ensures.same ∙ are)) ∙ sym c.in-Some-parent.ensures in (
       c.item.ensures.same ∙ are,
-      sym (item-round (word_of_kind c.args.kind) c.args.name.now fs n inside none c.in-Some-parent.parent round (omega arith))
+      sym (item-round (word_of_kind c.args.kind) c.args.name.now fs n inside none c.in-Some-parent.parent round
+          (omega arith))
           ∙ c.outwards.invariant.1,
     )

@@ -8,7 +8,8 @@ use Rattle.scad_machine.proofs.lookup.item_from.Given as goal
 abbrev pub invariant-outwards : goal.invariant-outwards
 invariant-outwards l =
     (stored l.frames ≡ stored l.fn.frames)
-    × (item_named (word_of_kind l.kind) l.name (env_at (envs (stored l.fn.frames)) l.at) ≡ item_named (word_of_kind l.kind) l.name
+    × (item_named (word_of_kind l.kind) l.name (env_at (envs (stored l.fn.frames)) l.at)
+    ≡ item_named (word_of_kind l.kind) l.name
     (env_at (envs (stored l.fn.frames)) l.from))
 
 abbrev pub decreases-outwards : goal.decreases-outwards

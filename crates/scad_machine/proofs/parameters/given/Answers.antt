@@ -1,4 +1,4 @@
-use Rattle.std.proofs.Common.{map, drop, ap, sym, ◌∙◌, arith}
+use Rattle.std.proofs.Common.{drop, ap, sym, ◌∙◌, arith}
 use Rattle.std.specs.Vec.Iter.{into_iter_items}
 use Rattle.scad_ast.specs.View.{arguments}
 use Rattle.scad_machine.specs.View.{values_in}
