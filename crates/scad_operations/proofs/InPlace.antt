@@ -3,7 +3,6 @@ use Rattle.std.proofs.Common.{◌≡◌, ◌≢◌, ℕ, ℤ, pos, negsuc, Bool,
 use Rattle.std.specs.Prelude.{int_div}
 use Rattle.scad_num.specs.Number.{one}
 use Rattle.scad_fault.specs.declared.place.Place.{Place}
-use Rattle.scad_ast.specs.Tree.{Expression}
 use Rattle.scad_ast.specs.declared.expression.Arg.{Arg}
 use Rattle.scad_ast.specs.View.{expression_of, arguments}
 use Rattle.scad_builtin.specs.declared.fault.BuiltinFault.{BuiltinFault}
