@@ -4,7 +4,7 @@ pub mod Edges
 pub mod WindingSum
 pub mod CutBalance
 pub mod Balance
-pub mod Differences
-pub mod Doubled
-pub mod Weights
-pub mod FirstSide
+mod Differences
+mod Doubled
+mod Weights
+mod FirstSide

@@ -1,11 +1,31 @@
 -- The sizes of what is handed on, and the difference of both parts.
-use Rattle.std.proofs.Common.{ℤ, ◌*ℤ◌, refl, ap₂, ◌∙◌, arith}
+use Rattle.std.proofs.Common.{ℤ, ◌*ℤ◌, ◌^◌, refl, ap₂, ◌∙◌, arith}
 use Rattle.std.proofs.lemmas.Int.{to_z-of_z}
 use mir.Syntax.{w128}
 use Rattle.scad_geom.specs.Winding.{side_by}
 use Rattle.scad_geom.proofs.Casts.{sizes, by_cast, difference_by, handed}
-use Rattle.slice_section.proofs.Differences.{crossed_by}
+use Rattle.slice_section.proofs.Differences.{crossed_by, kept_size}
 use Rattle.slice_section.proofs.inside.side.Goals as goal
+
+pub aside-left-requires : goal.aside-left-requires
+aside-left-requires c = record {
+  to = kept_size c.args.b.now.x (2 ^ 43) c.requires.b.x (omega arith);
+  from_divisor = kept_size c.args.a.now.d (2 ^ 22) c.requires.a.d (omega arith);
+  from = kept_size c.args.a.now.x (2 ^ 43) c.requires.a.x (omega arith);
+  to_divisor = kept_size c.args.b.now.d (2 ^ 22) c.requires.b.d (omega arith);
+  point = kept_size c.args.y (2 ^ 33) c.requires.y (omega arith);
+  end = kept_size c.args.a.now.y (2 ^ 43) c.requires.a.y (omega arith);
+}
+
+pub aside-right-requires : goal.aside-right-requires
+aside-right-requires c = record {
+  to = kept_size c.args.b.now.y (2 ^ 43) c.requires.b.y (omega arith);
+  from_divisor = kept_size c.args.a.now.d (2 ^ 22) c.requires.a.d (omega arith);
+  from = kept_size c.args.a.now.y (2 ^ 43) c.requires.a.y (omega arith);
+  to_divisor = kept_size c.args.b.now.d (2 ^ 22) c.requires.b.d (omega arith);
+  point = kept_size c.args.x (2 ^ 33) c.requires.x (omega arith);
+  end = kept_size c.args.a.now.x (2 ^ 43) c.requires.a.x (omega arith);
+}
 
 pub minus-requires : goal.minus-requires
 minus-requires c = record { fits = omega (arith, sizes) }
