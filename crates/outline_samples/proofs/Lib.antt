@@ -1,3 +1,3 @@
-pub mod Neighbours
-mod Round
+mod Rounded
+mod Turns
 mod WholeLevels

@@ -6,76 +6,30 @@ ghost use Rattle.scad_geom.specs.Within.{IsWithin};
 use sample_dice::Dice;
 use scad_geom::Pt;
 
-/// The points of a grid, so many a side.
-#[derive(Clone, Copy)]
-pub(crate) struct Grid {
-    side: u32,
-    places: Places,
-    ghost some: { 0 < side },
-    ghost few: { side ≤ 10 },
-}
-
-// The coordinates along a side: from -500,000 micrometres upwards, 1, 7 or 100,000 apart, or from 1,000,000 downwards, 1 or
-// 200,000 apart.
-#[derive(Clone, Copy)]
-enum Places {
-    UpByOne,
-    UpBySeven,
-    UpFarApart,
-    DownByOne,
-    DownFarApart,
-}
-
-impl Places {
-    fn upwards(kind: u32) -> Places {
-        match kind {
-            0 => Places::UpByOne,
-            1 => Places::UpBySeven,
-            _ => Places::UpFarApart,
-        }
-    }
-
-    fn downwards(kind: u32) -> Places {
-        match kind {
-            0 => Places::DownByOne,
-            _ => Places::DownFarApart,
-        }
+// The coordinates along a side of so many points: from -500,000 micrometres upwards, 1, 7 or 100,000 apart, or from
+// 1,000,000 downwards, 1 or 200,000 apart.
+fn roll_coordinate(dice: &mut Dice, side: u32, places: u32) -> i32
+    requires some { 0 < side }
+    requires few { side ≤ 10 }
+    ensures { unsigned_abs result ≤ coordinate_limit }
+{
+    let k = dice.roll(side) as i32;
+    match places {
+        0 => k - 500_000,
+        1 => k * 7 - 500_000,
+        2 => k * 100_000 - 500_000,
+        3 => 1_000_000 - k,
+        _ => 1_000_000 - k * 200_000,
     }
 }
 
-impl Grid {
-    /// A grid of two to ten points a side, from the lower corner upwards.
-    pub(crate) fn roll_upwards(dice: &mut Dice) -> Grid {
-        let side = 2 + dice.roll(9);
-        let places = Places::upwards(dice.roll(3));
-        Grid { side, places }
-    }
-
-    /// A grid of two to nine points a side, from the upper corner downwards.
-    pub(crate) fn roll_downwards(dice: &mut Dice) -> Grid {
-        let side = 2 + dice.roll(8);
-        let places = Places::downwards(dice.roll(2));
-        Grid { side, places }
-    }
-
-    fn roll_coordinate(&self, dice: &mut Dice) -> i32
-        ensures { unsigned_abs result ≤ coordinate_limit }
-    {
-        let k = dice.roll(self.side) as i32;
-        match self.places {
-            Places::UpByOne => k - 500_000,
-            Places::UpBySeven => k * 7 - 500_000,
-            Places::UpFarApart => k * 100_000 - 500_000,
-            Places::DownByOne => 1_000_000 - k,
-            Places::DownFarApart => 1_000_000 - k * 200_000,
-        }
-    }
-
-    pub(crate) fn roll_point(&self, dice: &mut Dice) -> Pt
-        ensures { IsWithin coordinate_limit result }
-    {
-        let x = self.roll_coordinate(dice);
-        let y = self.roll_coordinate(dice);
-        Pt { x, y }
-    }
+/// A point of a grid of so many points a side, at places of the five kinds from 0 on; x is rolled first.
+pub(crate) fn roll_point(dice: &mut Dice, side: u32, places: u32) -> Pt
+    requires some { 0 < side }
+    requires few { side ≤ 10 }
+    ensures { IsWithin coordinate_limit result }
+{
+    let x = roll_coordinate(dice, side, places);
+    let y = roll_coordinate(dice, side, places);
+    Pt { x, y }
 }

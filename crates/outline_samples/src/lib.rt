@@ -13,16 +13,12 @@ mod loops;
 #[cfg(test)]
 mod meetings;
 #[cfg(test)]
-mod pieces;
+mod numbers;
 #[cfg(test)]
-mod random_borders;
+mod pieces;
 #[cfg(test)]
 mod random_fronts;
 #[cfg(test)]
 mod random_outlines;
 #[cfg(test)]
 mod random_toolpaths;
-#[cfg(test)]
-mod rising_heights;
-#[cfg(test)]
-mod slabs;

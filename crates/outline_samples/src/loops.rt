@@ -1,88 +1,46 @@
 //! Outlines of edges, of which the random ones were found by an independent program too.
-ghost use Rattle.std.specs.Prelude.{◌≡◌, [], ◌∷◌, ◌++◌, OnOk, IfOk};
-ghost use Rattle.scad_geom.specs.Segment.{segments};
-ghost use Rattle.scad_geom.specs.Balance.{IsBalanced};
 
 use crate::cases::expect;
-use scad_geom::{Edge, Loop, Pt};
+use plan_sides::sides;
+use scad_geom::{Loop, Pt};
 use slice_loops::join;
 use std::alloc::{AllocError, Global};
 
-fn push_edge(edges: &mut Vec<Edge>, a: Pt, b: Pt) -> Result<(), AllocError>
-    ensures { OnOk result (edges.new.items ≡ edges.old.items ++ (record { a = a; b = b } ∷ [])) }
-{
-    edges.push(Edge { a, b })?;
-    Ok(())
-}
-
-// The sides of a closed outline.
-fn push_sides(edges: &mut Vec<Edge>, first: Pt, rest: &[Pt]) -> Result<(), AllocError>
-    requires { IsBalanced (segments edges.old.items) }
-    ensures { OnOk result (IsBalanced (segments edges.new.items)) }
-{
-    let mut at = first;
-    'vertices: for next in rest {
-        push_edge(edges, at, *next)?;
-        at = *next;
-    }
-    push_edge(edges, at, first)
-}
-
-// A vertex for each two digits: its x and its y.
-fn vertices(alloc: Global, text: &str) -> Result<Vec<Pt>, AllocError> {
-    let mut vertices = Vec::new(alloc);
-    let mut x = 0;
-    let mut has_x = false;
-    for byte in text.as_bytes() {
-        let digit = i32::from(*byte).wrapping_sub(48);
-        if has_x {
-            vertices.push(Pt { x, y: digit })?;
-        } else {
-            x = digit;
+// Outlines with a blank between two. Each two digits are a vertex: its x and its y.
+fn outlines_of(alloc: Global, text: &str) -> Result<Vec<Loop>, AllocError> {
+    let mut outlines = Vec::new(alloc);
+    for part in text.split(' ') {
+        let mut points = Vec::new(alloc);
+        for vertex in part.as_bytes().chunks(2) {
+            if let [x, y] = vertex {
+                let (x, y) = (i32::from(*x) - 48, i32::from(*y) - 48);
+                points.push(Pt { x, y })?;
+            }
         }
-        has_x = !has_x;
-    }
-    Ok(vertices)
-}
-
-// The sides of outlines with a blank between two.
-fn sides(alloc: Global, text: &str) -> Result<Vec<Edge>, AllocError>
-    ensures { IfOk result (λ v. IsBalanced (segments v.items)) }
-{
-    let mut edges = Vec::new(alloc);
-    'outlines: for part in text.split(' ') {
-        let outline = vertices(alloc, part)?;
-        match outline.as_slice() {
-            [] => {}
-            [first, rest @ ..] => push_sides(&mut edges, *first, rest)?,
+        if !points.is_empty() {
+            outlines.push(Loop::from_vec(points))?;
         }
     }
-    Ok(edges)
+    Ok(outlines)
 }
 
-fn digit(coordinate: i32) -> u8 {
-    b'0' + (coordinate.unsigned_abs() % 10) as u8
-}
-
-// Outlines by the digits of their vertices, with a blank between two.
-fn told(alloc: Global, outlines: &[Loop]) -> Result<Vec<u8>, AllocError> {
-    let mut told = Vec::new(alloc);
-    for outline in outlines {
-        if !told.is_empty() {
-            told.push(b' ')?;
-        }
-        for vertex in outline.as_slice() {
-            told.push(digit(vertex.x))?;
-            told.push(digit(vertex.y))?;
+fn are_same(some: &[Loop], others: &[Loop]) -> bool {
+    if some.len() != others.len() {
+        return false;
+    }
+    for i in 0..some.len() {
+        if some[i].as_slice() != others[i].as_slice() {
+            return false;
         }
     }
-    Ok(told)
+    true
 }
 
-fn joined(alloc: Global, text: &str) -> Result<Vec<u8>, AllocError> {
-    let edges = sides(alloc, text)?;
-    let outlines = join(alloc, &edges)?;
-    told(alloc, &outlines)
+// Whether the second outlines are joined from the sides of the first.
+fn are_joined(alloc: Global, text: &str, wanted: &str) -> Result<bool, AllocError> {
+    let edges = sides(alloc, &outlines_of(alloc, text)?)?;
+    let joined = join(alloc, &edges)?;
+    Ok(are_same(&joined, &outlines_of(alloc, wanted)?))
 }
 
 // How loops start at their least vertices.
@@ -188,19 +146,13 @@ const RANDOM: [(&str, &str); 30] = [
 
 const TABLES: [&[(&str, &str)]; 5] = [&STARTS, &SHARED, &STRAIGHT, &FLAT, &RANDOM];
 
-fn is_joined(alloc: Global, text: &str, wanted: &str) -> bool {
-    match joined(alloc, text) {
-        Ok(loops) => loops.as_slice() == wanted.as_bytes(),
-        Err(_) => false,
-    }
-}
-
 // What was joined from the sides of the first outlines of each row are the second ones.
 #[test]
 fn outlines_are_joined_from_sides(rt: HostRuntime) {
     for rows in &TABLES {
         for (text, wanted) in *rows {
-            expect(&rt, is_joined(rt.alloc(), text, wanted), text);
+            let are = are_joined(rt.alloc(), text, wanted).expect(&rt, "memory");
+            expect(&rt, are, text);
         }
     }
 }

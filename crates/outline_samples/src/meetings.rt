@@ -1,6 +1,6 @@
-//! Edges that touch squares and octagons or just miss them, and outlines that wind round points.
+//! Edges that touch squares and octagons or just miss them.
 use crate::cases::expect;
-use scad_geom::{Edge, Half, Pt, box_meets, winding};
+use scad_geom::{Edge, Half, Pt, box_meets};
 use scad_ring::octagon_meets;
 
 const FALLING: Edge = Edge {
@@ -60,71 +60,5 @@ fn squares_and_octagons_meet_edges_that_touch_them(rt: HostRuntime) {
     for &(edge, x, y, half, s, u, meets) in &OCTAGONS {
         let found = octagon_meets(&edge, Pt { x, y }, half, s, u);
         expect(&rt, found == meets, "an octagon and an edge");
-    }
-}
-
-/// A five-pointed star.
-const STAR: [Edge; 5] = [
-    Edge {
-        a: Pt { x: 0, y: 10 },
-        b: Pt { x: -6, y: -8 },
-    },
-    Edge {
-        a: Pt { x: -6, y: -8 },
-        b: Pt { x: 9, y: 3 },
-    },
-    Edge {
-        a: Pt { x: 9, y: 3 },
-        b: Pt { x: -9, y: 3 },
-    },
-    Edge {
-        a: Pt { x: -9, y: 3 },
-        b: Pt { x: 6, y: -8 },
-    },
-    Edge {
-        a: Pt { x: 6, y: -8 },
-        b: Pt { x: 0, y: 10 },
-    },
-];
-
-const FAR: i32 = 1_100_000;
-
-const DIAGONAL: [Edge; 1] = [Edge {
-    a: Pt { x: -FAR, y: -FAR },
-    b: Pt { x: FAR, y: FAR },
-}];
-
-/// Points, and how often the star winds round them.
-const TURNS: [(i32, i32, Half, i64); 9] = [
-    (0, 0, Half::Whole, 2),
-    (0, 0, Half::Cell, 2),
-    (0, 9, Half::Whole, 1),
-    (0, 9, Half::Cell, 0),
-    (-6, -8, Half::Whole, 0),
-    (-6, -8, Half::Cell, 1),
-    (2, 3, Half::Whole, 1),
-    (2, 3, Half::Cell, 0),
-    (9, 3, Half::Whole, 0),
-];
-
-/// The same of the widest edge.
-const PASSES: [(i32, i32, Half, i64); 6] = [
-    (FAR - 1, FAR - 1, Half::Whole, 0),
-    (FAR - 2, FAR - 1, Half::Cell, 1),
-    (FAR - 1, FAR - 1, Half::Cell, 0),
-    (-FAR, -FAR, Half::Whole, 0),
-    (-FAR, 1 - FAR, Half::Whole, 1),
-    (-FAR, FAR, Half::Whole, 0),
-];
-
-#[test]
-fn a_star_winds_twice_round_its_middle(rt: HostRuntime) {
-    for &(x, y, half, turns) in &TURNS {
-        let found = winding(&STAR, Pt { x, y }, half);
-        expect(&rt, found == turns, "a star");
-    }
-    for &(x, y, half, turns) in &PASSES {
-        let found = winding(&DIAGONAL, Pt { x, y }, half);
-        expect(&rt, found == turns, "the widest edge");
     }
 }

@@ -1,12 +1,13 @@
-//! Pieces merged, rounded and cancelled; the rows were worked out by another program.
+//! Pieces merged, and opposite edges that cancel; the pieces were worked out by another program.
 ghost use Rattle.std.specs.Prelude.{◌≡◌, pos, OnOk, IfOk, All};
 ghost use Rattle.scad_geom.specs.Limits.{coordinate_limit};
 ghost use Rattle.slice_snap.specs.Spots.{IsSpotWithin};
-ghost use Rattle.slice_snap.specs.Pieces.{IsPieceWithin, HaveOneLevel};
+ghost use Rattle.slice_snap.specs.Pieces.{IsPieceWithin};
 
 use crate::cases::expect;
+use crate::numbers::number_with_pieces;
 use scad_geom::{Edge, Level, Pt};
-use slice_snap::{Piece, Spot, cancel, merge, round};
+use slice_snap::{Piece, Spot, cancel, merge};
 use std::alloc::{AllocError, Global};
 
 // A point at whole coordinates.
@@ -61,29 +62,12 @@ fn pieces(alloc: Global, text: &str) -> Result<Vec<Piece>, AllocError>
     Ok(pieces)
 }
 
-fn told_digit(number: i128) -> u8 {
-    b'0' + (number.unsigned_abs() % 10) as u8
-}
-
-fn told(alloc: Global, pieces: &[Piece]) -> Result<Vec<u8>, AllocError> {
-    let mut told = Vec::new(alloc);
-    for piece in pieces {
-        if !told.is_empty() {
-            told.push(b' ')?;
-        }
-        told.push(told_digit(piece.from.x))?;
-        told.push(told_digit(piece.from.at.n))?;
-        told.push(told_digit(piece.to.x))?;
-        told.push(told_digit(piece.to.at.n))?;
-        told.push(told_digit(i128::from(piece.edge)))?;
-    }
-    Ok(told)
-}
-
-fn merged(alloc: Global, text: &str) -> Result<Vec<u8>, AllocError> {
-    let pieces = pieces(alloc, text)?;
-    let merged = merge(alloc, &pieces)?;
-    told(alloc, &merged)
+// Whether the first pieces are merged to the second ones.
+fn are_merged(alloc: Global, text: &str, wanted: &str) -> Result<bool, AllocError> {
+    let pieces_of_text = pieces(alloc, text)?;
+    let merged = merge(alloc, &pieces_of_text)?;
+    let wanted = pieces(alloc, wanted)?;
+    Ok(number_with_pieces(0, &merged) == number_with_pieces(0, &wanted))
 }
 
 /// Pieces, and what they are merged to.
@@ -105,97 +89,49 @@ const MERGED: [(&str, &str); 12] = [
     ("", ""),
 ];
 
-fn is_merged(alloc: Global, text: &str, wanted: &str) -> bool {
-    match merged(alloc, text) {
-        Ok(told) => told.as_slice() == wanted.as_bytes(),
-        Err(_) => false,
-    }
-}
-
 #[test]
 fn pieces_of_one_name_are_merged(rt: HostRuntime) {
     for &(text, wanted) in &MERGED {
-        expect(&rt, is_merged(rt.alloc(), text, wanted), text);
+        let are = are_merged(rt.alloc(), text, wanted).expect(&rt, "memory");
+        expect(&rt, are, text);
     }
 }
 
-// The point (x / d, y / d), d not being 0.
-fn point(x: u8, y: u8, d: u8) -> Spot
-    ensures { IsSpotWithin coordinate_limit result }
-{
-    let d = if d == 0 { 1 } else { i128::from(d) };
-    Spot {
-        at: Level {
-            n: i128::from(y),
-            d,
-        },
-        x: i128::from(x),
-        run: 1,
-    }
-}
+const THERE: Edge = Edge {
+    a: Pt { x: 0, y: 0 },
+    b: Pt { x: 3, y: 1 },
+};
 
-#[test]
-fn ends_are_rounded_halves_down(rt: HostRuntime) {
-    let pieces = [
-        Piece {
-            from: point(3, 1, 2),
-            to: point(5, 7, 2),
-            edge: 0,
-        },
-        // A sliver that vanishes.
-        Piece {
-            from: point(5, 7, 2),
-            to: point(17, 33, 10),
-            edge: 1,
-        },
-    ];
-    let edges = round(rt.alloc(), &pieces).expect(&rt, "edges");
-    let expected = [Edge {
-        a: Pt { x: 1, y: 0 },
-        b: Pt { x: 2, y: 3 },
-    }];
-    expect(
-        &rt,
-        edges.as_slice() == expected.as_slice(),
-        "one rounded edge",
-    );
-}
+const BACK: Edge = Edge {
+    a: Pt { x: 3, y: 1 },
+    b: Pt { x: 0, y: 0 },
+};
 
-const fn edge(ends: [i32; 4]) -> Edge {
-    let [ax, ay, bx, by] = ends;
-    Edge {
-        a: Pt { x: ax, y: ay },
-        b: Pt { x: bx, y: by },
-    }
-}
+const ASIDE: Edge = Edge {
+    a: Pt { x: 0, y: 3 },
+    b: Pt { x: 1, y: 0 },
+};
 
-fn leaves(alloc: Global, edges: &[Edge], wanted: &[Edge]) -> bool {
-    match cancel(alloc, edges) {
-        Ok(left) => left.as_slice() == wanted,
-        Err(_) => false,
-    }
-}
+/// An edge of no length, which is its own opposite.
+const POINT: Edge = Edge {
+    a: Pt { x: 2, y: 2 },
+    b: Pt { x: 2, y: 2 },
+};
+
+/// Edges, and those that are left of them. Equal edges stay, and of three in one direction against one two are left.
+const CANCELLED: [(&[Edge], &[Edge]); 3] = [
+    (&[THERE, BACK], &[]),
+    (
+        &[THERE, ASIDE, THERE, BACK, THERE, ASIDE],
+        &[THERE, THERE, ASIDE, ASIDE],
+    ),
+    (&[POINT, POINT, POINT], &[POINT]),
+];
 
 #[test]
 fn opposite_edges_cancel_one_for_one(rt: HostRuntime) {
-    let (there, back, aside) = (edge([0, 0, 3, 1]), edge([3, 1, 0, 0]), edge([0, 3, 1, 0]));
-    expect(
-        &rt,
-        leaves(rt.alloc(), &[there, back], &[]),
-        "an edge there and back",
-    );
-    // Equal edges stay, and of three in one direction against one two are left.
-    let many = [there, aside, there, back, there, aside];
-    expect(
-        &rt,
-        leaves(rt.alloc(), &many, &[there, there, aside, aside]),
-        "two of three are left",
-    );
-    // An edge of no length is its own opposite.
-    let point = edge([2, 2, 2, 2]);
-    expect(
-        &rt,
-        leaves(rt.alloc(), &[point, point, point], &[point]),
-        "edges of no length",
-    );
+    for &(edges, wanted) in &CANCELLED {
+        let left = cancel(rt.alloc(), edges).expect(&rt, "memory");
+        expect(&rt, left.as_slice() == wanted, "edges that are left");
+    }
 }

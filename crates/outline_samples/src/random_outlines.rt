@@ -1,12 +1,13 @@
-//! Outlines by the sweep that keeps what doesn't change, beside those from all pieces of the border: of random closed
-//! outlines, many of whose sides are collinear, doubled, flat, empty or through one point.
+//! Random closed outlines, many of whose sides are collinear, doubled, flat, empty or through one point, under random
+//! shapes: the pieces of the border and the outlines, which an independent program has found too.
 ghost use Rattle.std.specs.Prelude.{◌≡◌, ◌++◌, ◌<◌, ◌≤◌, map, OnOk, IfOk, All};
 ghost use Rattle.scad_geom.specs.Limits.{coordinate_limit};
 ghost use Rattle.scad_geom.specs.Within.{IsWithin, IsEdgeWithin};
 ghost use Rattle.scad_geom.specs.Leaves.{AreLeavesBalanced};
 ghost use Rattle.scad_tree.specs.Sections.{leaf_edge};
 
-use crate::grid::Grid;
+use crate::grid::roll_point;
+use crate::numbers::{number_with, number_with_loops, number_with_pieces};
 use plan_sides::sides;
 use sample_dice::Dice;
 use scad_geom::{Edge, LeafEdge, Loop, Pt, Shape};
@@ -17,49 +18,38 @@ use std::slice::from_ref;
 // More edges than any of the lists has.
 const EDGE_LIMIT: u32 = 1000;
 
-fn roll_polygon(alloc: Global, dice: &mut Dice, grid: &Grid) -> Result<Loop, AllocError>
+// The last outline again, the same turned, a rectangle, or one of one to six points.
+fn roll_outline(
+    alloc: Global,
+    dice: &mut Dice,
+    side: u32,
+    places: u32,
+    last: Loop,
+) -> Result<Loop, AllocError>
+    requires some { 0 < side }
+    requires few { side ≤ 10 }
+    requires last { All (IsWithin coordinate_limit) last }
     ensures { IfOk result (λ l. All (IsWithin coordinate_limit) l) }
 {
-    let mut points = Vec::new(alloc);
+    let kind = dice.roll(8);
+    if kind == 0 {
+        return Ok(last);
+    }
+    let mut points = last.into_vec();
+    if kind == 1 {
+        points.reverse();
+        return Ok(Loop::from_vec(points));
+    }
+    points.clear();
+    if kind < 4 {
+        let p = roll_point(dice, side, places);
+        let q = roll_point(dice, side, places);
+        points.extend_from_slice(&[p, Pt { x: q.x, y: p.y }, q, Pt { x: p.x, y: q.y }])?;
+        return Ok(Loop::from_vec(points));
+    }
     let count = 1 + dice.roll(6);
     'points: for _i in 0..count {
-        points.push(grid.roll_point(dice))?;
-    }
-    Ok(Loop::from_vec(points))
-}
-
-fn rectangle(alloc: Global, p: Pt, q: Pt) -> Result<Loop, AllocError>
-    requires p { IsWithin coordinate_limit p }
-    requires q { IsWithin coordinate_limit q }
-    ensures { IfOk result (λ l. All (IsWithin coordinate_limit) l) }
-{
-    let mut points = Vec::new(alloc);
-    points.push(p)?;
-    points.push(Pt { x: q.x, y: p.y })?;
-    points.push(q)?;
-    points.push(Pt { x: p.x, y: q.y })?;
-    Ok(Loop::from_vec(points))
-}
-
-fn roll_outline(alloc: Global, dice: &mut Dice, grid: &Grid) -> Result<Loop, AllocError>
-    ensures { IfOk result (λ l. All (IsWithin coordinate_limit) l) }
-{
-    if dice.roll(3) == 0 {
-        let p = grid.roll_point(dice);
-        let q = grid.roll_point(dice);
-        rectangle(alloc, p, q)
-    } else {
-        roll_polygon(alloc, dice, grid)
-    }
-}
-
-fn reversed(alloc: Global, outline: &[Pt]) -> Result<Loop, AllocError>
-    requires { All (IsWithin coordinate_limit) outline.now }
-    ensures { IfOk result (λ l. All (IsWithin coordinate_limit) l) }
-{
-    let mut points = Vec::new(alloc);
-    'points: for i in 0..outline.len() {
-        points.push(outline[outline.len() - 1 - i])?;
+        points.push(roll_point(dice, side, places))?;
     }
     Ok(Loop::from_vec(points))
 }
@@ -91,32 +81,7 @@ fn push_sides(
     Ok(())
 }
 
-// An outline, which may come twice: of the same leaf or another, in the same direction or the other.
-fn push_outline(
-    alloc: Global,
-    edges: &mut Vec<LeafEdge>,
-    dice: &mut Dice,
-    grid: &Grid,
-) -> Result<(), AllocError>
-    requires within { All (λ e. IsEdgeWithin coordinate_limit e.edge) edges.old.items }
-    requires balanced { AreLeavesBalanced edges.old.items }
-    ensures within { OnOk result (All (λ e. IsEdgeWithin coordinate_limit e.edge) edges.new.items) }
-    ensures balanced { OnOk result (AreLeavesBalanced edges.new.items) }
-{
-    let outline = roll_outline(alloc, dice, grid)?;
-    push_sides(alloc, edges, dice.roll(6), &outline)?;
-    match dice.roll(6) {
-        0 => push_sides(alloc, edges, dice.roll(6), &outline),
-        1 => {
-            let leaf = dice.roll(6);
-            let turned = reversed(alloc, outline.as_slice())?;
-            push_sides(alloc, edges, leaf, &turned)
-        }
-        _ => Ok(()),
-    }
-}
-
-// The sides of up to so many outlines, some of them twice.
+// The sides of up to so many outlines of five leaves.
 fn roll_sides(alloc: Global, dice: &mut Dice, most: u32) -> Result<Vec<LeafEdge>, AllocError>
     requires some { 0 < most }
     requires few { most ≤ 1000 }
@@ -124,39 +89,41 @@ fn roll_sides(alloc: Global, dice: &mut Dice, most: u32) -> Result<Vec<LeafEdge>
     ensures balanced { IfOk result (λ v. AreLeavesBalanced v.items) }
 {
     let mut edges = Vec::new(alloc);
-    let grid = Grid::roll_upwards(dice);
+    let (side, places) = (2 + dice.roll(9), dice.roll(5));
     let count = 1 + dice.roll(most);
+    let mut outline = Loop::from_vec(Vec::new(alloc));
     'outlines: for _i in 0..count {
-        push_outline(alloc, &mut edges, dice, &grid)?;
+        outline = roll_outline(alloc, dice, side, places, outline)?;
+        push_sides(alloc, &mut edges, dice.roll(5), &outline)?;
     }
     Ok(edges)
 }
 
-fn one(alloc: Global, shape: Shape) -> Result<Vec<Shape>, AllocError> {
-    let mut members = Vec::new(alloc);
-    members.push(shape)?;
-    Ok(members)
+// None to two leaves.
+fn roll_leaves(alloc: Global, dice: &mut Dice) -> Result<Vec<Shape>, AllocError> {
+    let mut leaves = Vec::new(alloc);
+    let count = dice.roll(3);
+    for _i in 0..count {
+        leaves.push(Shape::Leaf(dice.roll(5)))?;
+    }
+    Ok(leaves)
 }
 
-fn pair(alloc: Global, first: Shape, second: Shape) -> Result<Vec<Shape>, AllocError> {
-    let mut members = one(alloc, first)?;
-    members.push(second)?;
-    Ok(members)
-}
-
-fn difference(alloc: Global, first: Shape, second: Shape) -> Result<Shape, AllocError> {
-    let rest = one(alloc, second)?;
-    Ok(Shape::Diff(Box::new(alloc, first)?, rest))
-}
-
-// An operation over a shape and a leaf.
+// An operation over leaves and a shape, which stands last.
 fn roll_over(alloc: Global, dice: &mut Dice, shape: Shape) -> Result<Shape, AllocError> {
-    let leaf = Shape::Leaf(dice.roll(6));
-    match dice.roll(8) {
-        0..=2 => Ok(Shape::Union(pair(alloc, shape, leaf)?)),
-        3 => Ok(Shape::Inter(pair(alloc, shape, leaf)?)),
-        4..=5 => difference(alloc, shape, leaf),
-        _ => difference(alloc, leaf, shape),
+    let kind = dice.roll(8);
+    let mut members = roll_leaves(alloc, dice)?;
+    if kind < 2 {
+        return Ok(Shape::Diff(Box::new(alloc, shape)?, members));
+    }
+    members.push(shape)?;
+    match kind {
+        2..=5 => Ok(Shape::Union(members)),
+        6 => Ok(Shape::Inter(members)),
+        _ => {
+            let first = Box::new(alloc, Shape::Leaf(dice.roll(5)))?;
+            Ok(Shape::Diff(first, members))
+        }
     }
 }
 
@@ -164,7 +131,9 @@ fn roll_over(alloc: Global, dice: &mut Dice, shape: Shape) -> Result<Shape, Allo
 fn roll_shape(alloc: Global, dice: &mut Dice) -> Result<Shape, AllocError> {
     let mut shape = match dice.roll(12) {
         0 => Shape::Empty,
-        _ => Shape::Leaf(dice.roll(6)),
+        1 => Shape::Union(roll_leaves(alloc, dice)?),
+        2 => Shape::Inter(roll_leaves(alloc, dice)?),
+        _ => Shape::Leaf(dice.roll(5)),
     };
     let count = dice.roll(8);
     for _i in 0..count {
@@ -173,57 +142,54 @@ fn roll_shape(alloc: Global, dice: &mut Dice) -> Result<Shape, AllocError> {
     Ok(shape)
 }
 
-fn are_same(a: &[Loop], b: &[Loop]) -> bool {
-    if a.len() != b.len() {
-        return false;
-    }
-    for i in 0..a.len() {
-        if a[i].as_slice() != b[i].as_slice() {
-            return false;
-        }
-    }
-    true
-}
-
-// Whether both give the same outlines.
-fn are_outlines_same(alloc: Global, edges: &[LeafEdge], shape: &Shape) -> bool
-    requires within { All (λ e. IsEdgeWithin coordinate_limit e.edge) edges.now }
-    requires balanced { AreLeavesBalanced edges.now }
-{
-    let Ok(kept) = slice_outlines::outlines(alloc, edges, shape, EDGE_LIMIT) else {
-        return false;
-    };
-    let Ok(made) = slice_bool::outlines(alloc, edges, shape, EDGE_LIMIT) else {
-        return false;
-    };
-    are_same(&kept, &made)
-}
-
-fn compare(alloc: Global, seed: u64, most: u32) -> Result<bool, AllocError>
+// The outlines of a seed as one number, from the pieces and by the sweep, behind those pieces for the first 200 seeds.
+fn number_of_seed(rt: &(impl Abort + AllocGlobal), seed: u64, most: u32) -> i64
     requires some { 0 < most }
     requires few { most ≤ 1000 }
 {
     let mut dice = Dice::of_seed(seed);
-    let edges = roll_sides(alloc, &mut dice, most)?;
-    let shape = roll_shape(alloc, &mut dice)?;
-    Ok(are_outlines_same(alloc, &edges, &shape))
+    let edges = roll_sides(rt.alloc(), &mut dice, most).expect(rt, "memory");
+    let shape = roll_shape(rt.alloc(), &mut dice).expect(rt, "memory");
+    let made = slice_bool::outlines(rt.alloc(), &edges, &shape, EDGE_LIMIT).expect(rt, "outlines");
+    let kept = slice_outlines::outlines(rt.alloc(), &edges, &shape, EDGE_LIMIT).expect(
+        rt, "outlines",
+    );
+    let mut number = 0;
+    if seed <= 200 {
+        let border = slice_bool::pieces(rt.alloc(), &edges, &shape, EDGE_LIMIT).expect(
+            rt, "pieces",
+        );
+        number = number_with_pieces(number, &border);
+    }
+    number_with_loops(number_with_loops(number, &made), &kept)
 }
 
-fn compare_all(rt: &(impl Abort + AllocGlobal), from: u64, to: u64, most: u32)
-    requires some { 0 < most }
-    requires few { most ≤ 1000 }
-{
-    for seed in from..to {
-        assert!(rt;
-            compare(rt.alloc(), seed, most).expect(rt, "memory"),
-            "seed {seed}"
-        );
-    }
-}
+// Of a hundred seeds each, from the seeds 1, 101, 201 .. on: what another program told.
+const EXPECTED: [i64; 30] = [
+    544570052, 422224889, 432950498, 864886184, 800640798, 195845003, 164654414, 911827528,
+    566021474, 696419072, 743929956, 884773045, 209767936, 867324342, 466826447, 132499790,
+    959036691, 878982293, 786234034, 160827595, 301265267, 362890450, 909149949, 821164077,
+    21777137, 577087624, 751620717, 465844524, 553657787, 901169212,
+];
+
+// Of longer lists, whose fronts are wider, with more cursors, from the seed 3001 on.
+const LONG: [i64; 20] = [
+    642713201, 0, 0, 0, 0, 377639952, 103064831, 0, 309416828, 906606234, 106544021, 151100134,
+    934887798, 0, 124678025, 244059848, 459147606, 0, 454448570, 603987529,
+];
 
 #[test]
-fn outlines_are_those_from_all_pieces(rt: HostRuntime) {
-    compare_all(&rt, 1, 3001, 8);
-    // longer lists have wider fronts, with more cursors
-    compare_all(&rt, 3001, 3021, 60);
+fn borders_and_outlines_are_those_of_another_program(rt: HostRuntime) {
+    for i in 0..EXPECTED.len() {
+        let mut number = 0;
+        for k in 1..101 {
+            let seed = 100 * i as u64 + k;
+            number = number_with(number, number_of_seed(&rt, seed, 8));
+        }
+        assert!(rt; number == EXPECTED[i], "the lists of hundred {i}");
+    }
+    for i in 0..LONG.len() {
+        let number = number_of_seed(&rt, 3001 + i as u64, 60);
+        assert!(rt; number == LONG[i], "long list {i}");
+    }
 }

@@ -3,6 +3,7 @@
 ghost use Rattle.scad_words.specs.Settings.{AreInRange};
 
 use crate::cases::expect;
+use crate::numbers::number_with;
 use plan_infill::{Line, Run, runs};
 use plan_layer::{PlanFault, plan};
 use plan_walls::walls;
@@ -11,14 +12,6 @@ use scad_geom::{Loop, Path};
 use scad_words::Settings;
 use slice_bool::BoolFault;
 use std::alloc::{AllocError, Global};
-
-// A number by what came before and a part that follows.
-fn number_with(before: i64, part: i64) -> i64 {
-    before
-        .wrapping_mul(10_007)
-        .wrapping_add(part)
-        .rem_euclid(1_000_000_007)
-}
 
 fn number_with_runs(before: i64, runs: &[Run]) -> i64 {
     let mut number = before;

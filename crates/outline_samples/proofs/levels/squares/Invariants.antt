@@ -1,7 +1,0 @@
-use Rattle.std.specs.Prelude.{All}
-use Rattle.scad_geom.specs.Within.{IsEdgeWithin}
-use Rattle.scad_geom.specs.Limits.{coordinate_limit}
-use Rattle.outline_samples.proofs.levels.squares.Given as goal
-
-abbrev pub invariant-squares : goal.invariant-squares
-invariant-squares l = All (λ e. IsEdgeWithin coordinate_limit e.edge) l.edges.items
