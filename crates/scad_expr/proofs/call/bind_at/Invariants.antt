@@ -1,4 +1,4 @@
-use Rattle.std.proofs.Common.{◌≡◌, ◌+◌, ◌-◌, ◌*◌, ◌^◌, map, option_map}
+use Rattle.std.proofs.Common.{◌≡◌, map, option_map}
 use Rattle.std.specs.Vec.Iter.{into_iter_items}
 use Rattle.scad_ast.specs.Scope.{parameter}
 use Rattle.scad_ast.specs.View.{arguments}

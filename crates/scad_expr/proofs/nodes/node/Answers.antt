@@ -1,4 +1,4 @@
-use Rattle.std.proofs.Common.{◌≡◌, ℕ, List, refl, sym, ap, ◌∙◌}
+use Rattle.std.proofs.Common.{ℕ, List, refl, sym, ap, ◌∙◌}
 use Rattle.scad_ast.specs.Tree.{name}
 use Rattle.scad_ast.specs.View.{expression_at, expression_of, arguments}
 use Rattle.scad_value.specs.Datum.{Datum}
