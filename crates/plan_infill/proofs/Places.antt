@@ -82,18 +82,22 @@ pub difference_size : (x y z : ℤ) → FitsSigned w32 x → FitsSigned w32 y �
 difference_size x y z fits other is = omega (arith, ints)
 
 pub wide_sum : (x y : ℤ) → FitsSigned w32 x → FitsSigned w32 y
-    → to_z w128 (of_z w128 (to_z w128 (of_z w128 (to_z w32 (of_z w32 x))) +ℤ to_z w128 (of_z w128 (to_z w32 (of_z w32 y)))))
+    → to_z w128 (of_z w128
+    (to_z w128 (of_z w128 (to_z w32 (of_z w32 x))) +ℤ to_z w128 (of_z w128 (to_z w32 (of_z w32 y)))))
     ≡ x +ℤ y
 wide_sum x y fits other =
     ap₂ (λ (s t : ℤ). to_z w128 (of_z w128 (s +ℤ t))) (read_widened x fits) (read_widened y other)
-    ∙ to_z-of_z w128 (x +ℤ y) (fits_by_size w128 (x +ℤ y) (let small = sum_size x y (x +ℤ y) fits other refl in omega (arith, small)))
+    ∙ to_z-of_z w128 (x +ℤ y)
+    (fits_by_size w128 (x +ℤ y) (let small = sum_size x y (x +ℤ y) fits other refl in omega (arith, small)))
 
 pub wide_difference : (x y : ℤ) → FitsSigned w32 x → FitsSigned w32 y
-    → to_z w128 (of_z w128 (to_z w128 (of_z w128 (to_z w32 (of_z w32 x))) -ℤ to_z w128 (of_z w128 (to_z w32 (of_z w32 y)))))
+    → to_z w128 (of_z w128
+    (to_z w128 (of_z w128 (to_z w32 (of_z w32 x))) -ℤ to_z w128 (of_z w128 (to_z w32 (of_z w32 y)))))
     ≡ x -ℤ y
 wide_difference x y fits other =
     ap₂ (λ (s t : ℤ). to_z w128 (of_z w128 (s -ℤ t))) (read_widened x fits) (read_widened y other)
-    ∙ to_z-of_z w128 (x -ℤ y) (fits_by_size w128 (x -ℤ y) (let small = difference_size x y (x -ℤ y) fits other refl in omega (arith, small)))
+    ∙ to_z-of_z w128 (x -ℤ y)
+    (fits_by_size w128 (x -ℤ y) (let small = difference_size x y (x -ℤ y) fits other refl in omega (arith, small)))
 
 pub widened_size : (z : ℤ) → unsigned_abs (to_z w128 (of_z w128 (to_z w32 (of_z w32 z)))) ≤ 2 ^ 33
 widened_size z = omega (arith, sizes)
@@ -123,7 +127,8 @@ module _ (a b : ℤ) (large : unsigned_abs a ≤ 2 ^ 89) (small : unsigned_abs b
   pub both_fit : unsigned_abs (to_z w128 (of_z w128 a)) + unsigned_abs (to_z w128 (of_z w128 b)) < 2 ^ 127
   both_fit = omega (arith, sizes)
 
-  pub both_size : (z : ℤ) → unsigned_abs z ≤ unsigned_abs (to_z w128 (of_z w128 a)) + unsigned_abs (to_z w128 (of_z w128 b))
+  pub both_size : (z : ℤ)
+      → unsigned_abs z ≤ unsigned_abs (to_z w128 (of_z w128 a)) + unsigned_abs (to_z w128 (of_z w128 b))
       → unsigned_abs (to_z w128 (of_z w128 z)) ≤ 2 ^ 90
   both_size z near = omega (arith, sizes)
 
@@ -138,7 +143,8 @@ negated z fits small =
     ap (λ (t : ℤ). to_z w128 (of_z w128 (pos 0 -ℤ t))) (to_z-of_z w128 z fits)
     ∙ to_z-of_z w128 (pos 0 -ℤ z) (negated_fits z small)
 
-next_fits : (z s : ℤ) → unsigned_abs z ≤ unsigned_abs (pos 0 -ℤ s) + 1 → unsigned_abs s ≤ 2 ^ 90 → FitsSigned w128 (z +ℤ pos 1)
+next_fits : (z s : ℤ) → unsigned_abs z ≤ unsigned_abs (pos 0 -ℤ s) + 1 → unsigned_abs s ≤ 2 ^ 90
+    → FitsSigned w128 (z +ℤ pos 1)
 next_fits z s near small = fits_by_size w128 (z +ℤ pos 1) (omega (arith, ints))
 
 pub next : (z s : ℤ) → FitsSigned w128 z → FitsSigned w128 s → unsigned_abs s ≤ 2 ^ 90
@@ -165,6 +171,8 @@ is_nothing z above below = omega (arith, ints)
 
 -- ---- the stretch round two values that equal what a call was given
 
-pub is_round : {v w a b c d to way : ℤ} (s : Stretch) → s.from ≡ (around v a b to).from → s.until ≡ (around v a b to).until
+pub is_round : {v w a b c d to way : ℤ} (s : Stretch) → s.from ≡ (around v a b to).from
+    → s.until ≡ (around v a b to).until
     → v ≡ w → a ≡ c → b ≡ d → to ≡ way → IsRound w c d way s
-is_round s from until size first second moved = rw (← size, ← first, ← second, ← moved) (record { from = from; until = until })
+is_round s from until size first second moved =
+    rw (← size, ← first, ← second, ← moved) (record { from = from; until = until })

@@ -40,5 +40,6 @@ returns-clause-ok c =
     let before = c.args.out.now.items in
     let warm = behind before _ _ (behind before _ _ c.in_ok-push_setup.ensures.ok c.in_ok-push_heat.ensures.ok)
     c.in_ok-push_heat-2.ensures.ok in
-    let hot = behind before _ _ (behind before _ _ warm c.in_ok-push_heat-3.ensures.ok) c.in_ok-push_heat-4.ensures.ok in
+    let hot = behind before _ _ (behind before _ _ warm c.in_ok-push_heat-3.ensures.ok)
+    c.in_ok-push_heat-4.ensures.ok in
     on_ok_weaker c.push_home.result (λ last. behind before _ _ hot last) c.push_home.ensures.ok

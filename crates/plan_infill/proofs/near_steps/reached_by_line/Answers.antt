@@ -35,7 +35,8 @@ floor-requires c = record {
 
 pub ceiling-requires : goal.ceiling-requires
 ceiling-requires c = record {
-  divisor = subst (λ (z : ℤ). pos 0 <ℤ z) (sym (by_cast w128 c.rise-2.type_inv c.rise-2.ensures.value)) c.requires.rises;
+  divisor = subst (λ (z : ℤ). pos 0 <ℤ z) (sym (by_cast w128 c.rise-2.type_inv c.rise-2.ensures.value))
+      c.requires.rises;
   size = wider _ (both_size c.x_at-x.result c.line_reach-reach.result c.x_at-x.ensures.size
       c.line_reach-reach.ensures.size c.plus-2.result c.plus-2.ensures.size);
 }
