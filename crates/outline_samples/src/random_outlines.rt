@@ -6,11 +6,13 @@ ghost use Rattle.scad_geom.specs.Within.{IsWithin, IsEdgeWithin};
 ghost use Rattle.scad_geom.specs.Leaves.{AreLeavesBalanced};
 ghost use Rattle.scad_tree.specs.Sections.{leaf_edge};
 
+use crate::cases::expect;
 use crate::grid::roll_point;
 use crate::numbers::{number_with, number_with_loops, number_with_pieces};
 use plan_sides::sides;
 use sample_dice::Dice;
 use scad_geom::{Edge, LeafEdge, Loop, Pt, Shape};
+use slice_bool::BoolFault;
 use std::alloc::{AllocError, AllocGlobal, Global};
 use std::process::Abort;
 use std::slice::from_ref;
@@ -142,6 +144,17 @@ fn roll_shape(alloc: Global, dice: &mut Dice) -> Result<Shape, AllocError> {
     Ok(shape)
 }
 
+fn number_of_border(rt: &(impl Abort + AllocGlobal), edges: &[LeafEdge], shape: &Shape) -> i64
+    requires { All (λ e. IsEdgeWithin coordinate_limit e.edge) edges.now }
+{
+    let border = slice_bool::pieces(rt.alloc(), edges, shape, EDGE_LIMIT).expect(rt, "pieces");
+    number_with_pieces(0, &border)
+}
+
+fn number_with_found(rt: &impl Abort, before: i64, found: Result<Vec<Loop>, BoolFault>) -> i64 {
+    number_with_loops(before, &found.expect(rt, "outlines"))
+}
+
 // The outlines of a seed as one number, from the pieces and by the sweep, behind those pieces for the first 200 seeds.
 fn number_of_seed(rt: &(impl Abort + AllocGlobal), seed: u64, most: u32) -> i64
     requires some { 0 < most }
@@ -150,18 +163,24 @@ fn number_of_seed(rt: &(impl Abort + AllocGlobal), seed: u64, most: u32) -> i64
     let mut dice = Dice::of_seed(seed);
     let edges = roll_sides(rt.alloc(), &mut dice, most).expect(rt, "memory");
     let shape = roll_shape(rt.alloc(), &mut dice).expect(rt, "memory");
-    let made = slice_bool::outlines(rt.alloc(), &edges, &shape, EDGE_LIMIT).expect(rt, "outlines");
-    let kept = slice_outlines::outlines(rt.alloc(), &edges, &shape, EDGE_LIMIT).expect(
-        rt, "outlines",
-    );
+    let border = if seed <= 200 {
+        number_of_border(rt, &edges, &shape)
+    } else {
+        0
+    };
+    let made = slice_bool::outlines(rt.alloc(), &edges, &shape, EDGE_LIMIT);
+    let number = number_with_found(rt, border, made);
+    let kept = slice_outlines::outlines(rt.alloc(), &edges, &shape, EDGE_LIMIT);
+    number_with_found(rt, number, kept)
+}
+
+// Of a hundred seeds from this one on.
+fn number_of_hundred(rt: &(impl Abort + AllocGlobal), from: u64) -> i64 {
     let mut number = 0;
-    if seed <= 200 {
-        let border = slice_bool::pieces(rt.alloc(), &edges, &shape, EDGE_LIMIT).expect(
-            rt, "pieces",
-        );
-        number = number_with_pieces(number, &border);
+    for k in 0..100 {
+        number = number_with(number, number_of_seed(rt, from.wrapping_add(k), 8));
     }
-    number_with_loops(number_with_loops(number, &made), &kept)
+    number
 }
 
 // Of a hundred seeds each, from the seeds 1, 101, 201 .. on: what another program told.
@@ -180,16 +199,17 @@ const LONG: [i64; 20] = [
 
 #[test]
 fn borders_and_outlines_are_those_of_another_program(rt: HostRuntime) {
-    for i in 0..EXPECTED.len() {
-        let mut number = 0;
-        for k in 1..101 {
-            let seed = 100 * i as u64 + k;
-            number = number_with(number, number_of_seed(&rt, seed, 8));
-        }
-        assert!(rt; number == EXPECTED[i], "the lists of hundred {i}");
+    let mut seed: u64 = 1;
+    for &wanted in &EXPECTED {
+        expect(
+            &rt,
+            number_of_hundred(&rt, seed) == wanted,
+            "a hundred lists",
+        );
+        seed = seed.wrapping_add(100);
     }
-    for i in 0..LONG.len() {
-        let number = number_of_seed(&rt, 3001 + i as u64, 60);
-        assert!(rt; number == LONG[i], "long list {i}");
+    for &wanted in &LONG {
+        expect(&rt, number_of_seed(&rt, seed, 60) == wanted, "a long list");
+        seed = seed.wrapping_add(1);
     }
 }
