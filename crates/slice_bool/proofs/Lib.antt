@@ -37,3 +37,4 @@ pub mod RightOf
 pub mod Telling
 pub mod Along
 pub mod SomeStops
+mod Bits
