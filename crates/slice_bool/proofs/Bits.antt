@@ -1,5 +1,5 @@
 -- Comparisons of numbers by their bits.
-use Rattle.std.proofs.Common.{◌≡◌, ℕ, zero, suc, true, eqb, eq-eqb, ℤ, pos, negsuc, FitsSigned, refl, sym, ap, ◌∙◌, to_z, of_z}
+use Rattle.std.proofs.Common.{◌≡◌, zero, suc, true, eqb, eq-eqb, ℤ, pos, negsuc, FitsSigned, refl, sym, ap, ◌∙◌, to_z, of_z}
 use Rattle.std.specs.Ordering.{int_eq}
 use Rattle.std.specs.Cmp.{both_ways}
 use Rattle.std.proofs.lemmas.Bool.{eqb-true, true≢false}
