@@ -66,8 +66,8 @@ module _ (outlines : List (List Pt)) (y : ℤ) where
           long = omega (arith, ints, low, high);
           deep = λ z a b. deep_if outlines (point_at z y) (test_wound z (by_order (order z x)
               (λ o. s.holds z a o) (λ o. e.holds z (omega (arith, ints, o)) b)));
-          before = λ d. both_ways _ s.before (wound_test (s.from -ℤ pos 1) d.inside);
-          after = λ d. both_ways _ e.after (wound_test (e.to +ℤ pos 1) d.inside);
+          before = λ d. both_ways (test (s.from -ℤ pos 1)) s.before (wound_test (s.from -ℤ pos 1) d.inside);
+          after = λ d. both_ways (test (e.to +ℤ pos 1)) e.after (wound_test (e.to +ℤ pos 1) d.inside);
         } in
         place_on rs r x (are.all r run) low high
 

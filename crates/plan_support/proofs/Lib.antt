@@ -20,6 +20,7 @@ pub mod Holes
 pub mod LineWork
 pub mod InTurn
 pub mod GroupPool
+pub mod ListPushes
 pub mod SupportRuns
 pub mod Ascending
 pub mod RowGathering

@@ -1,11 +1,10 @@
-use Rattle.std.proofs.Common.{◌≡◌, FitsSigned, to_z, of_z, List, flat_map, sym, subst, ◌∙◌, arith, rules, pos, ◌+ℤ◌}
+use Rattle.std.proofs.Common.{◌≡◌, FitsSigned, to_z, of_z, List, flat_map, sym, subst, ◌∙◌, ap, arith, rules, ℤ, pos, ◌+ℤ◌}
 use Rattle.std.specs.Prelude.{All, unsigned_abs, ◌≤◌}
 use Rattle.std.proofs.lemmas.Int.{ints, to_z-of_z}
 use Rattle.scad_geom.specs.declared.point.Edge.{Edge}
 use Rattle.scad_geom.specs.Limits.{coordinate_limit}
 use Rattle.scad_geom.specs.Loop.{sides}
 use Rattle.scad_geom.specs.Within.{IsEdgeWithin}
-use Rattle.scad_geom.proofs.Casts.{casts}
 use Rattle.plan_sides.proofs.Within.{outlines_within}
 use Rattle.plan_support.specs.Extent.{IsEdgeAmong}
 use Rattle.plan_support.specs.Spans.{AreSpans, AddsSpans, IsSpanned}
@@ -13,6 +12,11 @@ use Rattle.plan_support.proofs.LineRows.{SpannedBelow, below_none, below_more, b
 use Rattle.plan_support.proofs.Multiples.{next_multiple, falls}
 use Rattle.plan_support.proofs.support_lines.spans.Goals as goal
 use mir.Syntax.{w32, w64}
+
+-- the greatest coordinate as it is compared
+read_high : (z : ℤ) → FitsSigned w32 z → to_z w64 (of_z w64 (to_z w32 (of_z w32 z))) ≡ z
+read_high z fits =
+    ap (λ (y : ℤ). to_z w64 (of_z w64 y)) (to_z-of_z w32 z fits) ∙ to_z-of_z w64 z (omega (arith, ints))
 
 pub extent_of-extent-requires : goal.extent_of-extent-requires
 extent_of-extent-requires c =
@@ -53,12 +57,13 @@ lines-smaller c =
     let to = c.extent_of-extent.ensures.to in
     let high_fits : FitsSigned w32 c.extent_of-extent.result.high = search rules in
     let high : to_z w64 (of_z w64 (to_z w32 (of_z w32 c.extent_of-extent.result.high)))
-    ≡ c.extent_of-extent.result.high = search (rules, casts) in
+    ≡ c.extent_of-extent.result.high = read_high c.extent_of-extent.result.high high_fits in
     let before = c.lines-test.true in
     let next_fits : FitsSigned w64 (to_z w64 c.lines.y-bits +ℤ to_z w64 c.args.spacing) =
     omega (arith, ints) in
     let next : to_z w64 (of_z w64 (to_z w64 c.lines.y-bits +ℤ to_z w64 c.args.spacing)) ≡ to_z w64
-    c.lines.y-bits +ℤ to_z w64 c.args.spacing = search (rules, casts) in
+    c.lines.y-bits +ℤ to_z w64 c.args.spacing =
+    to_z-of_z w64 (to_z w64 c.lines.y-bits +ℤ to_z w64 c.args.spacing) next_fits in
     falls (to_z w64 (of_z w64 (to_z w32 (of_z w32 c.extent_of-extent.result.high)))) (to_z w64 c.lines.y-bits)
     (to_z w64 (of_z w64 (to_z w64 c.lines.y-bits +ℤ to_z w64 c.args.spacing)))
     (omega (arith, ints)) (omega (arith, ints))
@@ -70,7 +75,7 @@ lines-preserved c =
     let to = c.extent_of-extent.ensures.to in
     let high_fits : FitsSigned w32 c.extent_of-extent.result.high = search rules in
     let high : to_z w64 (of_z w64 (to_z w32 (of_z w32 c.extent_of-extent.result.high)))
-    ≡ c.extent_of-extent.result.high = search (rules, casts) in
+    ≡ c.extent_of-extent.result.high = read_high c.extent_of-extent.result.high high_fits in
     let before = c.lines-test.true in
     let at_fits : FitsSigned w32 (to_z w64 c.lines.y-bits) = omega (arith, ints) in
     let next_fits : FitsSigned w64 (to_z w64 c.lines.y-bits +ℤ pos c.args.spacing) = omega (arith, ints) in
@@ -88,7 +93,7 @@ are_spans : (c : goal.After-lines) → AreSpans c.args.outlines.now c.args.spaci
 are_spans c =
     let high_fits : FitsSigned w32 c.extent_of-extent.result.high = search rules in
     let high : to_z w64 (of_z w64 (to_z w32 (of_z w32 c.extent_of-extent.result.high)))
-    ≡ c.extent_of-extent.result.high = search (rules, casts) in
+    ≡ c.extent_of-extent.result.high = read_high c.extent_of-extent.result.high high_fits in
     let behind = c.lines-test.false in
     below_all_of c.args.outlines.now c.args.spacing c.extent_of-extent.result.low
     c.extent_of-extent.result.high
