@@ -1,11 +1,11 @@
-use Rattle.std.proofs.Common.{◌≡◌, FitsSigned, to_z, of_z, List, flat_map, sym, subst, ◌∙◌, arith, rules, pos, ◌+ℤ◌}
+use Rattle.std.proofs.Common.{◌≡◌, FitsSigned, to_z, of_z, List, flat_map, sym, subst, ◌∙◌, ap, arith, rules}
+use Rattle.std.proofs.Common.{ℤ, pos, ◌+ℤ◌}
 use Rattle.std.specs.Prelude.{All}
 use Rattle.std.proofs.lemmas.Int.{ints, to_z-of_z}
 use Rattle.scad_geom.specs.declared.point.Edge.{Edge}
 use Rattle.scad_geom.specs.Limits.{point_limit}
 use Rattle.scad_geom.specs.Loop.{sides}
 use Rattle.scad_geom.specs.Within.{IsEdgeWithin}
-use Rattle.scad_geom.proofs.Casts.{casts}
 use Rattle.plan_sides.proofs.Within.{outlines_within}
 use Rattle.plan_layer.specs.Extent.{IsEdgeAmong}
 use Rattle.plan_layer.specs.Infill.{LineRuns, AddsLine}
@@ -13,6 +13,11 @@ use Rattle.plan_layer.proofs.LineRuns.{FilledBefore, before_none, before_more, b
 use Rattle.plan_layer.proofs.Multiples.{next_multiple, falls}
 use Rattle.plan_layer.proofs.lines.filled_lines.Goals as goal
 use mir.Syntax.{w32, w64}
+
+-- the greatest coordinate as it is compared
+read_high : (z : ℤ) → FitsSigned w32 z → to_z w64 (of_z w64 (to_z w32 (of_z w32 z))) ≡ z
+read_high z fits =
+    ap (λ (y : ℤ). to_z w64 (of_z w64 y)) (to_z-of_z w32 z fits) ∙ to_z-of_z w64 z (omega (arith, ints))
 
 pub extent_of-extent-requires : goal.extent_of-extent-requires
 extent_of-extent-requires c =
@@ -55,12 +60,13 @@ lines-smaller c =
     let to = c.extent_of-extent.ensures.to in
     let high_fits : FitsSigned w32 c.extent_of-extent.result.high = search rules in
     let high : to_z w64 (of_z w64 (to_z w32 (of_z w32 c.extent_of-extent.result.high)))
-    ≡ c.extent_of-extent.result.high = search (rules, casts) in
+    ≡ c.extent_of-extent.result.high = read_high c.extent_of-extent.result.high high_fits in
     let before = c.lines-test.true in
     let next_fits : FitsSigned w64 (to_z w64 c.lines.at-bits +ℤ to_z w64 c.args.settings.now.infill_spacing) =
     omega (arith, ints) in
     let next : to_z w64 (of_z w64 (to_z w64 c.lines.at-bits +ℤ to_z w64 c.args.settings.now.infill_spacing)) ≡ to_z w64
-    c.lines.at-bits +ℤ to_z w64 c.args.settings.now.infill_spacing = search (rules, casts) in
+    c.lines.at-bits +ℤ to_z w64 c.args.settings.now.infill_spacing =
+    to_z-of_z w64 (to_z w64 c.lines.at-bits +ℤ to_z w64 c.args.settings.now.infill_spacing) next_fits in
     falls (to_z w64 (of_z w64 (to_z w32 (of_z w32 c.extent_of-extent.result.high)))) (to_z w64 c.lines.at-bits)
     (to_z w64 (of_z w64 (to_z w64 c.lines.at-bits +ℤ to_z w64 c.args.settings.now.infill_spacing)))
     (omega (arith, ints)) (omega (arith, ints))
@@ -75,7 +81,7 @@ lines-preserved c =
     let to = c.extent_of-extent.ensures.to in
     let high_fits : FitsSigned w32 c.extent_of-extent.result.high = search rules in
     let high : to_z w64 (of_z w64 (to_z w32 (of_z w32 c.extent_of-extent.result.high)))
-    ≡ c.extent_of-extent.result.high = search (rules, casts) in
+    ≡ c.extent_of-extent.result.high = read_high c.extent_of-extent.result.high high_fits in
     let before = c.lines-test.true in
     let at_fits : FitsSigned w32 (to_z w64 c.lines.at-bits) = omega (arith, ints) in
     let next_fits : FitsSigned w64 (to_z w64 c.lines.at-bits +ℤ pos c.args.settings.now.infill_spacing) =
@@ -94,7 +100,7 @@ pub returns : goal.returns
 returns c =
     let high_fits : FitsSigned w32 c.extent_of-extent.result.high = search rules in
     let high : to_z w64 (of_z w64 (to_z w32 (of_z w32 c.extent_of-extent.result.high)))
-    ≡ c.extent_of-extent.result.high = search (rules, casts) in
+    ≡ c.extent_of-extent.result.high = read_high c.extent_of-extent.result.high high_fits in
     let behind = c.lines-test.false in
     before_all c.args.outlines.now c.args.layer c.args.settings.now c.extent_of-extent.result.low
     c.extent_of-extent.result.high
