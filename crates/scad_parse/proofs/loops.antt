@@ -1,5 +1,6 @@
 pub mod Arguments
 pub mod Elements
+pub mod Going
 pub mod Groups
 pub mod Parameters
 pub mod Program

@@ -1,4 +1,3 @@
-pub mod Openers
-pub mod OpenedStatements
-pub mod Room
+pub mod Expressions
 pub mod Statements
+pub mod Steps

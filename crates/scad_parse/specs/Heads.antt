@@ -6,4 +6,4 @@ use Rattle.scad_parse.specs.declared.head.Head.TheVariants.{All, Steps}
 
 abbrev pub head_of : Head → GrammarHead
 head_of (All args) = for_all (arguments args.items)
-head_of (Steps init test step) = for_steps (arguments init.items) (expression_of test.value) (arguments step.items)
+head_of (Steps init test step) = for_steps (arguments init.items) (expression_of test) (arguments step.items)

@@ -4,3 +4,4 @@ pub mod JudgedFault
 pub mod Heads
 pub mod Reading
 pub mod ReadingStatements
+pub mod Standing

@@ -12,15 +12,17 @@ use Rattle.scad_ast.specs.Scope.{items, parameter}
 use Rattle.scad_ast.specs.declared.expression.Expr.{Expr}
 use Rattle.scad_ast.specs.declared.statement.Item.{Item}
 use Rattle.scad_ast.specs.declared.statement.Param.{Param}
+use Rattle.scad_parse.specs.declared.definition.Signature.{Signature}
 use Rattle.scad_parse.specs.declared.mark.Marked.{Marked}
 use Rattle.scad_grammar.specs.Tokens.{is_sign, is_key, word_of, begins_with}
-use Rattle.scad_grammar.specs.Lists.{Marks, starred, percented, hashed}
+use Rattle.scad_grammar.specs.Lists.{Marks, no_marks, starred, percented, hashed}
 use Rattle.scad_grammar.specs.StatementSteps.{callee}
 use Rattle.scad_grammar.specs.Machine.{syntax_at, left_out_at}
-use Rattle.scad_grammar.specs.Rules.{Read, then_read, Rules, expr_of}
+use Rattle.scad_grammar.specs.Rules.{Read, then_read, deeper, Rules, expr_of}
 use Rattle.scad_grammar.specs.StatementRules.{StatementRules, above_statements, heading_of, choice_behind_of, call_by}
-use Rattle.scad_grammar.specs.StatementRules.{child_of}
+use Rattle.scad_grammar.specs.StatementRules.{child_of, first_of, definition_of}
 use Rattle.scad_parse.specs.Reading.{rules_at}
+use Rattle.scad_parse.specs.Standing.{word_here, word_by}
 
 -- the rules of statements for one construct less than these, where one may open
 unfoldable pub below_statements : Place → ℕ → Option StatementRules
@@ -41,12 +43,43 @@ parameters_seen all = map parameter all.items
 abbrev pub default_seen : Option Expr → Option Expression
 default_seen e = option_map expression_of e
 
-abbrev pub heading_seen : List ℕ × Vec Param → List ℕ × List Parameter
-heading_seen h = (h.0, parameters_seen h.1)
+abbrev pub heading_seen : Signature → List ℕ × List Parameter
+heading_seen h = (h.name, parameters_seen h.params)
 
 -- the marks that stand before a statement
 abbrev pub marks_of : Marked → Marks
 marks_of m = record { star = m.star; percent = m.percent; hash = m.hash }
+
+-- where a statement begins with this token
+unfoldable pub first_at : Place → Option StatementRules → Items → List Token → Read Items
+first_at end lower all [] = Err (syntax_at end)
+first_at end lower all (t ∷ ts) = first_of lower t all ts
+
+unfoldable pub definition_at : Place → Option StatementRules → Items → List Token → Read Items
+definition_at end lower all [] = Err (syntax_at end)
+definition_at end lower all (t ∷ ts) = definition_of true lower t all ts
+
+-- where a statement begins with a word
+abbrev pub word_at : Place → Option StatementRules → Items → List Token → Read Items
+word_at end lower all ts =
+    then_read (word_here end ts) (λ w us. deeper lower w.0 (λ r. r.word_behind w.0 w.1 all us))
+
+-- the name that is called, which is to come
+abbrev pub callee_here : Place → List Token → Read (Place × List ℕ)
+callee_here end [] = Err (syntax_at end)
+callee_here end (t ∷ ts) = word_by t ts (callee t)
+
+-- where a statement begins with a call
+abbrev pub call_at : Place → Option StatementRules → Items → List Token → Read Items
+call_at end lower all ts =
+    then_read (callee_here end ts) (λ w us. deeper lower w.0 (λ r. r.call_behind w.0 no_marks w.1 all us))
+
+-- the marks that come, with those so far
+unfoldable pub marks_here : Marks → List Token → Read Marks
+marks_here m [] = Ok (m, [])
+marks_here m (t ∷ ts) = if is_sign Star t then marks_here (starred m) ts
+    else (if is_sign Percent t then marks_here (percented m) ts
+    else (if is_sign Hash t then marks_here (hashed m) ts else Ok (m, t ∷ ts)))
 
 -- the tokens begin with a mark
 abbrev pub begins_with_mark : List Token → Bool
@@ -77,7 +110,7 @@ heading_read end lower ts = heading_of end lower (λ w params us. Ok ((w, params
 
 -- ["=" expr]
 unfoldable pub default_of : Place → Option Rules → List Token → Read (Option Expression)
-default_of end lower [] = Err (syntax_at end)
+default_of end lower [] = Ok (None, [])
 default_of end lower (t ∷ ts) =
     if is_sign Assign t then then_read (expr_of end lower ts) (λ e us. Ok (Some e, us)) else Ok (None, t ∷ ts)
 

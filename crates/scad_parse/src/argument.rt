@@ -3,79 +3,59 @@
 ghost use Rattle.std.specs.Prelude.{◌≡◌, length};
 ghost use Rattle.scad_ast.specs.Tree.{no_arguments};
 ghost use Rattle.scad_ast.specs.View.{arguments};
-ghost use Rattle.scad_grammar.specs.Rules.{args_of, args_closed_of, in_round_of};
-ghost use Rattle.scad_parse.specs.Reading.{Gives, below, argument_of, argument_seen, arguments_seen};
+ghost use Rattle.scad_grammar.specs.Rules.{args_of};
+ghost use Rattle.scad_parse.specs.Reading.{below, rules_at, argument_of, argument_seen, arguments_seen};
+ghost use Rattle.scad_parse.specs.Standing.{Reads};
 
 use crate::expression::expression;
-use crate::front::{behind, expect, first_word, is_end_of_arguments, is_named, place};
-use crate::nesting::opened;
-use crate::reading::{Read, behind_argument};
+use crate::reader::Reader;
 use scad_ast::{Arg, Args};
-use scad_fault::Place;
-use scad_lex::{Sign, Token};
-use std::alloc::Global;
+use scad_lex::Sign;
 
 // "(" args ")"
 #[cycle(expression)]
-#[tactic(auto, using(crate::proofs::rules::Room::rounds))]
-pub(crate) fn round_arguments<'a>(
-    alloc: Global,
-    ts: &'a [Token],
-    end: Place,
-    room: u32,
-) -> Read<'a, Args>
-    ensures { Gives (in_round_of «end» (below «end» room) (λ r us. r.args_closed us) ts.now) arguments_seen result }
+pub(crate) fn round_arguments(reader: &mut Reader<'_>, room: u32) -> Args
+    ensures { Reads (λ e ts. (rules_at e room).round_args ts) reader.old reader.new (arguments_seen result) }
 {
-    let rest = expect(Sign::OpenRound, ts, end)?;
-    let inner = opened(room, place(ts, end))?;
-    closed_arguments(alloc, rest, end, inner)
+    reader.needs(Sign::OpenRound);
+    let Some(open) = reader.open(room) else {
+        return Args::new(reader.alloc);
+    };
+    closed_arguments(reader, open.room)
 }
 
 // args ")"
 #[cycle(expression)]
-#[tactic(auto, using(crate::proofs::rules::Room::signs))]
-pub(crate) fn closed_arguments<'a>(
-    alloc: Global,
-    ts: &'a [Token],
-    end: Place,
-    room: u32,
-) -> Read<'a, Args>
-    ensures { Gives (args_closed_of «end» (below «end» room) ts.now) arguments_seen result }
+pub(crate) fn closed_arguments(reader: &mut Reader<'_>, room: u32) -> Args
+    ensures { Reads (λ e ts. (rules_at e room).args_closed ts) reader.old reader.new (arguments_seen result) }
 {
-    let (args, left) = arguments(alloc, ts, end, room)?;
-    let rest = expect(Sign::CloseRound, left, end)?;
-    Ok((args, rest))
+    let args = arguments(reader, room);
+    reader.expect(Sign::CloseRound);
+    args
 }
 
 // args = list of [WORD "="] expr, up to a `)` or `;`, which stays
 #[cycle(expression)]
-pub(crate) fn arguments<'a>(alloc: Global, ts: &'a [Token], end: Place, room: u32) -> Read<'a, Args>
-    ensures { Gives (args_of «end» (below «end» room) (length ts.now) no_arguments ts.now) arguments_seen result }
+pub(crate) fn arguments(reader: &mut Reader<'_>, room: u32) -> Args
+    ensures { Reads (λ e ts. args_of e (below e room) (length ts) no_arguments ts) reader.old reader.new
+        (arguments_seen result) }
 {
-    let mut args = Args::new(alloc);
-    let mut left = ts;
-    'members: while !is_end_of_arguments(left) {
-        let (arg, rest) = argument(alloc, left, end, room)?;
-        args.push(arg)?;
-        let (_, rest) = behind_argument(rest, end)?;
-        left = rest;
+    let mut args = Args::new(reader.alloc);
+    'members: while reader.lacks_end_of_arguments() {
+        let arg = argument(reader, room);
+        reader.push(&mut args, arg);
+        reader.behind_argument();
     }
     args.shrink_to_fit();
-    Ok((args, left))
+    args
 }
 
 // [WORD "="] expr
 #[cycle(expression)]
-#[tactic(auto, unfolding(crate::specs::Reading::argument_of))]
-fn argument<'a>(alloc: Global, ts: &'a [Token], end: Place, room: u32) -> Read<'a, Arg>
-    ensures { Gives (argument_of «end» (below «end» room) ts.now) argument_seen result }
+fn argument(reader: &mut Reader<'_>, room: u32) -> Arg
+    ensures { Reads (λ e ts. argument_of e (below e room) ts) reader.old reader.new (argument_seen result) }
 {
-    if !is_named(ts) {
-        let (value, left) = expression(alloc, ts, end, room)?;
-        let name = None;
-        return Ok((Arg { name, value }, left));
-    }
-    let name = first_word(alloc, ts)?;
-    let (value, left) = expression(alloc, behind(behind(ts)), end, room)?;
-    Ok((Arg { name, value }, left))
+    let name = reader.argument_name();
+    let value = expression(reader, room);
+    Arg { name, value }
 }

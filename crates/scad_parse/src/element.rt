@@ -2,135 +2,90 @@
 
 ghost use Rattle.std.specs.Prelude.{◌≡◌};
 ghost use Rattle.scad_ast.specs.View.{expression_of, element_of};
-ghost use Rattle.scad_grammar.specs.Rules.{elem_of, else_of, for_behind_of, for_head_of};
-ghost use Rattle.scad_parse.specs.Reading.{Gives, below};
+ghost use Rattle.scad_grammar.specs.Rules.{elem_of, else_of, for_head_of};
+ghost use Rattle.scad_parse.specs.Reading.{below, rules_at, round_head_of};
 ghost use Rattle.scad_parse.specs.Heads.{head_of};
+ghost use Rattle.scad_parse.specs.Standing.{Reads};
 
 use crate::argument::{arguments, closed_arguments, round_arguments};
 use crate::expression::{closed, expression, round_expression};
-use crate::fault::ParseFault;
-use crate::front::{expect, is_key, is_sign, place};
 use crate::head::{Head, headed};
-use crate::nesting::opened;
 use crate::node;
-use crate::reading::Read;
-use scad_ast::{Elem, Expr};
-use scad_fault::Place;
-use scad_lex::{Key, Sign, Token};
-use std::alloc::Global;
+use crate::reader::{Open, Reader};
+use scad_ast::{Args, Elem, Expr};
+use scad_lex::{Key, Sign};
 
 // elem = comp | expr
 #[cycle(expression)]
-#[tactic(auto, using(crate::proofs::rules::Room::room), unfolding(scad_grammar::specs::Rules::elem_of))]
-pub(crate) fn element<'a>(alloc: Global, ts: &'a [Token], end: Place, room: u32) -> Read<'a, Elem>
-    ensures { Gives (elem_of «end» (below «end» room) ts.now) element_of result }
+pub(crate) fn element(reader: &mut Reader<'_>, room: u32) -> Elem
+    ensures { Reads (λ e ts. elem_of e (below e room) ts) reader.old reader.new (element_of result) }
 {
-    let [token, rest @ ..] = ts else {
-        return Err(ParseFault::Syntax(end));
-    };
-    if is_key(Key::For, token) {
-        let inner = opened(room, token.at)?;
-        return for_element(alloc, token.at, rest, end, inner);
+    if let Some(open) = reader.opens_key(Key::For, room) {
+        return for_element(reader, open);
     }
-    if is_key(Key::Each, token) {
-        let inner = opened(room, token.at)?;
-        let (elem, left) = element(alloc, rest, end, inner)?;
-        return Ok((node::each(alloc, token.at, elem)?, left));
+    if let Some(open) = reader.opens_key(Key::Each, room) {
+        let elem = element(reader, open.room);
+        return node::each(reader, open.at, elem);
     }
-    if is_key(Key::If, token) {
-        let inner = opened(room, token.at)?;
-        let (test, left) = round_expression(alloc, rest, end, inner)?;
-        let tested = Box::new(alloc, test)?;
-        let (held, left) = element(alloc, left, end, inner)?;
-        let kept = Box::new(alloc, held)?;
-        let so_far = Tested {
-            at: token.at,
-            test: tested,
-            held: kept,
-        };
-        return otherwise(alloc, so_far, left, end, inner);
+    if let Some(open) = reader.opens_key(Key::If, room) {
+        let test = round_expression(reader, open.room);
+        let held = element(reader, open.room);
+        return otherwise(reader, test, held, open);
     }
-    if is_key(Key::Let, token) {
-        let inner = opened(room, token.at)?;
-        let (args, left) = round_arguments(alloc, rest, end, inner)?;
-        let (body, left) = element(alloc, left, end, inner)?;
-        return Ok((node::let_element(alloc, token.at, args, body)?, left));
+    if let Some(open) = reader.opens_key(Key::Let, room) {
+        let args = round_arguments(reader, open.room);
+        let body = element(reader, open.room);
+        return node::let_element(reader, open.at, args, body);
     }
-    let (value, left) = expression(alloc, ts, end, room)?;
-    Ok((Elem::Item(value), left))
-}
-
-/// An `if` among elements up to the element that its test holds.
-#[derive(Drop)]
-struct Tested {
-    at: Place,
-    test: Box<Expr>,
-    held: Box<Elem>,
+    Elem::Item(expression(reader, room))
 }
 
 // ["else" elem], behind a test and the element that it holds
 #[cycle(expression)]
-#[tactic(auto, using(crate::proofs::rules::Room::room))]
-fn otherwise<'a>(
-    alloc: Global,
-    tested: Tested,
-    ts: &'a [Token],
-    end: Place,
-    room: u32,
-) -> Read<'a, Elem>
-    ensures { Gives (else_of (below «end» room) tested.at (expression_of tested.test.value)
-        (element_of tested.held.value) ts.now) element_of result }
+fn otherwise(reader: &mut Reader<'_>, test: Expr, held: Elem, whole: Open) -> Elem
+    ensures { Reads (λ e ts. else_of (below e whole.room) whole.at (expression_of test) (element_of held) ts)
+        reader.old reader.new (element_of result) }
 {
-    let [token, rest @ ..] = ts else {
-        return Ok((node::if_element(tested.at, tested.test, tested.held), ts));
+    let Some(open) = reader.opens_key(Key::Else, whole.room) else {
+        return node::if_element(reader, whole.at, test, held);
     };
-    if !is_key(Key::Else, token) {
-        return Ok((node::if_element(tested.at, tested.test, tested.held), ts));
-    }
-    let inner = opened(room, token.at)?;
-    let (other, left) = element(alloc, rest, end, inner)?;
-    Ok((
-        node::if_else(alloc, tested.at, tested.test, tested.held, other)?,
-        left,
-    ))
+    let other = element(reader, open.room);
+    node::if_else(reader, whole.at, test, held, other)
 }
 
 // "(" args ")" elem | "(" args ";" expr ";" args ")" elem, behind the "for"
 #[cycle(expression)]
-#[tactic(auto, using(crate::proofs::rules::Room::rounds))]
-fn for_element<'a>(
-    alloc: Global,
-    at: Place,
-    ts: &'a [Token],
-    end: Place,
-    room: u32,
-) -> Read<'a, Elem>
-    ensures { Gives (for_behind_of «end» (below «end» room) at ts.now) element_of result }
+fn for_element(reader: &mut Reader<'_>, open: Open) -> Elem
+    ensures { Reads (λ e ts. (rules_at e «open».room).for_behind «open».at ts) reader.old reader.new (element_of result) }
 {
-    let rest = expect(Sign::OpenRound, ts, end)?;
-    let inner = opened(room, place(ts, end))?;
-    let (head, left) = for_head(alloc, rest, end, inner)?;
-    let (elem, left) = element(alloc, left, end, room)?;
-    Ok((headed(alloc, at, head, elem)?, left))
+    let head = round_head(reader, open.room);
+    let elem = element(reader, open.room);
+    headed(reader, open.at, head, elem)
+}
+
+// "(" args ")" | "(" args ";" expr ";" args ")"
+#[cycle(expression)]
+fn round_head(reader: &mut Reader<'_>, room: u32) -> Head
+    ensures { Reads (λ e ts. round_head_of e (below e room) ts) reader.old reader.new (head_of result) }
+{
+    reader.needs(Sign::OpenRound);
+    let Some(open) = reader.open(room) else {
+        return Head::All(Args::new(reader.alloc));
+    };
+    for_head(reader, open.room)
 }
 
 // args ")" | args ";" expr ";" args ")"
 #[cycle(expression)]
-fn for_head<'a>(alloc: Global, ts: &'a [Token], end: Place, room: u32) -> Read<'a, Head>
-    ensures { Gives (for_head_of «end» (below «end» room) ts.now) head_of result }
+fn for_head(reader: &mut Reader<'_>, room: u32) -> Head
+    ensures { Reads (λ e ts. for_head_of e (below e room) ts) reader.old reader.new (head_of result) }
 {
-    let (args, left) = arguments(alloc, ts, end, room)?;
-    let [token, rest @ ..] = left else {
-        return Err(ParseFault::Syntax(end));
-    };
-    if is_sign(Sign::CloseRound, token) {
-        return Ok((Head::All(args), rest));
+    let init = arguments(reader, room);
+    if reader.takes(Sign::CloseRound) {
+        return Head::All(init);
     }
-    if !is_sign(Sign::Semicolon, token) {
-        return Err(ParseFault::Syntax(token.at));
-    }
-    let (value, left) = closed(alloc, Sign::Semicolon, rest, end, room)?;
-    let test = Box::new(alloc, value)?;
-    let (step, left) = closed_arguments(alloc, left, end, room)?;
-    Ok((Head::Steps(args, test, step), left))
+    reader.expect(Sign::Semicolon);
+    let test = closed(reader, Sign::Semicolon, room);
+    let step = closed_arguments(reader, room);
+    Head::Steps(init, test, step)
 }

@@ -1,6 +1,5 @@
 //! Why tokens are refused.
 use scad_fault::{Place, Text};
-use std::alloc::{AllocError, AllocFailed};
 
 /// Why tokens are no program: the first token that has a fault.
 #[derive(Drop)]
@@ -15,24 +14,21 @@ pub enum ParseFault {
     LeftOut(Place, Text),
 }
 
-impl From<AllocError> for ParseFault {
-    ghost use Rattle.std.specs.Prelude.{◌≡◌};
-    ghost use Rattle.scad_parse.specs.declared.fault.ParseFault.TheVariants.{Memory};
-
-    ghost from_gives = { λ _ e. e ≡ Memory };
-
-    fn from(_e: AllocError) -> ParseFault {
-        ParseFault::Memory
-    }
+/// A form of the language that is left out.
+#[derive(Clone, Copy)]
+pub(crate) enum Form {
+    Function,
+    Power,
+    Include,
+    Use,
+    Root,
 }
 
-impl<T: Drop> From<AllocFailed<T>> for ParseFault {
-    ghost use Rattle.std.specs.Prelude.{◌≡◌};
-    ghost use Rattle.scad_parse.specs.declared.fault.ParseFault.TheVariants.{Memory};
-
-    ghost from_gives = { λ _ e. e ≡ Memory };
-
-    fn from(_e: AllocFailed<T>) -> ParseFault {
-        ParseFault::Memory
-    }
+/// A fault as a reader remembers it.
+#[derive(Clone, Copy)]
+pub(crate) enum Fault {
+    Memory,
+    Syntax(Place),
+    Nesting(Place),
+    LeftOut(Place, Form),
 }

@@ -1,12 +1,11 @@
 //! A token, and the token that stands at the front of what is left.
 
-ghost use Rattle.std.specs.Prelude.{◌≡◌, true, false, is_some, IfOk, OnOk, IfErr, OnErr};
+ghost use Rattle.std.specs.Prelude.{◌≡◌, is_some, IfOk};
 ghost use Rattle.scad_grammar.specs.Tokens.{sign_number, key_number, is_sign_kind, is_key_kind, word_kind, is_sign};
 ghost use Rattle.scad_grammar.specs.Tokens.{is_key, word_of, begins_with};
-ghost use Rattle.scad_grammar.specs.Grammar.{begins_named, at_end_of_arguments, ends_arguments_kind, ends_arguments};
+ghost use Rattle.scad_grammar.specs.Grammar.{begins_named, ends_arguments_kind, ends_arguments};
 ghost use Rattle.scad_parse.specs.Reading.{place_of, behind, first_word};
 
-use crate::fault::ParseFault;
 use scad_fault::{Place, Text};
 use scad_lex::{Key, Sign, Token, TokenKind};
 use std::alloc::{AllocError, Global};
@@ -113,20 +112,6 @@ pub(crate) fn begins_with(sign: Sign, ts: &[Token]) -> bool
     }
 }
 
-/// What stands behind the sign, which is to come.
-pub(crate) fn expect<'a>(sign: Sign, ts: &'a [Token], end: Place) -> Result<&'a [Token], ParseFault>
-    ensures here { OnOk result (begins_with sign ts.now ≡ true) }
-    ensures rest { IfOk result (λ rest. rest.now ≡ behind ts.now) }
-    ensures missing { OnErr result (begins_with sign ts.now ≡ false) }
-    ensures fault { IfErr result (λ fault. fault ≡ ParseFault.Syntax (place_of «end» ts.now)) }
-{
-    if begins_with(sign, ts) {
-        Ok(behind(ts))
-    } else {
-        Err(ParseFault::Syntax(place(ts, end)))
-    }
-}
-
 fn named_kind(kind: &TokenKind) -> bool
     ensures { result ≡ is_some (word_kind kind.now) }
 {
@@ -134,6 +119,13 @@ fn named_kind(kind: &TokenKind) -> bool
         TokenKind::Word(_) => true,
         TokenKind::Number(_) | TokenKind::Str(_) | TokenKind::Sign(_) | TokenKind::Key(_) => false,
     }
+}
+
+/// The token is a word.
+pub(crate) fn is_word(token: &Token) -> bool
+    ensures { result ≡ is_some (word_of token.now) }
+{
+    named_kind(&token.kind)
 }
 
 /// The tokens begin with a word and `=`.
@@ -160,14 +152,4 @@ pub(crate) fn ends_arguments(token: &Token) -> bool
     ensures { result ≡ ends_arguments token.now }
 {
     ends_arguments_kind(&token.kind)
-}
-
-/// The tokens begin with `)` or `;`, which ends arguments.
-pub(crate) fn is_end_of_arguments(ts: &[Token]) -> bool
-    ensures { result ≡ at_end_of_arguments ts.now }
-{
-    match ts {
-        [] => false,
-        [token, ..] => ends_arguments(token),
-    }
 }

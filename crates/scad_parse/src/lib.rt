@@ -23,10 +23,9 @@ mod operator;
 mod primary;
 mod vector;
 
-// what all of them use: signs, the limit, the token at the front
+// what all of them use: the token at the front, and the reader that remembers the first fault
 mod front;
-mod nesting;
-mod reading;
+mod reader;
 
 pub use descent::parse;
 pub use fault::ParseFault;

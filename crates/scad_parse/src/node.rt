@@ -1,5 +1,5 @@
-//! The nodes of the tree, with their parts in boxes. What is read before another part comes in its box: where the other
-//! fails, letting a box go is one call, and letting an expression go is a case for each of its forms.
+//! The nodes of the tree. Where there is no memory for what a node holds, the reader remembers it, and the node is of no
+//! meaning.
 
 ghost use Rattle.std.specs.Prelude.{◌≡◌, IfOk};
 ghost use Rattle.scad_ast.specs.Tree.{number as number_tree, name as name_tree, call as call_tree};
@@ -9,7 +9,9 @@ ghost use Rattle.scad_ast.specs.View.{expression_of, element_of, arguments, elem
 ghost use Rattle.scad_grammar.specs.Behind.{keyed_tree};
 ghost use Rattle.scad_grammar.specs.Lists.{let_of};
 ghost use Rattle.scad_parse.specs.Reading.{keyed};
+ghost use Rattle.scad_parse.specs.Standing.{Reads, made};
 
+use crate::reader::Reader;
 use scad_ast::{Args, BinOp, Elem, Elems, Expr, Node, UnOp};
 use scad_fault::{Chars, Place, Text};
 use scad_num::Num;
@@ -21,6 +23,19 @@ pub(crate) enum Binder {
     Let,
     Assert,
     Echo,
+}
+
+/// What stands in the place of a tree that wasn't read.
+pub(crate) fn nothing(at: Place) -> Expr {
+    Expr {
+        at,
+        node: Node::Undef,
+    }
+}
+
+/// What stands in the place of an element that wasn't read.
+pub(crate) fn no_element(at: Place) -> Elem {
+    Elem::Item(nothing(at))
 }
 
 pub(crate) fn number(at: Place, number: Num) -> Expr
@@ -69,99 +84,107 @@ pub(crate) fn string(alloc: Global, at: Place, chars: &Chars) -> Result<Expr, Al
     })
 }
 
-pub(crate) fn unary(alloc: Global, at: Place, op: UnOp, e: Expr) -> Result<Expr, AllocError>
-    ensures { IfOk result (λ node. expression_of node ≡ unary at op (expression_of e)) }
+pub(crate) fn unary(reader: &mut Reader<'_>, at: Place, op: UnOp, e: Expr) -> Expr
+    ensures { Reads (made (unary at op (expression_of e))) reader.old reader.new (expression_of result) }
 {
-    let e = Box::new(alloc, e)?;
-    Ok(Expr {
+    let e = reader.boxed(e);
+    let Some(e) = e else {
+        return nothing(at);
+    };
+    Expr {
         at,
         node: Node::Unary(op, e),
-    })
+    }
 }
 
-pub(crate) fn binary(
-    alloc: Global,
-    at: Place,
-    op: BinOp,
-    left: Box<Expr>,
-    right: Expr,
-) -> Result<Expr, AllocError>
-    ensures { IfOk result (λ e. expression_of e ≡ binary at op (expression_of left.value) (expression_of right)) }
+pub(crate) fn binary(reader: &mut Reader<'_>, at: Place, op: BinOp, left: Expr, right: Expr) -> Expr
+    ensures { Reads (made (binary at op (expression_of left) (expression_of right))) reader.old reader.new (expression_of result) }
 {
-    let right = Box::new(alloc, right)?;
-    Ok(Expr {
+    let left = reader.boxed(left);
+    let right = reader.boxed(right);
+    let (Some(left), Some(right)) = (left, right) else {
+        return nothing(at);
+    };
+    Expr {
         at,
         node: Node::Binary(op, left, right),
-    })
+    }
 }
 
-pub(crate) fn choose(
-    alloc: Global,
-    at: Place,
-    test: Box<Expr>,
-    chosen: Box<Expr>,
-    other: Expr,
-) -> Result<Expr, AllocError>
-    ensures { IfOk result (λ e. expression_of e
-        ≡ choose at (expression_of test.value) (expression_of chosen.value) (expression_of other)) }
+pub(crate) fn choose(reader: &mut Reader<'_>, at: Place, test: Expr, chosen: Expr, other: Expr) -> Expr
+    ensures { Reads (made (choose at (expression_of test) (expression_of chosen) (expression_of other))) reader.old reader.new (expression_of result) }
 {
-    let other = Box::new(alloc, other)?;
-    Ok(Expr {
+    let test = reader.boxed(test);
+    let chosen = reader.boxed(chosen);
+    let other = reader.boxed(other);
+    let (Some(test), Some(chosen), Some(other)) = (test, chosen, other) else {
+        return nothing(at);
+    };
+    Expr {
         at,
         node: Node::Choose(test, chosen, other),
-    })
+    }
 }
 
-pub(crate) fn index(alloc: Global, at: Place, value: Box<Expr>, i: Expr) -> Result<Expr, AllocError>
-    ensures { IfOk result (λ e. expression_of e ≡ index at (expression_of value.value) (expression_of i)) }
+pub(crate) fn index(reader: &mut Reader<'_>, at: Place, value: Expr, i: Expr) -> Expr
+    ensures { Reads (made (index at (expression_of value) (expression_of i))) reader.old reader.new (expression_of result) }
 {
-    let i = Box::new(alloc, i)?;
-    Ok(Expr {
+    let value = reader.boxed(value);
+    let i = reader.boxed(i);
+    let (Some(value), Some(i)) = (value, i) else {
+        return nothing(at);
+    };
+    Expr {
         at,
         node: Node::Index(value, i),
-    })
+    }
 }
 
-pub(crate) fn member(at: Place, value: Box<Expr>, name: Text) -> Expr
-    ensures { expression_of result ≡ member at (expression_of value.value) name }
+pub(crate) fn member(reader: &mut Reader<'_>, at: Place, value: Expr, name: Text) -> Expr
+    ensures { Reads (made (member at (expression_of value) name)) reader.old reader.new (expression_of result) }
 {
+    let value = reader.boxed(value);
+    let Some(value) = value else {
+        return nothing(at);
+    };
     Expr {
         at,
         node: Node::Member(value, name),
     }
 }
 
-pub(crate) fn bound(
-    alloc: Global,
-    at: Place,
-    binder: Binder,
-    args: Args,
-    body: Expr,
-) -> Result<Expr, AllocError>
-    ensures { IfOk result (λ e. expression_of e
-        ≡ keyed_tree (keyed binder) at (arguments args.items) (expression_of body)) }
+pub(crate) fn bound(reader: &mut Reader<'_>, at: Place, binder: Binder, args: Args, body: Expr) -> Expr
+    ensures { Reads (made (keyed_tree (keyed binder) at (arguments args.items) (expression_of body))) reader.old reader.new (expression_of result) }
 {
-    let body = Box::new(alloc, body)?;
+    let body = reader.boxed(body);
+    let Some(body) = body else {
+        return nothing(at);
+    };
     match binder {
-        Binder::Let => Ok(Expr {
+        Binder::Let => Expr {
             at,
             node: Node::Let(args, body),
-        }),
-        Binder::Assert => Ok(Expr {
+        },
+        Binder::Assert => Expr {
             at,
             node: Node::Assert(args, body),
-        }),
-        Binder::Echo => Ok(Expr {
+        },
+        Binder::Echo => Expr {
             at,
             node: Node::Echo(args, body),
-        }),
+        },
     }
 }
 
 /// The range from start to end.
-pub(crate) fn range(at: Place, start: Box<Expr>, last: Box<Expr>) -> Expr
-    ensures { expression_of result ≡ range at (expression_of start.value) (expression_of last.value) }
+pub(crate) fn range(reader: &mut Reader<'_>, at: Place, start: Expr, last: Expr) -> Expr
+    ensures { Reads (made (range at (expression_of start) (expression_of last))) reader.old reader.new (expression_of result) }
 {
+    let start = reader.boxed(start);
+    let last = reader.boxed(last);
+    let (Some(start), Some(last)) = (start, last) else {
+        return nothing(at);
+    };
     Expr {
         at,
         node: Node::Range(start, None, last),
@@ -169,81 +192,83 @@ pub(crate) fn range(at: Place, start: Box<Expr>, last: Box<Expr>) -> Expr
 }
 
 /// The range from start to end by a step.
-pub(crate) fn stepped(
-    alloc: Global,
-    at: Place,
-    start: Box<Expr>,
-    step: Box<Expr>,
-    last: Expr,
-) -> Result<Expr, AllocError>
-    ensures { IfOk result (λ e. expression_of e
-        ≡ stepped at (expression_of start.value) (expression_of step.value) (expression_of last)) }
+pub(crate) fn stepped(reader: &mut Reader<'_>, at: Place, start: Expr, step: Expr, last: Expr) -> Expr
+    ensures { Reads (made (stepped at (expression_of start) (expression_of step) (expression_of last))) reader.old reader.new (expression_of result) }
 {
-    let last = Box::new(alloc, last)?;
-    Ok(Expr {
+    let start = reader.boxed(start);
+    let step = reader.boxed(step);
+    let last = reader.boxed(last);
+    let (Some(start), Some(step), Some(last)) = (start, step, last) else {
+        return nothing(at);
+    };
+    Expr {
         at,
         node: Node::Range(start, Some(step), last),
-    })
+    }
 }
 
-pub(crate) fn each(alloc: Global, at: Place, e: Elem) -> Result<Elem, AllocError>
-    ensures { IfOk result (λ node. element_of node ≡ each at (element_of e)) }
+pub(crate) fn each(reader: &mut Reader<'_>, at: Place, e: Elem) -> Elem
+    ensures { Reads (made (each at (element_of e))) reader.old reader.new (element_of result) }
 {
-    let e = Box::new(alloc, e)?;
-    Ok(Elem::Each(e, at))
+    let e = reader.boxed(e);
+    let Some(e) = e else {
+        return no_element(at);
+    };
+    Elem::Each(e, at)
 }
 
-pub(crate) fn for_each(alloc: Global, at: Place, args: Args, e: Elem) -> Result<Elem, AllocError>
-    ensures { IfOk result (λ node. element_of node ≡ for_each at (arguments args.items) (element_of e)) }
+pub(crate) fn for_each(reader: &mut Reader<'_>, at: Place, args: Args, e: Elem) -> Elem
+    ensures { Reads (made (for_each at (arguments args.items) (element_of e))) reader.old reader.new (element_of result) }
 {
-    let e = Box::new(alloc, e)?;
-    Ok(Elem::For(args, e, at))
+    let e = reader.boxed(e);
+    let Some(e) = e else {
+        return no_element(at);
+    };
+    Elem::For(args, e, at)
 }
 
-pub(crate) fn for_loop(
-    alloc: Global,
-    at: Place,
-    init: Args,
-    test: Box<Expr>,
-    step: Args,
-    e: Elem,
-) -> Result<Elem, AllocError>
-    ensures { IfOk result (λ node. element_of node
-        ≡ for_loop at (arguments init.items) (expression_of test.value) (arguments step.items) (element_of e)) }
+pub(crate) fn for_loop(reader: &mut Reader<'_>, at: Place, init: Args, test: Expr, step: Args, e: Elem) -> Elem
+    ensures { Reads (made (for_loop at (arguments init.items) (expression_of test) (arguments step.items) (element_of e))) reader.old reader.new (element_of result) }
 {
-    let e = Box::new(alloc, e)?;
-    Ok(Elem::Loop(init, Box::into_inner(test), step, e, at))
+    let e = reader.boxed(e);
+    let Some(e) = e else {
+        return no_element(at);
+    };
+    Elem::Loop(init, test, step, e, at)
 }
 
 /// Behind `let (..)` in a vector: an expression with these bindings, or a comprehension.
-pub(crate) fn let_element(alloc: Global, at: Place, args: Args, e: Elem) -> Result<Elem, AllocError>
-    ensures { IfOk result (λ node. element_of node ≡ let_of at (arguments args.items) (element_of e)) }
+pub(crate) fn let_element(reader: &mut Reader<'_>, at: Place, args: Args, e: Elem) -> Elem
+    ensures { Reads (made (let_of at (arguments args.items) (element_of e))) reader.old reader.new (element_of result) }
 {
     match e {
-        Elem::Item(body) => Ok(Elem::Item(bound(alloc, at, Binder::Let, args, body)?)),
+        Elem::Item(body) => Elem::Item(bound(reader, at, Binder::Let, args, body)),
         e => {
-            let e = Box::new(alloc, e)?;
-            Ok(Elem::Let(args, e, at))
+            let Some(e) = reader.boxed(e) else {
+                return no_element(at);
+            };
+            Elem::Let(args, e, at)
         }
     }
 }
 
-pub(crate) fn if_element(at: Place, test: Box<Expr>, held: Box<Elem>) -> Elem
-    ensures { element_of result ≡ if_element at (expression_of test.value) (element_of held.value) }
+pub(crate) fn if_element(reader: &mut Reader<'_>, at: Place, test: Expr, held: Elem) -> Elem
+    ensures { Reads (made (if_element at (expression_of test) (element_of held))) reader.old reader.new (element_of result) }
 {
-    Elem::If(Box::into_inner(test), held, None, at)
+    let held = reader.boxed(held);
+    let Some(held) = held else {
+        return no_element(at);
+    };
+    Elem::If(test, held, None, at)
 }
 
-pub(crate) fn if_else(
-    alloc: Global,
-    at: Place,
-    test: Box<Expr>,
-    held: Box<Elem>,
-    other: Elem,
-) -> Result<Elem, AllocError>
-    ensures { IfOk result (λ node. element_of node
-        ≡ if_else at (expression_of test.value) (element_of held.value) (element_of other)) }
+pub(crate) fn if_else(reader: &mut Reader<'_>, at: Place, test: Expr, held: Elem, other: Elem) -> Elem
+    ensures { Reads (made (if_else at (expression_of test) (element_of held) (element_of other))) reader.old reader.new (element_of result) }
 {
-    let other = Box::new(alloc, other)?;
-    Ok(Elem::If(Box::into_inner(test), held, Some(other), at))
+    let held = reader.boxed(held);
+    let other = reader.boxed(other);
+    let (Some(held), Some(other)) = (held, other) else {
+        return no_element(at);
+    };
+    Elem::If(test, held, Some(other), at)
 }

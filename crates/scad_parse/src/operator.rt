@@ -1,12 +1,14 @@
 //! Which tokens are operators and literals.
 
-ghost use Rattle.std.specs.Prelude.{◌≡◌, Some, None, option_map, IfOk};
+ghost use Rattle.std.specs.Prelude.{◌≡◌, ◌<◌, Some, None, option_map, is_some, IfOk, IfSome};
 ghost use Rattle.scad_ast.specs.View.{expression_of};
 ghost use Rattle.scad_grammar.specs.Tokens.{operator_sign, on_line, line_of, operator_kind, operator};
 ghost use Rattle.scad_grammar.specs.Steps.{literal_kind, literal};
+ghost use Rattle.scad_parse.specs.Standing.{standing, Opens, operator_at};
 ghost use Rattle.scad_lex.specs.declared.token.TokenKind.TheVariants.{Key as KeyKind};
 
 use crate::node;
+use crate::reader::{Open, Reader};
 use scad_ast::{BinOp, Expr, Node};
 use scad_fault::Place;
 use scad_lex::{Key, Sign, Token, TokenKind};
@@ -74,6 +76,32 @@ pub(crate) fn operator(line: u8, token: &Token) -> Option<BinOp>
     ensures { result ≡ operator line token.now }
 {
     operator_kind(line, &token.kind)
+}
+
+/// An operator between operands, and the construct that it opens.
+#[derive(Clone, Copy)]
+pub(crate) struct Link {
+    pub(crate) op: BinOp,
+    pub(crate) open: Open,
+}
+
+/// The operator of this line, where one comes and there is room.
+pub(crate) fn opens_operator(reader: &mut Reader<'_>, line: u8, room: u32) -> Option<Link>
+    ensures opens { Opens (λ t. is_some (operator line t)) room reader.old reader.new
+        (option_map (λ link. link.open) result) }
+    ensures op { IfSome result (λ link. Some link.op ≡ operator_at line (standing reader.old)) }
+    ensures less { IfSome result (λ link. link.open.room < room) }
+{
+    let Some(token) = reader.front() else {
+        return None;
+    };
+    let Some(op) = operator(line, token) else {
+        return None;
+    };
+    let Some(open) = reader.open(room) else {
+        return None;
+    };
+    Some(Link { op, open })
 }
 
 /// The constant that a keyword is.

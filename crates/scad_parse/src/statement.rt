@@ -1,134 +1,95 @@
 //! Statements, where definitions may stand and where they may not, and groups of them.
 
-ghost use Rattle.std.specs.Prelude.{◌≡◌, length, true};
+ghost use Rattle.std.specs.Prelude.{◌≡◌};
 ghost use Rattle.scad_ast.specs.Scope.{items};
-ghost use Rattle.scad_grammar.specs.StatementRules.{statement_of, group_of, word_behind_of, definition_of};
-ghost use Rattle.scad_parse.specs.Reading.{Gives, below, rules_at};
-ghost use Rattle.scad_parse.specs.ReadingStatements.{below_statements, scope_seen};
+ghost use Rattle.scad_grammar.specs.StatementRules.{statement_of};
+ghost use Rattle.scad_parse.specs.ReadingStatements.{below_statements, statement_rules_at, scope_seen, definition_at};
+ghost use Rattle.scad_parse.specs.ReadingStatements.{word_at};
+ghost use Rattle.scad_parse.specs.Standing.{Reads};
 
 use crate::definition::{function, module, pushed};
 use crate::expression::closed;
-use crate::fault::ParseFault;
-use crate::front::{begins_with, behind, is_key, is_sign, word};
-use crate::instance::{Before, Word, call, first};
+use crate::instance::{Before, call, first};
 use crate::mark::unmarked;
-use crate::nesting::opened;
-use crate::reading::Read;
+use crate::reader::{Reader, Word};
 use scad_ast::{Item, Scope};
-use scad_fault::Place;
-use scad_lex::{Key, Sign, Token};
-use std::alloc::Global;
+use scad_lex::{Key, Sign};
 
 // stmt = ";" | "{" stmt* "}" | assign | module | function | inst
 // body = ";" | "{" body* "}" | assign | inst
 // Where definitions may not stand, it is a body.
 #[cycle(statement)]
-#[tactic(auto, using(crate::proofs::rules::Statements::room), unfolding(scad_grammar::specs::StatementRules::statement_of, scad_grammar::specs::StatementRules::definition_of))]
-pub(crate) fn statement<'a>(
-    alloc: Global,
-    definitions: bool,
-    scope: Scope,
-    ts: &'a [Token],
-    end: Place,
-    room: u32,
-) -> Read<'a, Scope>
-    ensures { Gives (statement_of «end» (below_statements «end» room) definitions (items scope.items) ts.now)
-        scope_seen result }
+pub(crate) fn statement(reader: &mut Reader<'_>, definitions: bool, scope: Scope, room: u32) -> Scope
+    ensures { Reads (λ e ts. statement_of e (below_statements e room) definitions (items scope.items) ts)
+        reader.old reader.new (scope_seen result) }
 {
-    let [token, rest @ ..] = ts else {
-        return Err(ParseFault::Syntax(end));
-    };
-    if is_sign(Sign::Semicolon, token) {
-        return Ok((scope, rest));
+    if reader.takes(Sign::Semicolon) {
+        return scope;
     }
-    if is_sign(Sign::OpenCurly, token) {
-        let inner = opened(room, token.at)?;
-        return group(alloc, definitions, scope, rest, end, inner);
+    if let Some(open) = reader.opens(Sign::OpenCurly, room) {
+        return group(reader, definitions, scope, open.room);
     }
-    if let Some(name) = word(alloc, token)? {
-        let inner = opened(room, token.at)?;
-        return word_behind(alloc, Word { at: token.at, name }, scope, rest, end, inner);
+    if reader.begins_with_word() {
+        return worded(reader, scope, room);
     }
     if definitions {
-        return definition(alloc, scope, token, rest, end, room);
+        return definition(reader, scope, room);
     }
-    first(alloc, scope, token, rest, end, room)
+    first(reader, scope, room)
 }
 
 // stmt* "}" or body* "}", behind the "{"
 #[cycle(statement)]
-pub(crate) fn group<'a>(
-    alloc: Global,
-    definitions: bool,
-    scope: Scope,
-    ts: &'a [Token],
-    end: Place,
-    room: u32,
-) -> Read<'a, Scope>
-    ensures { Gives (group_of «end» (below_statements «end» room) (length ts.now) definitions (items scope.items)
-        ts.now) scope_seen result }
+pub(crate) fn group(reader: &mut Reader<'_>, definitions: bool, scope: Scope, room: u32) -> Scope
+    ensures { Reads (λ e ts. (statement_rules_at e room).group definitions (items scope.items) ts)
+        reader.old reader.new (scope_seen result) }
 {
     let mut all = scope;
-    let mut left = ts;
-    'statements: while !begins_with(Sign::CloseCurly, left) {
-        let (more, rest) = statement(alloc, definitions, all, left, end, room)?;
-        all = more;
-        left = rest;
+    'statements: while reader.lacks(Sign::CloseCurly) {
+        all = statement(reader, definitions, all, room);
     }
-    Ok((all, behind(left)))
+    reader.pass();
+    all
+}
+
+// assign | a call, which begins with a WORD
+#[cycle(statement)]
+fn worded(reader: &mut Reader<'_>, scope: Scope, room: u32) -> Scope
+    ensures { Reads (λ e ts. word_at e (below_statements e room) (items scope.items) ts)
+        reader.old reader.new (scope_seen result) }
+{
+    let word = reader.word();
+    let Some(inner) = reader.deeper(word.at, room) else {
+        return scope;
+    };
+    word_behind(reader, word, scope, inner)
 }
 
 // assign = WORD "=" expr ";", or a call, behind the WORD
 #[cycle(statement)]
-fn word_behind<'a>(
-    alloc: Global,
-    word: Word,
-    scope: Scope,
-    ts: &'a [Token],
-    end: Place,
-    room: u32,
-) -> Read<'a, Scope>
-    ensures { Gives (word_behind_of «end» (rules_at «end» room) (below_statements «end» room) word.at word.name
-        (items scope.items) ts.now) scope_seen result }
+fn word_behind(reader: &mut Reader<'_>, word: Word, scope: Scope, room: u32) -> Scope
+    ensures { Reads (λ e ts. (statement_rules_at e room).word_behind word.at word.name (items scope.items) ts)
+        reader.old reader.new (scope_seen result) }
 {
-    let [token, rest @ ..] = ts else {
-        return Err(ParseFault::Syntax(end));
-    };
-    if is_sign(Sign::Assign, token) {
-        let (value, left) = closed(alloc, Sign::Semicolon, rest, end, room)?;
-        return Ok((
-            pushed(scope, Item::Assign(word.name, value, word.at))?,
-            left,
-        ));
+    if reader.takes(Sign::Assign) {
+        let value = closed(reader, Sign::Semicolon, room);
+        return pushed(reader, scope, Item::Assign(word.name, value, word.at));
     }
-    let before = Before {
-        marks: unmarked(),
-        scope,
-    };
-    call(alloc, before, word, ts, end, room)
+    let marks = unmarked();
+    call(reader, Before { marks, scope }, word, room)
 }
 
-// module | function | inst, of which the first token is given apart
+// module | function | inst
 #[cycle(statement)]
-#[tactic(auto, using(crate::proofs::rules::Statements::room), unfolding(scad_grammar::specs::StatementRules::definition_of))]
-fn definition<'a>(
-    alloc: Global,
-    scope: Scope,
-    token: &Token,
-    ts: &'a [Token],
-    end: Place,
-    room: u32,
-) -> Read<'a, Scope>
-    ensures { Gives (definition_of true (below_statements «end» room) token.now (items scope.items) ts.now)
-        scope_seen result }
+fn definition(reader: &mut Reader<'_>, scope: Scope, room: u32) -> Scope
+    ensures { Reads (λ e ts. definition_at e (below_statements e room) (items scope.items) ts)
+        reader.old reader.new (scope_seen result) }
 {
-    if is_key(Key::Module, token) {
-        let inner = opened(room, token.at)?;
-        return module(alloc, token.at, scope, ts, end, inner);
+    if let Some(open) = reader.opens_key(Key::Module, room) {
+        return module(reader, scope, open);
     }
-    if is_key(Key::Function, token) {
-        let inner = opened(room, token.at)?;
-        return function(alloc, token.at, scope, ts, end, inner);
+    if let Some(open) = reader.opens_key(Key::Function, room) {
+        return function(reader, scope, open);
     }
-    first(alloc, scope, token, ts, end, room)
+    first(reader, scope, room)
 }

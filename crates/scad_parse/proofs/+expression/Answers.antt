@@ -1,273 +1,540 @@
-use Rattle.std.proofs.Common.{length, ap, sym, subst, ◌∙◌, Ok}
-use Rattle.std.proofs.lemmas.Result.{err_from_is_err_and}
-use Rattle.scad_ast.specs.Tree.{Arguments, Elements, no_arguments, no_elements}
+use Rattle.std.proofs.Common.{◌≡◌, ◌-◌, length, ap, sym, ◌∙◌, true, false, List, [], ◌∷◌, Ok, Err, Some, None, option_map}
+use Rattle.std.specs.Prelude.{is_some, if◌then◌else◌}
+use Rattle.scad_lex.specs.declared.token.Sign.TheVariants.{OpenRound, OpenSquare, CloseRound, CloseSquare, Question}
+use Rattle.scad_lex.specs.declared.token.Sign.TheVariants.{Colon, Bang, Plus, Minus, Dot, Caret, Semicolon}
+use Rattle.scad_lex.specs.declared.token.Key.TheVariants.{Function, If, Else, For, Let, Assert, Echo, Each}
+use Rattle.scad_ast.specs.declared.operator.UnOp.TheVariants.{Not, Plus as UnaryPlus, Minus as UnaryMinus}
+use Rattle.scad_ast.specs.Tree.{no_arguments, name, call, choose, index, member, range, stepped, unary, binary, item, each}
+use Rattle.scad_ast.specs.Tree.{if_element, if_else}
 use Rattle.scad_ast.specs.View.{expression_of, element_of, arguments, elements}
-use Rattle.scad_grammar.specs.Rules.{args_of}
-use Rattle.scad_parse.specs.Reading.{below, refusal, argument_seen}
-use Rattle.scad_parse.proofs.rules.Openers.{call_here, index_here, member_here, link_here, choice_here, else_here}
-use Rattle.scad_parse.proofs.rules.Openers.{for_here, each_here, if_here, let_here}
-use Rattle.scad_parse.proofs.loops.Arguments.{args_go, args_fewer, args_stop, args_stop_behind, args_end}
-use Rattle.scad_parse.proofs.loops.Elements.{elements_at, elements_go, elements_fewer, elements_stop}
-use Rattle.scad_parse.proofs.loops.Elements.{elements_stop_behind, elements_range, elements_end}
-use Rattle.scad_parse.proofs.loops.Pushes.{arguments_push, elements_push}
-use Rattle.scad_parse.proofs.loops.Turns.{Goes}
+use Rattle.scad_grammar.specs.Tokens.{is_sign, is_key, operator}
+use Rattle.scad_grammar.specs.Lists.{let_of}
+use Rattle.scad_grammar.specs.Behind.{letting, asserting, echoing, keyed_tree}
+use Rattle.scad_grammar.specs.Rules.{Read, then_read, deeper, expr_of, operand_of, unary_of, prim_of, posts_of, links_of}
+use Rattle.scad_grammar.specs.Rules.{choice_of, expr_to, in_round_of, args_of, args_closed_of, elem_of, else_of, range_end}
+use Rattle.scad_grammar.specs.Rules.{head_end, for_all, for_steps, headed as grammar_headed}
+use Rattle.scad_parse.specs.declared.fault.Form.TheVariants.{Function as FunctionForm, Power}
+use Rattle.scad_parse.specs.Heads.{head_of}
+use Rattle.scad_parse.specs.Reading.{below, rules_at, keyed, bound_by, prefixed_by, prim_at, name_at, name_before}
+use Rattle.scad_parse.specs.Reading.{argument_of, arguments_seen, round_head_of}
+use Rattle.scad_parse.specs.Standing.{standing, operator_at, left_out, needed, took, word_here, literal_here}
+use Rattle.scad_parse.proofs.loops.Arguments.{arguments_go, arguments_fewer, arguments_end}
+use Rattle.scad_parse.proofs.loops.Elements.{elements_go_on, elements_fewer_come, elements_ranged, elements_ended}
+use Rattle.scad_parse.proofs.rules.Steps.{follows, same_rule, same_rule_here, stay, made_as, made_then, expected, closed_by, taking, by_taken}
+use Rattle.scad_parse.proofs.rules.Steps.{opened_or, round_is, goes_in, no_room}
+use Rattle.scad_parse.proofs.rules.Expressions.{no_rules, more_rules, opens_rule, passes_rule, expression_by, expression_is}
+use Rattle.scad_parse.proofs.rules.Expressions.{not_function, not_assert, not_echo, unbound, chosen, choice_by, choice_is}
+use Rattle.scad_parse.proofs.rules.Expressions.{operand_tightest, operand_looser, operand_by, one_less, links_by, link_by}
+use Rattle.scad_parse.proofs.rules.Expressions.{links_are, linked, unary_by, unary_is, not_bang, not_plus, unprefixed}
+use Rattle.scad_parse.proofs.rules.Expressions.{posts_by, posts_is, index_by, not_square, member_by_word, not_dot}
+use Rattle.scad_parse.proofs.rules.Expressions.{primary_by, primary_is, not_round, not_bracket, by_literal, named_by}
+use Rattle.scad_parse.proofs.rules.Expressions.{named_is, behind_name, call_by, ranged_by, ranged_is, stepping, ended}
+use Rattle.scad_parse.proofs.rules.Expressions.{element_by, element_is, not_for, not_each, not_if, plain, each_by, if_by}
+use Rattle.scad_parse.proofs.rules.Expressions.{let_by, else_by, else_is, other_by, head_by, head_is, in_parts, steps_by}
+use Rattle.scad_parse.proofs.rules.Expressions.{argument_by, argument_is, range_reads, range_refused}
 use Rattle.scad_parse.proofs.+expression.Goals as goal
 
-pub argument::arguments-members-preserved : goal.argument::arguments-members-preserved
-argument::arguments-members-preserved t c =
-    subst (λ (all : Arguments). Goes (args_of c.args.end (below c.args.end c.args.room)) (args_of c.args.end
-    (below c.args.end c.args.room) (length c.args.ts.now) no_arguments c.args.ts.now) all c.in_ok-rest.rest.now) (sym
-    (ap arguments c.in_ok-push.ensures.items ∙ arguments_push c.members.args.items c.in_ok-arg.arg)) (args_go
-    c.args.end c.args.room _ (arguments c.members.args.items) c.members.left.now c.in_ok-arg.rest.now
-    c.in_ok-rest.rest.now (argument_seen c.in_ok-arg.arg) (sym c.is_end_of_arguments.ensures ∙ c.members-test.true)
-    c.in_ok-arg.ensures c.in_ok-rest.ensures c.members.invariant)
+pub expression::expression-returns-in-Some : goal.expression::expression-returns-in-Some
+expression::expression-returns-in-Some t c =
+    same_rule (λ e ts. expr_of e (below e c.args.room) ts) (expression_by c.args.room) (expression_is c.args.room)
+    (follows (λ e ts. left_out (is_key Function) FunctionForm ts) (λ e _. not_function e c.args.room) c.leaves_out.ensures
+    (opens_rule (is_key Let) (λ e. bound_by letting) (λ e. not_assert e c.args.room) c.in-Some.is c.opens_key.ensures.opens
+    c.bound.ensures))
 
-pub argument::arguments-members-smaller : goal.argument::arguments-members-smaller
-argument::arguments-members-smaller t c =
-    args_fewer c.args.end c.args.room c.members.left.now c.in_ok-arg.rest.now c.in_ok-rest.rest.now
-    (argument_seen c.in_ok-arg.arg) c.in_ok-arg.ensures c.in_ok-rest.ensures
+pub expression::expression-returns-in-Some-opens_key : goal.expression::expression-returns-in-Some-opens_key
+expression::expression-returns-in-Some-opens_key t c =
+    same_rule (λ e ts. expr_of e (below e c.args.room) ts) (expression_by c.args.room) (expression_is c.args.room)
+    (follows (λ e ts. left_out (is_key Function) FunctionForm ts) (λ e _. not_function e c.args.room) c.leaves_out.ensures
+    (passes_rule (is_key Let) (λ e. bound_by letting) (λ e. not_assert e c.args.room) c.in_default.is c.opens_key.ensures.opens
+    (opens_rule (is_key Assert) (λ e. bound_by asserting) (λ e. not_echo e c.args.room) c.in-Some-opens_key.is c.opens_key-2.ensures.opens
+    c.bound-in-Some-opens_key.ensures)))
 
-pub argument::arguments-returns-in_err-arg : goal.argument::arguments-returns-in_err-arg
-argument::arguments-returns-in_err-arg t c =
-    let p = err_from_is_err_and c.from_residual.result c.from_residual.ensures.1 in
-    rw (p.1, p.2) (λ some. args_stop c.args.end c.args.room _ (arguments c.members.args.items) c.members.left.now
-    (refusal c.in_err-arg.field-0.0) (sym c.is_end_of_arguments.ensures ∙ c.members-test.true)
-    (c.in_err-arg.ensures some) c.members.invariant)
+pub expression::expression-returns-in-Some-opens_key-2 : goal.expression::expression-returns-in-Some-opens_key-2
+expression::expression-returns-in-Some-opens_key-2 t c =
+    same_rule (λ e ts. expr_of e (below e c.args.room) ts) (expression_by c.args.room) (expression_is c.args.room)
+    (follows (λ e ts. left_out (is_key Function) FunctionForm ts) (λ e _. not_function e c.args.room) c.leaves_out.ensures
+    (passes_rule (is_key Let) (λ e. bound_by letting) (λ e. not_assert e c.args.room) c.in_default.is c.opens_key.ensures.opens
+    (passes_rule (is_key Assert) (λ e. bound_by asserting) (λ e. not_echo e c.args.room) c.in_default-opens_key.is c.opens_key-2.ensures.opens
+    (opens_rule (is_key Echo) (λ e. bound_by echoing) (λ e. unbound e c.args.room) c.in-Some-opens_key-2.is c.opens_key-3.ensures.opens
+    c.bound-in-Some-opens_key-2.ensures))))
 
-pub argument::arguments-returns-in_err-rest : goal.argument::arguments-returns-in_err-rest
-argument::arguments-returns-in_err-rest t c =
-    let p = err_from_is_err_and c.from_residual-in_err-rest.result c.from_residual-in_err-rest.ensures.1 in
-    rw (p.1, p.2) (λ some. args_stop_behind c.args.end c.args.room _ (arguments c.members.args.items)
-    c.members.left.now c.in_ok-arg.rest.now (argument_seen c.in_ok-arg.arg) (refusal c.in_err-rest.field-0.0)
-    (sym c.is_end_of_arguments.ensures ∙ c.members-test.true) c.in_ok-arg.ensures (c.in_err-rest.ensures some)
-    c.members.invariant)
+pub expression::expression-returns : goal.expression::expression-returns
+expression::expression-returns t c =
+    same_rule (λ e ts. expr_of e (below e c.args.room) ts) (expression_by c.args.room) (expression_is c.args.room)
+    (follows (λ e ts. left_out (is_key Function) FunctionForm ts) (λ e _. not_function e c.args.room) c.leaves_out.ensures
+    (passes_rule (is_key Let) (λ e. bound_by letting) (λ e. not_assert e c.args.room) c.in_default.is c.opens_key.ensures.opens
+    (passes_rule (is_key Assert) (λ e. bound_by asserting) (λ e. not_echo e c.args.room) c.in_default-opens_key.is c.opens_key-2.ensures.opens
+    (passes_rule (is_key Echo) (λ e. bound_by echoing) (λ e. unbound e c.args.room) c.in_default-opens_key-2.is c.opens_key-3.ensures.opens
+    (follows (λ e ts. operand_of e (below e c.args.room) 6 ts) (λ e. choice_of e (below e c.args.room))
+    c.operand-test.ensures c.choice.ensures)))))
 
-pub argument::arguments-returns : goal.argument::arguments-returns
-argument::arguments-returns t c =
-    args_end c.args.end c.args.room _ (arguments c.members.args.items) c.members.left.now
-    (sym c.is_end_of_arguments.ensures ∙ c.members-test.false) c.members.invariant
-    ∙ ap (λ (all : Arguments). Ok (all, c.members.left.now)) (ap arguments (sym c.shrink_to_fit.ensures.items))
+pub expression::bound-returns : goal.expression::bound-returns
+expression::bound-returns t c =
+    follows (λ e ts. (rules_at e c.args.open.room).round_args ts)
+    (λ e all us. then_read ((rules_at e c.args.open.room).expr us)
+    (λ x vs. Ok (keyed_tree (keyed c.args.binder) c.args.open.at all x, vs))) c.round_arguments-args.ensures
+    (follows (λ e ts. (rules_at e c.args.open.room).expr ts)
+    (λ e x vs. Ok (keyed_tree (keyed c.args.binder) c.args.open.at (arguments_seen c.round_arguments-args.result) x, vs))
+    c.expression-body.ensures c.bound.ensures)
 
-pub element::element-returns-then-is_key : goal.element::element-returns-then-is_key
-element::element-returns-then-is_key t c =
-    let here = for_here c.args.end c.args.room c.in_ok-inner.inner c.in_ok-inner.ensures.some
-    c.in_ok-inner.ensures.less c.token-item.result c.args.ts.now c.in-len1-up.len_at_least c.token-item.is
-    (sym c.is_key.ensures ∙ c.if-is_key.true) in
-    rw here c.for_element.ensures
-
-pub element::element-returns-in_err-elem : goal.element::element-returns-in_err-elem
-element::element-returns-in_err-elem t c =
-    let here = each_here c.args.end c.args.room c.in_ok-inner-2.inner c.in_ok-inner-2.ensures.some
-    c.in_ok-inner-2.ensures.less c.token-item.result c.args.ts.now c.in-len1-up.len_at_least c.token-item.is
-    (sym c.is_key.ensures ∙ c.if-is_key.false) (sym c.is_key-2.ensures ∙ c.if-is_key-2.true) in
-    let p = err_from_is_err_and c.from_residual-in_err-elem.result c.from_residual-in_err-elem.ensures.1 in
-    rw (p.1, p.2) (λ some. rw (here, c.in_err-elem.ensures some))
-
-pub element::element-returns-then-is_key-2 : goal.element::element-returns-then-is_key-2
-element::element-returns-then-is_key-2 t c =
-    let here = each_here c.args.end c.args.room c.in_ok-inner-2.inner c.in_ok-inner-2.ensures.some
-    c.in_ok-inner-2.ensures.less c.token-item.result c.args.ts.now c.in-len1-up.len_at_least c.token-item.is
-    (sym c.is_key.ensures ∙ c.if-is_key.false) (sym c.is_key-2.ensures ∙ c.if-is_key-2.true) in
-    rw (here, c.in_ok-elem.ensures, c.in_ok-each.ensures)
-
-pub element::element-returns-in_err-test : goal.element::element-returns-in_err-test
-element::element-returns-in_err-test t c =
-    let here = if_here c.args.end c.args.room c.in_ok-inner-3.inner c.in_ok-inner-3.ensures.some
-    c.in_ok-inner-3.ensures.less c.token-item.result c.args.ts.now c.in-len1-up.len_at_least c.token-item.is
-    (sym c.is_key.ensures ∙ c.if-is_key.false) (sym c.is_key-2.ensures ∙ c.if-is_key-2.false)
-    (sym c.is_key-3.ensures ∙ c.if-is_key-3.true) in
-    let p = err_from_is_err_and c.from_residual-in_err-test.result c.from_residual-in_err-test.ensures.1 in
-    rw (p.1, p.2) (λ some. rw (here, c.in_err-test.ensures some))
-
-pub element::element-returns-in_err-held : goal.element::element-returns-in_err-held
-element::element-returns-in_err-held t c =
-    let here = if_here c.args.end c.args.room c.in_ok-inner-3.inner c.in_ok-inner-3.ensures.some
-    c.in_ok-inner-3.ensures.less c.token-item.result c.args.ts.now c.in-len1-up.len_at_least c.token-item.is
-    (sym c.is_key.ensures ∙ c.if-is_key.false) (sym c.is_key-2.ensures ∙ c.if-is_key-2.false)
-    (sym c.is_key-3.ensures ∙ c.if-is_key-3.true) in
-    let p = err_from_is_err_and c.from_residual-in_err-held.result c.from_residual-in_err-held.ensures.1 in
-    rw (p.1, p.2) (λ some. rw (here, c.in_ok-test.ensures, c.in_err-held.ensures some))
-
-pub element::element-returns-then-is_key-3 : goal.element::element-returns-then-is_key-3
-element::element-returns-then-is_key-3 t c =
-    let here = if_here c.args.end c.args.room c.in_ok-inner-3.inner c.in_ok-inner-3.ensures.some
-    c.in_ok-inner-3.ensures.less c.token-item.result c.args.ts.now c.in-len1-up.len_at_least c.token-item.is
-    (sym c.is_key.ensures ∙ c.if-is_key.false) (sym c.is_key-2.ensures ∙ c.if-is_key-2.false)
-    (sym c.is_key-3.ensures ∙ c.if-is_key-3.true) in
-    rw (here, c.in_ok-test.ensures, c.in_ok-held.ensures, ← c.in_ok-tested.ensures.ok, ← c.in_ok-kept.ensures.ok)
-    c.otherwise.ensures
-
-pub element::element-returns-in_err-args : goal.element::element-returns-in_err-args
-element::element-returns-in_err-args t c =
-    let here = let_here c.args.end c.args.room c.in_ok-inner-4.inner c.in_ok-inner-4.ensures.some
-    c.in_ok-inner-4.ensures.less c.token-item.result c.args.ts.now c.in-len1-up.len_at_least c.token-item.is
-    (sym c.is_key.ensures ∙ c.if-is_key.false) (sym c.is_key-2.ensures ∙ c.if-is_key-2.false)
-    (sym c.is_key-3.ensures ∙ c.if-is_key-3.false) (sym c.is_key-4.ensures ∙ c.if-is_key-4.true) in
-    let p = err_from_is_err_and c.from_residual-in_err-args.result c.from_residual-in_err-args.ensures.1 in
-    rw (p.1, p.2) (λ some. rw (here, c.in_err-args.ensures some))
-
-pub element::element-returns-in_err-body : goal.element::element-returns-in_err-body
-element::element-returns-in_err-body t c =
-    let here = let_here c.args.end c.args.room c.in_ok-inner-4.inner c.in_ok-inner-4.ensures.some
-    c.in_ok-inner-4.ensures.less c.token-item.result c.args.ts.now c.in-len1-up.len_at_least c.token-item.is
-    (sym c.is_key.ensures ∙ c.if-is_key.false) (sym c.is_key-2.ensures ∙ c.if-is_key-2.false)
-    (sym c.is_key-3.ensures ∙ c.if-is_key-3.false) (sym c.is_key-4.ensures ∙ c.if-is_key-4.true) in
-    let p = err_from_is_err_and c.from_residual-in_err-body.result c.from_residual-in_err-body.ensures.1 in
-    rw (p.1, p.2) (λ some. rw (here, c.in_ok-args.ensures, c.in_err-body.ensures some))
-
-pub element::element-returns-then-is_key-4 : goal.element::element-returns-then-is_key-4
-element::element-returns-then-is_key-4 t c =
-    let here = let_here c.args.end c.args.room c.in_ok-inner-4.inner c.in_ok-inner-4.ensures.some
-    c.in_ok-inner-4.ensures.less c.token-item.result c.args.ts.now c.in-len1-up.len_at_least c.token-item.is
-    (sym c.is_key.ensures ∙ c.if-is_key.false) (sym c.is_key-2.ensures ∙ c.if-is_key-2.false)
-    (sym c.is_key-3.ensures ∙ c.if-is_key-3.false) (sym c.is_key-4.ensures ∙ c.if-is_key-4.true) in
-    rw (here, c.in_ok-args.ensures, c.in_ok-body.ensures, c.in_ok-let_element.ensures)
-
-pub element::otherwise-returns-in_err-other : goal.element::otherwise-returns-in_err-other
-element::otherwise-returns-in_err-other t c =
-    let here = else_here c.args.end c.args.room c.in_ok-inner.inner c.in_ok-inner.ensures.some
-    c.in_ok-inner.ensures.less c.token-item.result c.args.ts.now c.in-len1-up.len_at_least c.token-item.is
-    c.args.tested.at (expression_of c.args.tested.test.value) (element_of c.args.tested.held.value)
-    (sym c.is_key.ensures ∙ c.if-not-is_key.false) in
-    let p = err_from_is_err_and c.from_residual-in_err-other.result c.from_residual-in_err-other.ensures.1 in
-    rw (p.1, p.2) (λ some. rw (here, c.in_err-other.ensures some))
-
-pub element::otherwise-returns : goal.element::otherwise-returns
-element::otherwise-returns t c =
-    let here = else_here c.args.end c.args.room c.in_ok-inner.inner c.in_ok-inner.ensures.some
-    c.in_ok-inner.ensures.less c.token-item.result c.args.ts.now c.in-len1-up.len_at_least c.token-item.is
-    c.args.tested.at (expression_of c.args.tested.test.value) (element_of c.args.tested.held.value)
-    (sym c.is_key.ensures ∙ c.if-not-is_key.false) in
-    rw (here, c.in_ok-other.ensures, c.in_ok-if_else.ensures)
-
-pub expression::choice-returns-in_err-yes : goal.expression::choice-returns-in_err-yes
-expression::choice-returns-in_err-yes t c =
-    let here = choice_here c.args.end c.args.room c.in_ok-inner.inner c.in_ok-inner.ensures.some
-    c.in_ok-inner.ensures.less c.token-item.result c.args.ts.now c.in-len1-up.len_at_least c.token-item.is
-    (expression_of c.args.test) (sym c.is_sign.ensures ∙ c.if-not-is_sign.false) in
-    let p = err_from_is_err_and c.from_residual-in_err-yes.result c.from_residual-in_err-yes.ensures.1 in
-    rw (p.1, p.2) (λ some. rw (here, c.in_err-yes.ensures some))
-
-pub expression::choice-returns-in_err-no : goal.expression::choice-returns-in_err-no
-expression::choice-returns-in_err-no t c =
-    let here = choice_here c.args.end c.args.room c.in_ok-inner.inner c.in_ok-inner.ensures.some
-    c.in_ok-inner.ensures.less c.token-item.result c.args.ts.now c.in-len1-up.len_at_least c.token-item.is
-    (expression_of c.args.test) (sym c.is_sign.ensures ∙ c.if-not-is_sign.false) in
-    let p = err_from_is_err_and c.from_residual-in_err-no.result c.from_residual-in_err-no.ensures.1 in
-    rw (p.1, p.2) (λ some. rw (here, c.in_ok-yes.ensures, c.in_err-no.ensures some))
+pub expression::choice-returns-in_default : goal.expression::choice-returns-in_default
+expression::choice-returns-in_default t c =
+    same_rule (λ e ts. choice_of e (below e c.args.room) (expression_of c.args.test) ts)
+    (chosen c.args.room (expression_of c.args.test)) (choice_is c.args.room (expression_of c.args.test))
+    (passes_rule (is_sign Question) (choice_by (expression_of c.args.test)) (λ e us. Ok (expression_of c.args.test, us)) c.in_default.is
+    c.opens.ensures.opens stay)
 
 pub expression::choice-returns : goal.expression::choice-returns
 expression::choice-returns t c =
-    let here = choice_here c.args.end c.args.room c.in_ok-inner.inner c.in_ok-inner.ensures.some
-    c.in_ok-inner.ensures.less c.token-item.result c.args.ts.now c.in-len1-up.len_at_least c.token-item.is
-    (expression_of c.args.test) (sym c.is_sign.ensures ∙ c.if-not-is_sign.false) in
-    rw (
-      here,
-      c.in_ok-yes.ensures,
-      c.in_ok-no.ensures,
-      c.in_ok-choose.ensures,
-      c.in_ok-test.ensures.ok,
-      c.in_ok-chosen.ensures.ok,
-    )
+    same_rule (λ e ts. choice_of e (below e c.args.room) (expression_of c.args.test) ts)
+    (chosen c.args.room (expression_of c.args.test)) (choice_is c.args.room (expression_of c.args.test))
+    (opens_rule (is_sign Question) (choice_by (expression_of c.args.test)) (λ e us. Ok (expression_of c.args.test, us)) c.in-Some.is
+    c.opens.ensures.opens
+    (follows (λ e ts. expr_to e Colon (expr_of e (below e c.in-Some.open.room)) ts)
+    (λ e b us. then_read (expr_of e (below e c.in-Some.open.room) us)
+    (λ x vs. Ok (choose c.in-Some.open.at (expression_of c.args.test) b x, vs))) c.closed-chosen.ensures
+    (follows (λ e ts. expr_of e (below e c.in-Some.open.room) ts)
+    (λ e x vs. Ok (choose c.in-Some.open.at (expression_of c.args.test) (expression_of c.closed-chosen.result) x, vs))
+    c.expression-other.ensures c.choose.ensures)))
 
-pub operand::links-returns-in_err-right-in-Some : goal.operand::links-returns-in_err-right-in-Some
-operand::links-returns-in_err-right-in-Some t c =
-    let here = link_here c.args.end c.args.room c.in_ok-inner-in-Some.inner c.in_ok-inner-in-Some.ensures.some
-    c.in_ok-inner-in-Some.ensures.less c.token-item.result c.args.ts.now c.in-len1-up.len_at_least c.token-item.is
-    c.args.line (expression_of c.args.left) c.in-Some.op (sym c.in-Some.ensures) in
-    let p = err_from_is_err_and c.from_residual-in_err-right-in-Some.result
-    c.from_residual-in_err-right-in-Some.ensures.1 in
-    rw (p.1, p.2) (λ some. rw (here, c.in_err-right-in-Some.ensures some))
+pub expression::closed-returns : goal.expression::closed-returns
+expression::closed-returns t c =
+    closed_by c.args.sign (λ e ts. expr_of e (below e c.args.room) ts) c.expression-value.ensures c.expect.ensures
 
-pub operand::links-returns-in_ok-both-in-Some : goal.operand::links-returns-in_ok-both-in-Some
-operand::links-returns-in_ok-both-in-Some t c =
-    let here = link_here c.args.end c.args.room c.in_ok-inner-in-Some.inner c.in_ok-inner-in-Some.ensures.some
-    c.in_ok-inner-in-Some.ensures.less c.token-item.result c.args.ts.now c.in-len1-up.len_at_least c.token-item.is
-    c.args.line (expression_of c.args.left) c.in-Some.op (sym c.in-Some.ensures) in
-    rw (here, c.in_ok-right-in-Some.ensures, ← c.in_ok-left-in-Some.ensures.ok, ← c.in_ok-both-in-Some.ensures)
-    c.links.ensures
+pub expression::round_expression-returns-in_default : goal.expression::round_expression-returns-in_default
+expression::round_expression-returns-in_default t c =
+    same_rule (λ e ts. in_round_of e (below e c.args.room) (λ r us. expr_to e CloseRound r.expr us) ts)
+    (λ e ts. then_read (needed (is_sign OpenRound) e ts)
+    (λ _. opened_or (λ t. true) (below e c.args.room) (λ at. (λ r us. expr_to e CloseRound r.expr us)) (λ us. Ok (expression_of c.nothing.result, us))))
+    (λ e ts. round_is e (below e c.args.room) (λ r us. expr_to e CloseRound r.expr us) (expression_of c.nothing.result) ts)
+    (follows (needed (is_sign OpenRound))
+    (λ e _. opened_or (λ t. true) (below e c.args.room) (λ at. (λ r us. expr_to e CloseRound r.expr us)) (λ us. Ok (expression_of c.nothing.result, us))) c.needs.ensures
+    (passes_rule (λ t. true) (λ e at. (λ r us. expr_to e CloseRound r.expr us)) (λ e us. Ok (expression_of c.nothing.result, us)) c.in_default.is
+    c.open.ensures.opens stay))
 
-pub operand::posts-returns-in_err-i : goal.operand::posts-returns-in_err-i
-operand::posts-returns-in_err-i t c =
-    let here = index_here c.args.end c.args.room c.in_ok-inner.inner c.in_ok-inner.ensures.some
-    c.in_ok-inner.ensures.less c.token-item.result c.args.ts.now c.in-len1-up.len_at_least c.token-item.is
-    (expression_of c.args.value) (sym c.is_sign.ensures ∙ c.if-is_sign.true) in
-    let p = err_from_is_err_and c.from_residual-in_err-i.result c.from_residual-in_err-i.ensures.1 in
-    rw (p.1, p.2) (λ some. rw (here, c.in_err-i.ensures some))
+pub expression::round_expression-returns : goal.expression::round_expression-returns
+expression::round_expression-returns t c =
+    same_rule (λ e ts. in_round_of e (below e c.args.room) (λ r us. expr_to e CloseRound r.expr us) ts)
+    (λ e ts. then_read (needed (is_sign OpenRound) e ts)
+    (λ _. opened_or (λ t. true) (below e c.args.room) (λ at. (λ r us. expr_to e CloseRound r.expr us)) (λ us. Ok (expression_of c.closed.result, us))))
+    (λ e ts. round_is e (below e c.args.room) (λ r us. expr_to e CloseRound r.expr us) (expression_of c.closed.result) ts)
+    (follows (needed (is_sign OpenRound))
+    (λ e _. opened_or (λ t. true) (below e c.args.room) (λ at. (λ r us. expr_to e CloseRound r.expr us)) (λ us. Ok (expression_of c.closed.result, us))) c.needs.ensures
+    (opens_rule (λ t. true) (λ e at. (λ r us. expr_to e CloseRound r.expr us)) (λ e us. Ok (expression_of c.closed.result, us)) c.in-Some.is
+    c.open.ensures.opens c.closed.ensures))
 
-pub operand::posts-returns-then-is_sign : goal.operand::posts-returns-then-is_sign
-operand::posts-returns-then-is_sign t c =
-    let here = index_here c.args.end c.args.room c.in_ok-inner.inner c.in_ok-inner.ensures.some
-    c.in_ok-inner.ensures.less c.token-item.result c.args.ts.now c.in-len1-up.len_at_least c.token-item.is
-    (expression_of c.args.value) (sym c.is_sign.ensures ∙ c.if-is_sign.true) in
-    rw (here, c.in_ok-i.ensures, ← c.in_ok-value.ensures.ok, ← c.in_ok-whole.ensures) c.posts.ensures
+pub argument::round_arguments-returns-in_default : goal.argument::round_arguments-returns-in_default
+argument::round_arguments-returns-in_default t c =
+    same_rule (λ e ts. in_round_of e (below e c.args.room) (λ r us. r.args_closed us) ts)
+    (λ e ts. then_read (needed (is_sign OpenRound) e ts)
+    (λ _. opened_or (λ t. true) (below e c.args.room) (λ at. (λ r us. r.args_closed us)) (λ us. Ok (arguments_seen c.new.result, us))))
+    (λ e ts. round_is e (below e c.args.room) (λ r us. r.args_closed us) (arguments_seen c.new.result) ts)
+    (follows (needed (is_sign OpenRound))
+    (λ e _. opened_or (λ t. true) (below e c.args.room) (λ at. (λ r us. r.args_closed us)) (λ us. Ok (arguments_seen c.new.result, us))) c.needs.ensures
+    (passes_rule (λ t. true) (λ e at. (λ r us. r.args_closed us)) (λ e us. Ok (arguments_seen c.new.result, us)) c.in_default.is
+    c.open.ensures.opens stay))
 
-pub operand::posts-returns-then-is_sign-2 : goal.operand::posts-returns-then-is_sign-2
-operand::posts-returns-then-is_sign-2 t c =
-    let here = member_here c.args.end c.args.room c.in_ok-inner-2.inner c.in_ok-inner-2.ensures.some
-    c.in_ok-inner-2.ensures.less c.token-item.result c.args.ts.now c.in-len1-up.len_at_least c.token-item.is
-    (expression_of c.args.value) (sym c.is_sign.ensures ∙ c.if-is_sign.false)
-    (sym c.is_sign-2.ensures ∙ c.if-is_sign-2.true) in
-    rw (here, ← c.in_ok-value-2.ensures.ok) c.member.ensures
+pub argument::round_arguments-returns : goal.argument::round_arguments-returns
+argument::round_arguments-returns t c =
+    same_rule (λ e ts. in_round_of e (below e c.args.room) (λ r us. r.args_closed us) ts)
+    (λ e ts. then_read (needed (is_sign OpenRound) e ts)
+    (λ _. opened_or (λ t. true) (below e c.args.room) (λ at. (λ r us. r.args_closed us)) (λ us. Ok (arguments_seen c.closed_arguments.result, us))))
+    (λ e ts. round_is e (below e c.args.room) (λ r us. r.args_closed us) (arguments_seen c.closed_arguments.result) ts)
+    (follows (needed (is_sign OpenRound))
+    (λ e _. opened_or (λ t. true) (below e c.args.room) (λ at. (λ r us. r.args_closed us)) (λ us. Ok (arguments_seen c.closed_arguments.result, us))) c.needs.ensures
+    (opens_rule (λ t. true) (λ e at. (λ r us. r.args_closed us)) (λ e us. Ok (arguments_seen c.closed_arguments.result, us)) c.in-Some.is
+    c.open.ensures.opens c.closed_arguments.ensures))
 
-pub primary::named-returns-in_err-args : goal.primary::named-returns-in_err-args
-primary::named-returns-in_err-args t c =
-    let here = call_here c.args.end c.args.room c.in_ok-inner.inner c.in_ok-inner.ensures.some
-    c.in_ok-inner.ensures.less c.token-item.result c.args.ts.now c.in-len1-up.len_at_least c.token-item.is c.args.at
-    c.args.name (sym c.is_sign.ensures ∙ c.if-not-is_sign.false) in
-    let p = err_from_is_err_and c.from_residual-in_err-args.result c.from_residual-in_err-args.ensures.1 in
-    rw (p.1, p.2) (λ some. rw (here, c.in_err-args.ensures some))
+pub element::round_head-returns-in_default : goal.element::round_head-returns-in_default
+element::round_head-returns-in_default t c =
+    same_rule (λ e ts. in_round_of e (below e c.args.room) (λ r us. r.for_head us) ts)
+    (λ e ts. then_read (needed (is_sign OpenRound) e ts)
+    (λ _. opened_or (λ t. true) (below e c.args.room) (λ at. (λ r us. r.for_head us)) (λ us. Ok (for_all (arguments c.new.result.items), us))))
+    (λ e ts. round_is e (below e c.args.room) (λ r us. r.for_head us) (for_all (arguments c.new.result.items)) ts)
+    (follows (needed (is_sign OpenRound))
+    (λ e _. opened_or (λ t. true) (below e c.args.room) (λ at. (λ r us. r.for_head us)) (λ us. Ok (for_all (arguments c.new.result.items), us))) c.needs.ensures
+    (passes_rule (λ t. true) (λ e at. (λ r us. r.for_head us)) (λ e us. Ok (for_all (arguments c.new.result.items), us)) c.in_default.is
+    c.open.ensures.opens stay))
+
+pub element::round_head-returns : goal.element::round_head-returns
+element::round_head-returns t c =
+    same_rule (λ e ts. in_round_of e (below e c.args.room) (λ r us. r.for_head us) ts)
+    (λ e ts. then_read (needed (is_sign OpenRound) e ts)
+    (λ _. opened_or (λ t. true) (below e c.args.room) (λ at. (λ r us. r.for_head us)) (λ us. Ok (head_of c.for_head.result, us))))
+    (λ e ts. round_is e (below e c.args.room) (λ r us. r.for_head us) (head_of c.for_head.result) ts)
+    (follows (needed (is_sign OpenRound))
+    (λ e _. opened_or (λ t. true) (below e c.args.room) (λ at. (λ r us. r.for_head us)) (λ us. Ok (head_of c.for_head.result, us))) c.needs.ensures
+    (opens_rule (λ t. true) (λ e at. (λ r us. r.for_head us)) (λ e us. Ok (head_of c.for_head.result, us)) c.in-Some.is
+    c.open.ensures.opens c.for_head.ensures))
+
+pub argument::closed_arguments-returns : goal.argument::closed_arguments-returns
+argument::closed_arguments-returns t c =
+    closed_by CloseRound (λ e ts. args_of e (below e c.args.room) (length ts) no_arguments ts) c.arguments-args.ensures
+    c.expect.ensures
+
+pub argument::argument-returns : goal.argument::argument-returns
+argument::argument-returns t c =
+    same_rule (λ e ts. argument_of e (below e c.args.room) ts) (argument_by c.args.room) (argument_is c.args.room)
+    (follows (λ e ts. name_before ts)
+    (λ e name us. then_read (expr_of e (below e c.args.room) us) (λ x vs. Ok ((name, x), vs))) c.argument_name-name.ensures
+    (follows (λ e ts. expr_of e (below e c.args.room) ts) (λ e x vs. Ok ((c.argument_name-name.result, x), vs))
+    c.expression-value.ensures stay))
+
+pub argument::arguments-members-preserved : goal.argument::arguments-members-preserved
+argument::arguments-members-preserved t c =
+    arguments_go c.args.room c.members.args.items c.push.new.all.items c.argument-arg.result c.members.invariant
+    (sym c.lacks_end_of_arguments.ensures ∙ c.members-test.true) c.argument-arg.ensures c.push.ensures
+    c.behind_argument.ensures
+
+pub argument::arguments-members-smaller : goal.argument::arguments-members-smaller
+argument::arguments-members-smaller t c =
+    arguments_fewer c.args.room c.members.args.items c.push.new.all.items c.argument-arg.result c.members.invariant
+    (sym c.lacks_end_of_arguments.ensures ∙ c.members-test.true) c.argument-arg.ensures c.push.ensures
+    c.behind_argument.ensures
+
+pub argument::arguments-returns : goal.argument::arguments-returns
+argument::arguments-returns t c =
+    arguments_end c.args.room c.members.args.items c.shrink_to_fit.new.self.items c.members.invariant
+    (sym c.lacks_end_of_arguments.ensures ∙ c.members-test.false) c.shrink_to_fit.ensures.items
+
+pub operand::operand-returns-then-lines-eq0 : goal.operand::operand-returns-then-lines-eq0
+operand::operand-returns-then-lines-eq0 t c =
+    same_rule (λ e ts. operand_of e (below e c.args.room) c.args.lines ts) (λ e ts. unary_of e (below e c.args.room) ts)
+    (operand_tightest c.args.room c.args.lines c.if-lines-eq0.true) c.unary.ensures
+
+pub operand::operand-returns : goal.operand::operand-returns
+operand::operand-returns t c =
+    same_rule (λ e ts. operand_of e (below e c.args.room) c.args.lines ts) (operand_by c.args.room (c.args.lines - 1))
+    (operand_looser c.args.room c.args.lines (c.args.lines - 1) (one_less c.args.lines c.if-lines-eq0.false))
+    (follows (λ e ts. operand_of e (below e c.args.room) (c.args.lines - 1) ts)
+    (λ e. links_of (below e c.args.room) (c.args.lines - 1)) c.operand-left.ensures c.links.ensures)
+
+pub operand::links-returns-in_default : goal.operand::links-returns-in_default
+operand::links-returns-in_default t c =
+    same_rule_here (λ e ts. links_of (below e c.args.room) c.args.line (expression_of c.args.left) ts)
+    (links_by c.args.room c.args.line (expression_of c.args.left) (operator_at c.args.line (standing c.args.reader.now)))
+    (links_are c.args.room c.args.line (expression_of c.args.left) (standing c.args.reader.now))
+    (passes_rule (λ t. is_some (operator c.args.line t))
+    (λ e. link_by c.args.line (expression_of c.args.left) (operator_at c.args.line (standing c.args.reader.now)))
+    (λ e us. Ok (expression_of c.args.left, us))
+    (ap (option_map (λ link. link.open)) c.in_default.is) c.opens_operator.ensures.opens stay)
+
+pub operand::links-returns : goal.operand::links-returns
+operand::links-returns t c =
+    same_rule_here (λ e ts. links_of (below e c.args.room) c.args.line (expression_of c.args.left) ts)
+    (links_by c.args.room c.args.line (expression_of c.args.left) (operator_at c.args.line (standing c.args.reader.now)))
+    (links_are c.args.room c.args.line (expression_of c.args.left) (standing c.args.reader.now))
+    (opens_rule (λ t. is_some (operator c.args.line t))
+    (λ e. link_by c.args.line (expression_of c.args.left) (operator_at c.args.line (standing c.args.reader.now)))
+    (λ e us. Ok (expression_of c.args.left, us))
+    (ap (option_map (λ link. link.open)) c.in-Some.is) c.opens_operator.ensures.opens
+    (linked c.args.line (expression_of c.args.left) c.in-Some.link.open c.in-Some.ensures.op
+    (follows (λ e ts. operand_of e (below e c.in-Some.link.open.room) c.args.line ts)
+    (λ e b. links_of (below e c.in-Some.link.open.room) c.args.line
+    (binary c.in-Some.link.open.at c.in-Some.link.op (expression_of c.args.left) b)) c.operand-right.ensures
+    (made_then (λ e a. links_of (below e c.in-Some.link.open.room) c.args.line a) c.binary-both.ensures c.links.ensures))))
+
+pub operand::unary-returns-in-Some : goal.operand::unary-returns-in-Some
+operand::unary-returns-in-Some t c =
+    same_rule (λ e ts. unary_of e (below e c.args.room) ts) (unary_by c.args.room) (unary_is c.args.room)
+    (opens_rule (is_sign Bang) (λ e. prefixed_by Not) (λ e. not_bang e c.args.room) c.in-Some.is c.opens.ensures.opens c.prefixed.ensures)
+
+pub operand::unary-returns-in-Some-opens : goal.operand::unary-returns-in-Some-opens
+operand::unary-returns-in-Some-opens t c =
+    same_rule (λ e ts. unary_of e (below e c.args.room) ts) (unary_by c.args.room) (unary_is c.args.room)
+    (passes_rule (is_sign Bang) (λ e. prefixed_by Not) (λ e. not_bang e c.args.room) c.in_default.is c.opens.ensures.opens
+    (opens_rule (is_sign Plus) (λ e. prefixed_by UnaryPlus) (λ e. not_plus e c.args.room) c.in-Some-opens.is c.opens-2.ensures.opens
+    c.prefixed-in-Some-opens.ensures))
+
+pub operand::unary-returns-in-Some-opens-2 : goal.operand::unary-returns-in-Some-opens-2
+operand::unary-returns-in-Some-opens-2 t c =
+    same_rule (λ e ts. unary_of e (below e c.args.room) ts) (unary_by c.args.room) (unary_is c.args.room)
+    (passes_rule (is_sign Bang) (λ e. prefixed_by Not) (λ e. not_bang e c.args.room) c.in_default.is c.opens.ensures.opens
+    (passes_rule (is_sign Plus) (λ e. prefixed_by UnaryPlus) (λ e. not_plus e c.args.room) c.in_default-opens.is c.opens-2.ensures.opens
+    (opens_rule (is_sign Minus) (λ e. prefixed_by UnaryMinus) (λ e. unprefixed e c.args.room) c.in-Some-opens-2.is c.opens-3.ensures.opens
+    c.prefixed-in-Some-opens-2.ensures)))
+
+pub operand::unary-returns : goal.operand::unary-returns
+operand::unary-returns t c =
+    same_rule (λ e ts. unary_of e (below e c.args.room) ts) (unary_by c.args.room) (unary_is c.args.room)
+    (passes_rule (is_sign Bang) (λ e. prefixed_by Not) (λ e. not_bang e c.args.room) c.in_default.is c.opens.ensures.opens
+    (passes_rule (is_sign Plus) (λ e. prefixed_by UnaryPlus) (λ e. not_plus e c.args.room) c.in_default-opens.is c.opens-2.ensures.opens
+    (passes_rule (is_sign Minus) (λ e. prefixed_by UnaryMinus) (λ e. unprefixed e c.args.room) c.in_default-opens-2.is c.opens-3.ensures.opens
+    (follows (λ e ts. prim_at e (below e c.args.room) ts) (λ e. posts_of e (below e c.args.room)) c.primary-value.ensures
+    c.posts.ensures))))
+
+pub operand::prefixed-returns : goal.operand::prefixed-returns
+operand::prefixed-returns t c =
+    follows (λ e ts. (rules_at e c.args.open.room).unary_rule ts) (λ e x us. Ok (unary c.args.open.at c.args.op x, us))
+    c.unary-operand.ensures c.unary.ensures
+
+pub operand::posts-returns-in-Some : goal.operand::posts-returns-in-Some
+operand::posts-returns-in-Some t c =
+    same_rule (λ e ts. posts_of e (below e c.args.room) (expression_of c.args.value) ts)
+    (posts_by c.args.room (expression_of c.args.value)) (posts_is c.args.room (expression_of c.args.value))
+    (opens_rule (is_sign OpenSquare) (index_by (expression_of c.args.value))
+    (not_square c.args.room (expression_of c.args.value)) c.in-Some.is
+    c.opens.ensures.opens
+    (follows (λ e ts. (rules_at e c.in-Some.open.room).indexed c.in-Some.open.at ts)
+    (λ e i. posts_of e (below e c.in-Some.open.room) (index c.in-Some.open.at (expression_of c.args.value) i))
+    c.indexed-i.ensures
+    (made_then (λ e a. posts_of e (below e c.in-Some.open.room) a) c.index-whole.ensures c.posts.ensures)))
+
+pub operand::posts-returns-in-Some-opens : goal.operand::posts-returns-in-Some-opens
+operand::posts-returns-in-Some-opens t c =
+    same_rule (λ e ts. posts_of e (below e c.args.room) (expression_of c.args.value) ts)
+    (posts_by c.args.room (expression_of c.args.value)) (posts_is c.args.room (expression_of c.args.value))
+    (passes_rule (is_sign OpenSquare) (index_by (expression_of c.args.value))
+    (not_square c.args.room (expression_of c.args.value)) c.in_default.is c.opens.ensures.opens
+    (opens_rule (is_sign Dot) (member_by_word (expression_of c.args.value)) (not_dot (expression_of c.args.value)) c.in-Some-opens.is
+    c.opens-2.ensures.opens
+    (follows word_here
+    (λ e w. posts_of e (below e c.in-Some-opens.open.room) (member c.in-Some-opens.open.at (expression_of c.args.value) w.1))
+    c.word-word.ensures
+    (made_then (λ e a. posts_of e (below e c.in-Some-opens.open.room) a) c.member-whole.ensures
+    c.posts-in-Some-opens.ensures))))
+
+pub operand::posts-returns : goal.operand::posts-returns
+operand::posts-returns t c =
+    same_rule (λ e ts. posts_of e (below e c.args.room) (expression_of c.args.value) ts)
+    (posts_by c.args.room (expression_of c.args.value)) (posts_is c.args.room (expression_of c.args.value))
+    (passes_rule (is_sign OpenSquare) (index_by (expression_of c.args.value))
+    (not_square c.args.room (expression_of c.args.value)) c.in_default.is c.opens.ensures.opens
+    (passes_rule (is_sign Dot) (member_by_word (expression_of c.args.value)) (not_dot (expression_of c.args.value)) c.in_default-opens.is
+    c.opens-2.ensures.opens
+    (follows (λ e ts. left_out (is_sign Caret) Power ts) (λ e _ vs. Ok (expression_of c.args.value, vs))
+    c.leaves_out_sign.ensures stay)))
+
+pub operand::indexed-returns-in_default : goal.operand::indexed-returns-in_default
+operand::indexed-returns-in_default t c =
+    no_room below rules_at no_rules more_rules (λ e r ts. expr_to e CloseSquare r.expr ts) c.in_default.is c.deeper.ensures.within
+
+pub operand::indexed-returns : goal.operand::indexed-returns
+operand::indexed-returns t c =
+    goes_in below rules_at no_rules more_rules (λ e r ts. expr_to e CloseSquare r.expr ts) c.in-Some.is c.deeper.ensures.within
+    c.closed.ensures
+
+pub primary::primary-returns-in-Some : goal.primary::primary-returns-in-Some
+primary::primary-returns-in-Some t c =
+    same_rule (λ e ts. prim_at e (below e c.args.room) ts) (primary_by c.args.room) (primary_is c.args.room)
+    (opens_rule (is_sign OpenRound) (λ e at r. expr_to e CloseRound r.expr) (λ e. not_round e c.args.room) c.in-Some.is c.opens.ensures.opens
+    c.closed.ensures)
+
+pub primary::primary-returns-in-Some-opens : goal.primary::primary-returns-in-Some-opens
+primary::primary-returns-in-Some-opens t c =
+    same_rule (λ e ts. prim_at e (below e c.args.room) ts) (primary_by c.args.room) (primary_is c.args.room)
+    (passes_rule (is_sign OpenRound) (λ e at r. expr_to e CloseRound r.expr) (λ e. not_round e c.args.room) c.in_default.is c.opens.ensures.opens
+    (opens_rule (is_sign OpenSquare) (λ e at r. r.brackets at) (λ e. not_bracket e c.args.room) c.in-Some-opens.is c.opens-2.ensures.opens
+    c.brackets.ensures))
+
+pub primary::primary-returns-in-Some-literal : goal.primary::primary-returns-in-Some-literal
+primary::primary-returns-in-Some-literal t c =
+    same_rule (λ e ts. prim_at e (below e c.args.room) ts) (primary_by c.args.room) (primary_is c.args.room)
+    (passes_rule (is_sign OpenRound) (λ e at r. expr_to e CloseRound r.expr) (λ e. not_round e c.args.room) c.in_default.is c.opens.ensures.opens
+    (passes_rule (is_sign OpenSquare) (λ e at r. r.brackets at) (λ e. not_bracket e c.args.room) c.in_default-opens.is c.opens-2.ensures.opens
+    (taking (λ e ts. literal_here ts) (λ e. by_literal e c.args.room) (ap (option_map expression_of) c.in-Some-literal.is) c.literal.ensures stay)))
+
+pub primary::primary-returns : goal.primary::primary-returns
+primary::primary-returns t c =
+    same_rule (λ e ts. prim_at e (below e c.args.room) ts) (primary_by c.args.room) (primary_is c.args.room)
+    (passes_rule (is_sign OpenRound) (λ e at r. expr_to e CloseRound r.expr) (λ e. not_round e c.args.room) c.in_default.is c.opens.ensures.opens
+    (passes_rule (is_sign OpenSquare) (λ e at r. r.brackets at) (λ e. not_bracket e c.args.room) c.in_default-opens.is c.opens-2.ensures.opens
+    (taking (λ e ts. literal_here ts) (λ e. by_literal e c.args.room) (ap (option_map expression_of) c.in_default-literal.is) c.literal.ensures
+    c.named.ensures)))
+
+pub primary::named-returns-in_default : goal.primary::named-returns-in_default
+primary::named-returns-in_default t c =
+    same_rule (λ e ts. name_at e (below e c.args.room) ts) (named_by c.args.room) (named_is c.args.room)
+    (follows word_here (λ e. behind_name e c.args.room) c.word-word.ensures
+    (passes_rule (is_sign OpenRound) (λ e. call_by (c.word-word.result.at, c.word-word.result.name))
+    (λ e us. Ok (name c.word-word.result.at c.word-word.result.name, us)) c.in_default.is c.opens.ensures.opens
+    (made_as c.name.ensures)))
 
 pub primary::named-returns : goal.primary::named-returns
 primary::named-returns t c =
-    let here = call_here c.args.end c.args.room c.in_ok-inner.inner c.in_ok-inner.ensures.some
-    c.in_ok-inner.ensures.less c.token-item.result c.args.ts.now c.in-len1-up.len_at_least c.token-item.is c.args.at
-    c.args.name (sym c.is_sign.ensures ∙ c.if-not-is_sign.false) in
-    rw (here, c.in_ok-args.ensures, c.call.ensures)
+    same_rule (λ e ts. name_at e (below e c.args.room) ts) (named_by c.args.room) (named_is c.args.room)
+    (follows word_here (λ e. behind_name e c.args.room) c.word-word.ensures
+    (opens_rule (is_sign OpenRound) (λ e. call_by (c.word-word.result.at, c.word-word.result.name))
+    (λ e us. Ok (name c.word-word.result.at c.word-word.result.name, us)) c.in-Some.is c.opens.ensures.opens
+    (follows (λ e ts. (rules_at e c.in-Some.open.room).args_closed ts)
+    (λ e all us. Ok (call c.word-word.result.at c.word-word.result.name all, us)) c.closed_arguments-args.ensures
+    (made_as c.call.ensures))))
 
 pub vector::brackets-members-preserved : goal.vector::brackets-members-preserved
 vector::brackets-members-preserved t c =
-    subst (λ (all : Elements). Goes (elements_at c.args.end c.args.room c.args.at)
-    (elements_at c.args.end c.args.room c.args.at (length c.args.ts.now) no_elements c.args.ts.now) all
-    c.in_ok-rest.rest.now) (sym
-    (ap elements c.in_ok-push.ensures.items ∙ elements_push c.members.all.items c.in_ok-elem.elem)) (elements_go
-    c.args.end c.args.room c.args.at _ (elements c.members.all.items) c.members.left.now
-    (sym c.begins_with.ensures ∙ c.members-test.true) c.members.invariant c.in_ok-elem.rest.now c.in_ok-rest.rest.now
-    (element_of c.in_ok-elem.elem) c.in_ok-elem.ensures
-    (sym c.begins_with-in-members.ensures ∙ c.if-begins_with.false) c.in_ok-rest.ensures)
+    elements_go_on c.args.open.room c.args.open.at c.members.all.items c.push.new.all.items c.element-elem.result
+    c.members.invariant (sym c.lacks.ensures ∙ c.members-test.true) c.element-elem.ensures
+    (sym c.begins_with.ensures ∙ c.if-begins_with.false) c.push.ensures c.behind_member.ensures
 
 pub vector::brackets-members-smaller : goal.vector::brackets-members-smaller
 vector::brackets-members-smaller t c =
-    elements_fewer c.args.end c.args.room c.members.left.now c.in_ok-elem.rest.now c.in_ok-rest.rest.now
-    (element_of c.in_ok-elem.elem) c.in_ok-elem.ensures c.in_ok-rest.ensures
-
-pub vector::brackets-returns-in_err-elem : goal.vector::brackets-returns-in_err-elem
-vector::brackets-returns-in_err-elem t c =
-    let p = err_from_is_err_and c.from_residual.result c.from_residual.ensures.1 in
-    rw (p.1, p.2) (λ some. elements_stop c.args.end c.args.room c.args.at _ (elements c.members.all.items)
-    c.members.left.now (sym c.begins_with.ensures ∙ c.members-test.true) c.members.invariant
-    (refusal c.in_err-elem.field-0.0) (c.in_err-elem.ensures some))
+    elements_fewer_come c.args.open.room c.args.open.at c.members.all.items c.push.new.all.items c.element-elem.result
+    c.members.invariant (sym c.lacks.ensures ∙ c.members-test.true) c.element-elem.ensures
+    (sym c.begins_with.ensures ∙ c.if-begins_with.false) c.push.ensures c.behind_member.ensures
 
 pub vector::brackets-returns-then-begins_with : goal.vector::brackets-returns-then-begins_with
 vector::brackets-returns-then-begins_with t c =
-    rw (
-      elements_range c.args.end c.args.room c.args.at _ (elements c.members.all.items) c.members.left.now
-          (sym c.begins_with.ensures ∙ c.members-test.true) c.members.invariant c.in_ok-elem.rest.now
-          (element_of c.in_ok-elem.elem) c.in_ok-elem.ensures
-          (sym c.begins_with-in-members.ensures ∙ c.if-begins_with.true),
-      ← c.range_start.ensures,
-    ) c.range.ensures
-
-pub vector::brackets-returns-in_err-rest : goal.vector::brackets-returns-in_err-rest
-vector::brackets-returns-in_err-rest t c =
-    let p = err_from_is_err_and c.from_residual-in_err-rest.result c.from_residual-in_err-rest.ensures.1 in
-    rw (p.1, p.2) (λ some. elements_stop_behind c.args.end c.args.room c.args.at _ (elements c.members.all.items)
-    c.members.left.now (sym c.begins_with.ensures ∙ c.members-test.true) c.members.invariant c.in_ok-elem.rest.now
-    (element_of c.in_ok-elem.elem) (refusal c.in_err-rest.field-0.0) c.in_ok-elem.ensures
-    (sym c.begins_with-in-members.ensures ∙ c.if-begins_with.false) (c.in_err-rest.ensures some))
+    elements_ranged c.args.open.room c.args.open.at c.members.all.items c.element-elem.result c.members.invariant
+    (sym c.lacks.ensures ∙ c.members-test.true) c.element-elem.ensures
+    (sym c.begins_with.ensures ∙ c.if-begins_with.true) c.range.ensures
 
 pub vector::brackets-returns : goal.vector::brackets-returns
 vector::brackets-returns t c =
-    rw (c.vector.ensures, c.behind.ensures, c.shrink_to_fit.ensures.items) (elements_end c.args.end c.args.room c.args.at _
-    (elements c.members.all.items) c.members.left.now (sym c.begins_with.ensures ∙ c.members-test.false)
-    c.members.invariant)
+    elements_ended c.args.open.room c.args.open.at c.members.all.items c.shrink_to_fit.new.self.items c.vector.ensures
+    c.members.invariant (sym c.lacks.ensures ∙ c.members-test.false) c.pass.ensures.end c.pass.ensures.now
+    c.shrink_to_fit.ensures.items
+
+pub vector::range-returns-in_default : goal.vector::range-returns-in_default
+vector::range-returns-in_default t c =
+    range_refused c.args.open.room c.args.open.at (elements c.args.all.now.items) (element_of c.args.first)
+    (sym c.range_start.ensures ∙ ap (option_map expression_of) c.in_default.is) c.refuse.ensures
+
+pub vector::range-returns : goal.vector::range-returns
+vector::range-returns t c =
+    range_reads c.args.open.room c.args.open.at (elements c.args.all.now.items) (element_of c.args.first)
+    (sym c.range_start.ensures ∙ ap (option_map expression_of) c.in-Some.is) c.pass.ensures.end c.pass.ensures.now
+    c.expression-second.ensures c.ranged.ensures
+
+pub vector::ranged-returns-then-takes : goal.vector::ranged-returns-then-takes
+vector::ranged-returns-then-takes t c =
+    same_rule (λ e ts. range_end e (below e c.args.open.room) c.args.open.at (expression_of c.args.start)
+    (expression_of c.args.second) ts)
+    (ranged_by c.args.open.room c.args.open.at (expression_of c.args.start) (expression_of c.args.second))
+    (ranged_is c.args.open.room c.args.open.at (expression_of c.args.start) (expression_of c.args.second))
+    (taking (λ e ts. took (is_sign Colon) ts)
+    (λ e. by_taken (stepping c.args.open.room c.args.open.at (expression_of c.args.start) (expression_of c.args.second) e)
+    (ended c.args.open.at (expression_of c.args.start) (expression_of c.args.second) e))
+    c.if-takes.true c.takes.ensures
+    (follows (λ e ts. expr_to e CloseSquare (expr_of e (below e c.args.open.room)) ts)
+    (λ e x vs. Ok (stepped c.args.open.at (expression_of c.args.start) (expression_of c.args.second) x, vs))
+    c.closed-last.ensures c.stepped.ensures))
+
+pub vector::ranged-returns : goal.vector::ranged-returns
+vector::ranged-returns t c =
+    same_rule (λ e ts. range_end e (below e c.args.open.room) c.args.open.at (expression_of c.args.start)
+    (expression_of c.args.second) ts)
+    (ranged_by c.args.open.room c.args.open.at (expression_of c.args.start) (expression_of c.args.second))
+    (ranged_is c.args.open.room c.args.open.at (expression_of c.args.start) (expression_of c.args.second))
+    (taking (λ e ts. took (is_sign Colon) ts)
+    (λ e. by_taken (stepping c.args.open.room c.args.open.at (expression_of c.args.start) (expression_of c.args.second) e)
+    (ended c.args.open.at (expression_of c.args.start) (expression_of c.args.second) e))
+    c.if-takes.false c.takes.ensures
+    (expected CloseSquare
+    (λ e vs. Ok (range c.args.open.at (expression_of c.args.start) (expression_of c.args.second), vs)) c.expect.ensures
+    c.range.ensures))
+
+pub element::element-returns-in-Some : goal.element::element-returns-in-Some
+element::element-returns-in-Some t c =
+    same_rule (λ e ts. elem_of e (below e c.args.room) ts) (element_by c.args.room) (element_is c.args.room)
+    (opens_rule (is_key For) (λ e at r. r.for_behind at) (λ e. not_for e c.args.room) c.in-Some.is c.opens_key.ensures.opens
+    c.for_element.ensures)
+
+pub element::element-returns-in-Some-opens_key : goal.element::element-returns-in-Some-opens_key
+element::element-returns-in-Some-opens_key t c =
+    same_rule (λ e ts. elem_of e (below e c.args.room) ts) (element_by c.args.room) (element_is c.args.room)
+    (passes_rule (is_key For) (λ e at r. r.for_behind at) (λ e. not_for e c.args.room) c.in_default.is c.opens_key.ensures.opens
+    (opens_rule (is_key Each) (λ e. each_by) (λ e. not_each e c.args.room) c.in-Some-opens_key.is c.opens_key-2.ensures.opens
+    (follows (λ e ts. (rules_at e c.in-Some-opens_key.open.room).elem ts)
+    (λ e el us. Ok (each c.in-Some-opens_key.open.at el, us)) c.element-elem.ensures c.each.ensures)))
+
+pub element::element-returns-in-Some-opens_key-2 : goal.element::element-returns-in-Some-opens_key-2
+element::element-returns-in-Some-opens_key-2 t c =
+    same_rule (λ e ts. elem_of e (below e c.args.room) ts) (element_by c.args.room) (element_is c.args.room)
+    (passes_rule (is_key For) (λ e at r. r.for_behind at) (λ e. not_for e c.args.room) c.in_default.is c.opens_key.ensures.opens
+    (passes_rule (is_key Each) (λ e. each_by) (λ e. not_each e c.args.room) c.in_default-opens_key.is c.opens_key-2.ensures.opens
+    (opens_rule (is_key If) (λ e. if_by) (λ e. not_if e c.args.room) c.in-Some-opens_key-2.is c.opens_key-3.ensures.opens
+    (follows (λ e ts. (rules_at e c.in-Some-opens_key-2.open.room).round_expr ts)
+    (λ e x us. then_read ((rules_at e c.in-Some-opens_key-2.open.room).elem us)
+    ((rules_at e c.in-Some-opens_key-2.open.room).else_end c.in-Some-opens_key-2.open.at x))
+    c.round_expression-test.ensures
+    (follows (λ e ts. (rules_at e c.in-Some-opens_key-2.open.room).elem ts)
+    (λ e. (rules_at e c.in-Some-opens_key-2.open.room).else_end c.in-Some-opens_key-2.open.at
+    (expression_of c.round_expression-test.result)) c.element-held.ensures c.otherwise.ensures)))))
+
+pub element::element-returns-in-Some-opens_key-3 : goal.element::element-returns-in-Some-opens_key-3
+element::element-returns-in-Some-opens_key-3 t c =
+    same_rule (λ e ts. elem_of e (below e c.args.room) ts) (element_by c.args.room) (element_is c.args.room)
+    (passes_rule (is_key For) (λ e at r. r.for_behind at) (λ e. not_for e c.args.room) c.in_default.is c.opens_key.ensures.opens
+    (passes_rule (is_key Each) (λ e. each_by) (λ e. not_each e c.args.room) c.in_default-opens_key.is c.opens_key-2.ensures.opens
+    (passes_rule (is_key If) (λ e. if_by) (λ e. not_if e c.args.room) c.in_default-opens_key-2.is c.opens_key-3.ensures.opens
+    (opens_rule (is_key Let) (λ e. let_by) (λ e. plain e c.args.room) c.in-Some-opens_key-3.is c.opens_key-4.ensures.opens
+    (follows (λ e ts. (rules_at e c.in-Some-opens_key-3.open.room).round_args ts)
+    (λ e all us. then_read ((rules_at e c.in-Some-opens_key-3.open.room).elem us)
+    (λ el vs. Ok (let_of c.in-Some-opens_key-3.open.at all el, vs))) c.round_arguments-args.ensures
+    (follows (λ e ts. (rules_at e c.in-Some-opens_key-3.open.room).elem ts)
+    (λ e el vs. Ok (let_of c.in-Some-opens_key-3.open.at (arguments_seen c.round_arguments-args.result) el, vs))
+    c.element-body.ensures c.let_element.ensures))))))
+
+pub element::element-returns : goal.element::element-returns
+element::element-returns t c =
+    same_rule (λ e ts. elem_of e (below e c.args.room) ts) (element_by c.args.room) (element_is c.args.room)
+    (passes_rule (is_key For) (λ e at r. r.for_behind at) (λ e. not_for e c.args.room) c.in_default.is c.opens_key.ensures.opens
+    (passes_rule (is_key Each) (λ e. each_by) (λ e. not_each e c.args.room) c.in_default-opens_key.is c.opens_key-2.ensures.opens
+    (passes_rule (is_key If) (λ e. if_by) (λ e. not_if e c.args.room) c.in_default-opens_key-2.is c.opens_key-3.ensures.opens
+    (passes_rule (is_key Let) (λ e. let_by) (λ e. plain e c.args.room) c.in_default-opens_key-3.is c.opens_key-4.ensures.opens
+    (follows (λ e ts. expr_of e (below e c.args.room) ts) (λ e x us. Ok (item x, us)) c.expression.ensures stay)))))
+
+pub element::otherwise-returns-in_default : goal.element::otherwise-returns-in_default
+element::otherwise-returns-in_default t c =
+    same_rule (λ e ts. else_of (below e c.args.whole.room) c.args.whole.at (expression_of c.args.test)
+    (element_of c.args.held) ts)
+    (else_by c.args.whole.room c.args.whole.at (expression_of c.args.test) (element_of c.args.held))
+    (else_is c.args.whole.room c.args.whole.at (expression_of c.args.test) (element_of c.args.held))
+    (passes_rule (is_key Else)
+    (λ e. other_by c.args.whole.at (expression_of c.args.test) (element_of c.args.held))
+    (λ e us. Ok (if_element c.args.whole.at (expression_of c.args.test) (element_of c.args.held), us))
+    c.in_default.is c.opens_key.ensures.opens c.if_element.ensures)
+
+pub element::otherwise-returns : goal.element::otherwise-returns
+element::otherwise-returns t c =
+    same_rule (λ e ts. else_of (below e c.args.whole.room) c.args.whole.at (expression_of c.args.test)
+    (element_of c.args.held) ts)
+    (else_by c.args.whole.room c.args.whole.at (expression_of c.args.test) (element_of c.args.held))
+    (else_is c.args.whole.room c.args.whole.at (expression_of c.args.test) (element_of c.args.held))
+    (opens_rule (is_key Else)
+    (λ e. other_by c.args.whole.at (expression_of c.args.test) (element_of c.args.held))
+    (λ e us. Ok (if_element c.args.whole.at (expression_of c.args.test) (element_of c.args.held), us))
+    c.in-Some.is c.opens_key.ensures.opens
+    (follows (λ e ts. (rules_at e c.in-Some.open.room).elem ts)
+    (λ e other us. Ok (if_else c.args.whole.at (expression_of c.args.test) (element_of c.args.held) other, us))
+    c.element-other.ensures c.if_else.ensures))
+
+pub element::for_element-returns : goal.element::for_element-returns
+element::for_element-returns t c =
+    follows (λ e ts. round_head_of e (below e c.args.open.room) ts)
+    (λ e head us. then_read (elem_of e (below e c.args.open.room) us)
+    (λ el vs. Ok (grammar_headed c.args.open.at head el, vs))) c.round_head-head.ensures
+    (follows (λ e ts. elem_of e (below e c.args.open.room) ts)
+    (λ e el vs. Ok (grammar_headed c.args.open.at (head_of c.round_head-head.result) el, vs)) c.element-elem.ensures
+    c.headed.ensures)
+
+pub element::for_head-returns-then-takes : goal.element::for_head-returns-then-takes
+element::for_head-returns-then-takes t c =
+    follows (λ e ts. args_of e (below e c.args.room) (length ts) no_arguments ts) (λ e. head_end e (below e c.args.room))
+    c.arguments-init.ensures
+    (same_rule (λ e ts. head_end e (below e c.args.room) (arguments_seen c.arguments-init.result) ts)
+    (λ e ts. head_by c.args.room e (arguments_seen c.arguments-init.result) ts)
+    (λ e ts. head_is c.args.room e (arguments_seen c.arguments-init.result) ts)
+    (taking (λ e ts. took (is_sign CloseRound) ts)
+    (λ e. by_taken (λ vs. Ok (for_all (arguments_seen c.arguments-init.result), vs))
+    (in_parts c.args.room (arguments_seen c.arguments-init.result) e))
+    c.if-takes.true c.takes.ensures stay))
+
+pub element::for_head-returns : goal.element::for_head-returns
+element::for_head-returns t c =
+    follows (λ e ts. args_of e (below e c.args.room) (length ts) no_arguments ts) (λ e. head_end e (below e c.args.room))
+    c.arguments-init.ensures
+    (same_rule (λ e ts. head_end e (below e c.args.room) (arguments_seen c.arguments-init.result) ts)
+    (λ e ts. head_by c.args.room e (arguments_seen c.arguments-init.result) ts)
+    (λ e ts. head_is c.args.room e (arguments_seen c.arguments-init.result) ts)
+    (taking (λ e ts. took (is_sign CloseRound) ts)
+    (λ e. by_taken (λ vs. Ok (for_all (arguments_seen c.arguments-init.result), vs))
+    (in_parts c.args.room (arguments_seen c.arguments-init.result) e))
+    c.if-takes.false c.takes.ensures
+    (expected Semicolon (steps_by c.args.room (arguments_seen c.arguments-init.result)) c.expect.ensures
+    (follows (λ e ts. expr_to e Semicolon (expr_of e (below e c.args.room)) ts)
+    (λ e x us. then_read (args_closed_of e (below e c.args.room) us)
+    (λ last vs. Ok (for_steps (arguments_seen c.arguments-init.result) x last, vs))) c.closed-test.ensures
+    (follows (λ e ts. args_closed_of e (below e c.args.room) ts)
+    (λ e last vs. Ok (for_steps (arguments_seen c.arguments-init.result) (expression_of c.closed-test.result) last, vs))
+    c.closed_arguments-step.ensures stay)))))

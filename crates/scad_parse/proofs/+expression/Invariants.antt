@@ -1,10 +1,8 @@
-use Rattle.std.proofs.Common.{◌+◌, ◌*◌, length}
-use Rattle.scad_ast.specs.Tree.{no_arguments, no_elements}
-use Rattle.scad_ast.specs.View.{arguments, elements}
-use Rattle.scad_grammar.specs.Rules.{args_of}
-use Rattle.scad_parse.specs.Reading.{below}
-use Rattle.scad_parse.proofs.loops.Elements.{elements_at}
-use Rattle.scad_parse.proofs.loops.Turns.{Goes}
+use Rattle.std.proofs.Common.{◌+◌, ◌*◌}
+use Rattle.scad_parse.specs.Standing.{standing}
+use Rattle.scad_parse.proofs.loops.Arguments.{ArgumentsGo}
+use Rattle.scad_parse.proofs.loops.Elements.{ElementsGo}
+use Rattle.scad_parse.proofs.loops.Turns.{to_come}
 use Rattle.scad_parse.proofs.+expression.Given as goal
 
 abbrev pub decreases-argument::argument : goal.decreases-argument::argument
@@ -23,16 +21,19 @@ abbrev pub decreases-element::element : goal.decreases-element::element
 decreases-element::element l = 512 * l.room + 302
 
 abbrev pub decreases-element::for_element : goal.decreases-element::for_element
-decreases-element::for_element l = 512 * l.room + 303
+decreases-element::for_element l = 512 * l.open.room + 303
 
 abbrev pub decreases-element::for_head : goal.decreases-element::for_head
 decreases-element::for_head l = 512 * l.room + 305
 
 abbrev pub decreases-element::otherwise : goal.decreases-element::otherwise
-decreases-element::otherwise l = 512 * l.room + 0
+decreases-element::otherwise l = 512 * l.whole.room + 0
+
+abbrev pub decreases-element::round_head : goal.decreases-element::round_head
+decreases-element::round_head l = 512 * l.room + 0
 
 abbrev pub decreases-expression::bound : goal.decreases-expression::bound
-decreases-expression::bound l = 512 * l.room + 0
+decreases-expression::bound l = 512 * l.open.room + 301
 
 abbrev pub decreases-expression::choice : goal.decreases-expression::choice
 decreases-expression::choice l = 512 * l.room + 0
@@ -47,22 +48,16 @@ abbrev pub decreases-expression::round_expression : goal.decreases-expression::r
 decreases-expression::round_expression l = 512 * l.room + 0
 
 abbrev pub decreases-operand::indexed : goal.decreases-operand::indexed
-decreases-operand::indexed l = 512 * l.room + 0
+decreases-operand::indexed l = 512 * l.open.room + 0
 
 abbrev pub decreases-operand::links : goal.decreases-operand::links
 decreases-operand::links l = 512 * l.room + 0
-
-abbrev pub decreases-operand::member : goal.decreases-operand::member
-decreases-operand::member l = 512 * l.room + 1
-
-abbrev pub decreases-operand::operand : goal.decreases-operand::operand
-decreases-operand::operand l = 512 * l.room + (3 + l.lines)
 
 abbrev pub decreases-operand::posts : goal.decreases-operand::posts
 decreases-operand::posts l = 512 * l.room + 0
 
 abbrev pub decreases-operand::prefixed : goal.decreases-operand::prefixed
-decreases-operand::prefixed l = 512 * l.room + 0
+decreases-operand::prefixed l = 512 * l.open.room + 3
 
 abbrev pub decreases-operand::unary : goal.decreases-operand::unary
 decreases-operand::unary l = 512 * l.room + 2
@@ -74,26 +69,25 @@ abbrev pub decreases-primary::primary : goal.decreases-primary::primary
 decreases-primary::primary l = 512 * l.room + 1
 
 abbrev pub decreases-vector::brackets : goal.decreases-vector::brackets
-decreases-vector::brackets l = 512 * l.room + 305
+decreases-vector::brackets l = 512 * l.open.room + 305
 
 abbrev pub decreases-vector::range : goal.decreases-vector::range
-decreases-vector::range l = 512 * l.room + 303
+decreases-vector::range l = 512 * l.open.room + 303
 
 abbrev pub decreases-vector::ranged : goal.decreases-vector::ranged
-decreases-vector::ranged l = 512 * l.room + 302
+decreases-vector::ranged l = 512 * l.open.room + 302
 
-abbrev pub invariant-argument::arguments-members : goal.invariant-argument::arguments-members
-invariant-argument::arguments-members l =
-    Goes (args_of l.end (below l.end l.room)) (args_of l.end (below l.end l.room) (length l.fn.ts) no_arguments l.fn.ts)
-    (arguments l.args.items) l.left
+abbrev pub decreases-operand::operand : goal.decreases-operand::operand
+decreases-operand::operand l = 512 * l.room + (3 + l.lines)
 
 abbrev pub decreases-argument::arguments-members : goal.decreases-argument::arguments-members
-decreases-argument::arguments-members l = length l.left
-
-abbrev pub invariant-vector::brackets-members : goal.invariant-vector::brackets-members
-invariant-vector::brackets-members l =
-    Goes (elements_at l.end l.room l.at) (elements_at l.end l.room l.at (length l.fn.ts) no_elements l.fn.ts)
-    (elements l.all.items) l.left
+decreases-argument::arguments-members l = to_come (standing l.reader)
 
 abbrev pub decreases-vector::brackets-members : goal.decreases-vector::brackets-members
-decreases-vector::brackets-members l = length l.left
+decreases-vector::brackets-members l = to_come (standing l.reader)
+
+abbrev pub invariant-argument::arguments-members : goal.invariant-argument::arguments-members
+invariant-argument::arguments-members l = ArgumentsGo l.room l.fn.reader l.reader l.args.items
+
+abbrev pub invariant-vector::brackets-members : goal.invariant-vector::brackets-members
+invariant-vector::brackets-members l = ElementsGo l.open.room l.open.at l.fn.reader l.reader l.all.items

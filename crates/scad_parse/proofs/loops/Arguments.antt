@@ -1,6 +1,6 @@
 -- The turns of the loop over arguments.
 use Rattle.std.proofs.Common.{◌≡◌, ℕ, zero, suc, ◌<◌, ◌≤◌, Bool, true, false, List, [], ◌∷◌, Option, Some, None, Ok}
-use Rattle.std.proofs.Common.{Err, length, refl, sym, ap, ◌∙◌, arith}
+use Rattle.std.proofs.Common.{Err, length, refl, sym, ap, subst, ◌∙◌, ◌++◌, arith}
 use Rattle.std.specs.Prelude.{if◌then◌else◌}
 use Rattle.std.proofs.lemmas.Bool.{cond-true, cond-false}
 use Rattle.scad_fault.specs.declared.place.Place.{Place}
@@ -13,8 +13,17 @@ use Rattle.scad_grammar.specs.Grammar.{begins_named, named_by as is_named_by, at
 use Rattle.scad_grammar.specs.Machine.{Refusal, syntax_at}
 use Rattle.scad_grammar.specs.Rules.{Read, then_read, Rules, expr_of, args_of, named_by, more_args}
 use Rattle.scad_grammar.proofs.rules.Fewer.{Leaves, wider, then_leaves, either}
-use Rattle.scad_parse.specs.Reading.{below, behind, argument_of, comma_or, no_value}
-use Rattle.scad_parse.proofs.loops.Turns.{leaves, comma_leaves, fewer, less, Goes, goes_on, stops}
+use Rattle.scad_ast.specs.Tree.{no_arguments}
+use Rattle.scad_ast.specs.View.{arguments}
+use Rattle.scad_ast.specs.declared.expression.Arg.{Arg}
+use Rattle.scad_parse.specs.declared.reader.Reader.{Reader}
+use Rattle.scad_parse.specs.Reading.{below, behind, argument_of, argument_seen, comma_or, no_value}
+use Rattle.scad_parse.specs.Standing.{Reads, Turn, standing, made, lacks}
+use Rattle.scad_parse.proofs.loops.Going.{Going, going_begins, going_on, going_ends, fewer_to_come, more_arguments}
+use Rattle.scad_parse.proofs.loops.Going.{last_argument}
+use Rattle.scad_parse.proofs.loops.Pushes.{arguments_push}
+use Rattle.scad_parse.proofs.rules.Steps.{turn_stay}
+use Rattle.scad_parse.proofs.loops.Turns.{leaves, comma_leaves, fewer, less, Goes, goes_on, stops, to_come}
 
 behind_leaves : (ts : List Token) → length (behind (behind ts)) ≤ length ts
 behind_leaves [] = omega arith
@@ -139,3 +148,62 @@ pub args_end : (end : Place) (room : ℕ) (whole : Read Arguments) (all : Argume
     at_end_of_arguments ts ≡ true → Goes (args_of end (below end room)) whole all ts → whole ≡ Ok (all, ts)
 args_end end room whole all ts h =
     stops (args_of end (below end room)) whole (Ok (all, ts)) all ts (args_last end (below end room) all ts h)
+
+-- ---- the loop, as its reader goes on
+pub record ArgumentsGo (room : ℕ) (q r : Reader) (items : List Arg) : Type 0 where
+  pub ends : r.end ≡ q.end
+  pub going : Going (args_of q.end (below q.end room)) no_arguments (standing q) (arguments items) (standing r)
+
+pub arguments_begin : (room : ℕ) (q : Reader) (items : List Arg) → items ≡ [] → ArgumentsGo room q q items
+arguments_begin room q items none =
+    record { ends = refl; going = going_begins (args_of q.end (below q.end room)) no_arguments (arguments items)
+    (standing q) (ap arguments none) }
+
+module _ (room : ℕ) {q r r1 r2 r3 : Reader} (items after : List Arg) (x : Arg) (g : ArgumentsGo room q r items)
+    (more : lacks ends_arguments (standing r) ≡ true)
+    (read : Reads (λ e ts. argument_of e (below e room) ts) r r1 (argument_seen x))
+    (push : Reads (made (items ++ (x ∷ []))) r1 r2 after)
+    (comma : Reads (λ e ts. comma_or ends_arguments e no_value ts) r2 r3 no_value) where
+  abbrev read_here : Turn (argument_of q.end (below q.end room)) (standing r) (standing r1) (argument_seen x)
+  read_here =
+      subst (λ e. Turn (argument_of e (below e room)) (standing r) (standing r1) (argument_seen x)) g.ends read.turn
+
+  abbrev comma_here : Turn (comma_or ends_arguments q.end no_value) (standing r2) (standing r3) no_value
+  comma_here = subst (λ e. Turn (comma_or ends_arguments e no_value) (standing r2) (standing r3) no_value)
+      (push.ends ∙ (read.ends ∙ g.ends)) comma.turn
+
+  pub arguments_go : ArgumentsGo room q r3 after
+  arguments_go = record {
+    ends = comma.ends ∙ (push.ends ∙ (read.ends ∙ g.ends));
+    going = going_on (args_of q.end (below q.end room)) no_arguments arguments (argument_of q.end (below q.end room))
+    (comma_or ends_arguments q.end no_value) items (items ++ (x ∷ [])) after (argument_seen x) (standing q) (standing r)
+    (standing r1) (standing r2) (standing r3) g.going read_here push.turn comma_here
+    (λ ts0 ts us ws here there is end h. subst (λ all. Goes (args_of q.end (below q.end room))
+    (args_of q.end (below q.end room) (length ts0) no_arguments ts0) all ws) (sym (arguments_push items x))
+    (args_go q.end room (args_of q.end (below q.end room) (length ts0) no_arguments ts0) (arguments items) ts us ws
+    (argument_seen x) (more_arguments (standing r) ts more here) is end h))
+    (λ ts0 ts fault here is h. args_stop q.end room
+    (args_of q.end (below q.end room) (length ts0) no_arguments ts0) (arguments items) ts fault
+    (more_arguments (standing r) ts more here) is h)
+    (λ ts0 ts us fault here there is end h. args_stop_behind q.end room
+    (args_of q.end (below q.end room) (length ts0) no_arguments ts0) (arguments items) ts us (argument_seen x) fault
+    (more_arguments (standing r) ts more here) is end h);
+  }
+
+  pub arguments_fewer : to_come (standing r3) < to_come (standing r)
+  arguments_fewer = fewer_to_come (args_of q.end (below q.end room)) no_arguments arguments
+      (argument_of q.end (below q.end room)) (comma_or ends_arguments q.end no_value) items (items ++ (x ∷ [])) after
+      (argument_seen x) ends_arguments (standing r) (standing r1) (standing r2) (standing r3) more read_here push.turn
+      comma_here (λ ts us ws is end. args_fewer q.end room ts us ws (argument_seen x) is end)
+
+pub arguments_end : (room : ℕ) {q r : Reader} (items after : List Arg) → ArgumentsGo room q r items →
+    lacks ends_arguments (standing r) ≡ false → after ≡ items →
+    Reads (λ e ts. args_of e (below e room) (length ts) no_arguments ts) q r (arguments after)
+arguments_end room {q} {r} items after g last same = record {
+  ends = g.ends;
+  turn = subst (λ all. Turn (λ ts. args_of q.end (below q.end room) (length ts) no_arguments ts) (standing q) (standing r)
+  (arguments all)) (sym same) (going_ends (args_of q.end (below q.end room)) no_arguments (arguments items)
+  (λ ts. Ok (arguments items, ts)) (standing q) (standing r) (standing r) (arguments items) g.going
+  (turn_stay (standing r) (arguments items)) (λ ts0 ts here h. args_end q.end room _ (arguments items) ts
+  (last_argument (standing r) ts last here) h));
+}

@@ -1,6 +1,6 @@
 -- The turns of the loop over the parameters of a definition.
 use Rattle.std.proofs.Common.{◌≡◌, ℕ, zero, suc, ◌<◌, ◌≤◌, ◌++◌, map, Bool, true, false, List, [], ◌∷◌, Option, Some}
-use Rattle.std.proofs.Common.{None, Ok, Err, length, refl, sym, ap, ◌∙◌, arith}
+use Rattle.std.proofs.Common.{None, Ok, Err, length, refl, sym, ap, subst, ◌∙◌, arith}
 use Rattle.std.specs.Prelude.{if◌then◌else◌}
 use Rattle.std.proofs.lemmas.Bool.{cond-true, cond-false}
 use Rattle.scad_fault.specs.declared.place.Place.{Place}
@@ -17,7 +17,11 @@ use Rattle.scad_grammar.specs.StatementRules.{params_of, param_of, param_by, mor
 use Rattle.scad_grammar.proofs.rules.Fewer.{Leaves, then_leaves, either}
 use Rattle.scad_parse.specs.Reading.{below, rules_at, behind, comma_or, no_value}
 use Rattle.scad_parse.specs.ReadingStatements.{parameter_of, parameter_by, default_of}
-use Rattle.scad_parse.proofs.loops.Turns.{Goes, less, goes_on, stops, leaves, comma_leaves, fewer}
+use Rattle.scad_parse.specs.declared.reader.Reader.{Reader}
+use Rattle.scad_parse.specs.Standing.{Reads, Turn, standing, made, lacks, passed}
+use Rattle.scad_parse.proofs.loops.Going.{Going, going_begins, going_on, going_ends, fewer_to_come, more_sign, last_sign}
+use Rattle.scad_parse.proofs.loops.Going.{turn_passed}
+use Rattle.scad_parse.proofs.loops.Turns.{Goes, less, goes_on, stops, leaves, comma_leaves, fewer, to_come}
 
 -- a parameter as the list's last
 abbrev pub with_param : List Parameter → Parameter → List Parameter
@@ -96,7 +100,7 @@ module _ (end : Place) (room : ℕ) where
 
   default_leaves : (ts : List Token) → Leaves (suc (length ts)) (default_of end (below end room) ts)
   unfolding default_of
-  default_leaves [] = tt
+  default_leaves [] = omega arith
   default_leaves (t ∷ ts) =
       either _ (is_sign Assign t) _ _
       (then_leaves (length ts) _ (expr_of end (below end room) ts) _ ((fewer end room).expr ts)
@@ -144,3 +148,58 @@ module _ (end : Place) (room : ℕ) where
   pub params_end : (whole : Read (List Parameter)) (all : List Parameter) (ts : List Token) →
       begins_with CloseRound ts ≡ true → Goes params_at whole all ts → whole ≡ Ok (all, behind ts)
   params_end whole all ts h = stops params_at whole (Ok (all, behind ts)) all ts (params_last all ts h)
+
+-- ---- the loop, as its reader goes on
+pub record ParametersGo (room : ℕ) (q r : Reader) (all : List Param) : Type 0 where
+  pub ends : r.end ≡ q.end
+  pub going : Going (params_at q.end room) [] (standing q) (map parameter all) (standing r)
+
+pub parameters_begin : (room : ℕ) (q : Reader) (all : List Param) → all ≡ [] → ParametersGo room q q all
+parameters_begin room q all none = record { ends = refl; going = going_begins (params_at q.end room) []
+    (map parameter all) (standing q) (ap (map parameter) none) }
+
+module _ (room : ℕ) {q r r1 r2 r3 : Reader} (all after : List Param) (x : Param) (g : ParametersGo room q r all)
+    (more : lacks (is_sign CloseRound) (standing r) ≡ true)
+    (read : Reads (λ e ts. parameter_of e (below e room) ts) r r1 (parameter x))
+    (push : Reads (made (all ++ (x ∷ []))) r1 r2 after)
+    (comma : Reads (λ e ts. comma_or (is_sign CloseRound) e no_value ts) r2 r3 no_value) where
+  abbrev read_here : Turn (parameter_of q.end (below q.end room)) (standing r) (standing r1) (parameter x)
+  read_here = subst (λ e. Turn (parameter_of e (below e room)) (standing r) (standing r1) (parameter x)) g.ends read.turn
+
+  abbrev comma_here : Turn (comma_or (is_sign CloseRound) q.end no_value) (standing r2) (standing r3) no_value
+  comma_here = subst (λ e. Turn (comma_or (is_sign CloseRound) e no_value) (standing r2) (standing r3) no_value)
+      (push.ends ∙ (read.ends ∙ g.ends)) comma.turn
+
+  pub parameters_go : ParametersGo room q r3 after
+  parameters_go = record {
+    ends = comma.ends ∙ (push.ends ∙ (read.ends ∙ g.ends));
+    going = going_on (params_at q.end room) [] (map parameter) (parameter_of q.end (below q.end room))
+    (comma_or (is_sign CloseRound) q.end no_value) all (all ++ (x ∷ [])) after (parameter x) (standing q) (standing r)
+    (standing r1) (standing r2) (standing r3) g.going read_here push.turn comma_here
+    (λ ts0 ts us ws here there is end h. subst (λ xs. Goes (params_at q.end room)
+    (params_at q.end room (length ts0) [] ts0) xs ws) (sym (parameters_push all x))
+    (params_go q.end room (params_at q.end room (length ts0) [] ts0) (map parameter all) ts
+    (more_sign CloseRound (standing r) ts more here) h us ws (parameter x) is end))
+    (λ ts0 ts fault here is h. params_stop q.end room (params_at q.end room (length ts0) [] ts0) (map parameter all) ts
+    (more_sign CloseRound (standing r) ts more here) h fault is)
+    (λ ts0 ts us fault here there is end h. params_stop_behind q.end room (params_at q.end room (length ts0) [] ts0)
+    (map parameter all) ts (more_sign CloseRound (standing r) ts more here) h us (parameter x) fault is end);
+  }
+
+  pub parameters_fewer : to_come (standing r3) < to_come (standing r)
+  parameters_fewer = fewer_to_come (params_at q.end room) [] (map parameter) (parameter_of q.end (below q.end room))
+      (comma_or (is_sign CloseRound) q.end no_value) all (all ++ (x ∷ [])) after (parameter x) (is_sign CloseRound)
+      (standing r) (standing r1) (standing r2) (standing r3) more read_here push.turn comma_here
+      (λ ts us ws is end. params_fewer q.end room ts us ws (parameter x) is end)
+
+pub parameters_ended : (room : ℕ) {q r s : Reader} (all : List Param) → ParametersGo room q r all →
+    lacks (is_sign CloseRound) (standing r) ≡ false → s.end ≡ r.end → standing s ≡ passed (standing r) →
+    Reads (λ e ts. params_of e (rules_at e room) (length ts) [] ts) q s (map parameter all)
+parameters_ended room {q} {r} {s} all g last ends now = record {
+  ends = ends ∙ g.ends;
+  turn = going_ends (params_at q.end room) [] (map parameter all) (λ ts. Ok (map parameter all, behind ts)) (standing q)
+      (standing r) (standing s) (map parameter all) g.going
+      (subst (λ s. Turn (λ ts. Ok (map parameter all, behind ts)) (standing r) s (map parameter all)) (sym now)
+      (turn_passed (standing r) (map parameter all))) (λ ts0 ts here h. params_end q.end room _ (map parameter all) ts
+      (last_sign CloseRound (standing r) ts last here) h);
+}

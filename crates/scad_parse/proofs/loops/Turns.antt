@@ -1,5 +1,5 @@
 -- What a loop over a list reads: what is left gives what the whole gives.
-use Rattle.std.proofs.Common.{◌≡◌, ℕ, zero, suc, ◌<◌, ◌≤◌, Bool, List, [], ◌∷◌, Some, Ok, length, refl, sym, ap}
+use Rattle.std.proofs.Common.{◌≡◌, ℕ, zero, suc, ◌<◌, ◌≤◌, Bool, List, [], ◌∷◌, Some, Ok, Err, length, refl, sym, ap}
 use Rattle.std.proofs.Common.{subst, ◌∙◌, arith}
 use Rattle.scad_fault.specs.declared.place.Place.{Place}
 use Rattle.scad_lex.specs.declared.token.Token.{Token}
@@ -9,6 +9,7 @@ use Rattle.scad_grammar.specs.Rules.{Read, above, rules}
 use Rattle.scad_grammar.proofs.rules.Fewer.{Leaves, either, Fewer}
 use Rattle.scad_grammar.proofs.rules.FewerElements.{rules_fewer}
 use Rattle.scad_parse.specs.Reading.{below, rules_at, comma_or}
+use Rattle.scad_parse.specs.Standing.{Standing}
 
 -- ---- how many tokens are left
 pub leaves : {A : Type 0} (n : ℕ) (r : Read A) (a : A) (us : List Token) → r ≡ Ok (a, us) → Leaves n r → length us < n
@@ -58,3 +59,8 @@ goes_on rule whole s next ts vs turn few g =
 pub stops : {S X : Type 0} (rule : ℕ → S → List Token → X) (whole x : X) (s : S) (ts : List Token) →
     ((n : ℕ) → length ts ≤ n → rule n s ts ≡ x) → Goes rule whole s ts → whole ≡ x
 stops rule whole x s ts turn g = sym g.2 ∙ turn g.0 g.1
+
+-- how much may come, less at each turn
+abbrev pub to_come : Standing → ℕ
+to_come (Ok ts) = suc (length ts)
+to_come (Err fault) = zero
