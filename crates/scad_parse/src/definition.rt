@@ -47,7 +47,11 @@ pub(crate) fn module(reader: &mut Reader<'_>, scope: Scope, open: Open) -> Scope
     let head = heading(reader, open.room);
     let none = Scope::new(reader.alloc);
     let body = statement(reader, true, none, open.room);
-    pushed(reader, scope, Item::Module(head.name, head.params, body, open.at))
+    pushed(
+        reader,
+        scope,
+        Item::Module(head.name, head.params, body, open.at),
+    )
 }
 
 // WORD "(" params ")" "=" expr ";", behind the "function"
@@ -58,7 +62,11 @@ pub(crate) fn function(reader: &mut Reader<'_>, scope: Scope, open: Open) -> Sco
     let head = heading(reader, open.room);
     reader.expect(Sign::Assign);
     let body = closed(reader, Sign::Semicolon, open.room);
-    pushed(reader, scope, Item::Function(head.name, head.params, body, open.at))
+    pushed(
+        reader,
+        scope,
+        Item::Function(head.name, head.params, body, open.at),
+    )
 }
 
 /// The name and the parameters of a definition.

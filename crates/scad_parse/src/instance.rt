@@ -120,11 +120,23 @@ fn called(reader: &mut Reader<'_>, before: Before, word: Word, args: Args, insid
         (call_of word.at before.marks.percent before.marks.hash word.name (arguments args.items)
         (items inside.items)))) reader.old reader.new (scope_seen result) }
 {
-    kept(reader, before, word.at, StmtBody::Call(word.name, args, inside))
+    kept(
+        reader,
+        before,
+        word.at,
+        StmtBody::Call(word.name, args, inside),
+    )
 }
 
 /// The scope with an `if`.
-fn chosen(reader: &mut Reader<'_>, before: Before, at: Place, test: Expr, held: Scope, other: Scope) -> Scope
+fn chosen(
+    reader: &mut Reader<'_>,
+    before: Before,
+    at: Place,
+    test: Expr,
+    held: Scope,
+    other: Scope,
+) -> Scope
     ensures { Reads (made (with_statement (marks_of before.marks) (items before.scope.items)
         (choice at before.marks.percent before.marks.hash (expression_of test) (items held.items)
         (items other.items)))) reader.old reader.new (scope_seen result) }

@@ -111,7 +111,13 @@ pub(crate) fn binary(reader: &mut Reader<'_>, at: Place, op: BinOp, left: Expr, 
     }
 }
 
-pub(crate) fn choose(reader: &mut Reader<'_>, at: Place, test: Expr, chosen: Expr, other: Expr) -> Expr
+pub(crate) fn choose(
+    reader: &mut Reader<'_>,
+    at: Place,
+    test: Expr,
+    chosen: Expr,
+    other: Expr,
+) -> Expr
     ensures { Reads (made (choose at (expression_of test) (expression_of chosen) (expression_of other))) reader.old reader.new (expression_of result) }
 {
     let test = reader.boxed(test);
@@ -153,7 +159,13 @@ pub(crate) fn member(reader: &mut Reader<'_>, at: Place, value: Expr, name: Text
     }
 }
 
-pub(crate) fn bound(reader: &mut Reader<'_>, at: Place, binder: Binder, args: Args, body: Expr) -> Expr
+pub(crate) fn bound(
+    reader: &mut Reader<'_>,
+    at: Place,
+    binder: Binder,
+    args: Args,
+    body: Expr,
+) -> Expr
     ensures { Reads (made (keyed_tree (keyed binder) at (arguments args.items) (expression_of body))) reader.old reader.new (expression_of result) }
 {
     let body = reader.boxed(body);
@@ -192,7 +204,13 @@ pub(crate) fn range(reader: &mut Reader<'_>, at: Place, start: Expr, last: Expr)
 }
 
 /// The range from start to end by a step.
-pub(crate) fn stepped(reader: &mut Reader<'_>, at: Place, start: Expr, step: Expr, last: Expr) -> Expr
+pub(crate) fn stepped(
+    reader: &mut Reader<'_>,
+    at: Place,
+    start: Expr,
+    step: Expr,
+    last: Expr,
+) -> Expr
     ensures { Reads (made (stepped at (expression_of start) (expression_of step) (expression_of last))) reader.old reader.new (expression_of result) }
 {
     let start = reader.boxed(start);
@@ -227,7 +245,14 @@ pub(crate) fn for_each(reader: &mut Reader<'_>, at: Place, args: Args, e: Elem) 
     Elem::For(args, e, at)
 }
 
-pub(crate) fn for_loop(reader: &mut Reader<'_>, at: Place, init: Args, test: Expr, step: Args, e: Elem) -> Elem
+pub(crate) fn for_loop(
+    reader: &mut Reader<'_>,
+    at: Place,
+    init: Args,
+    test: Expr,
+    step: Args,
+    e: Elem,
+) -> Elem
     ensures { Reads (made (for_loop at (arguments init.items) (expression_of test) (arguments step.items) (element_of e))) reader.old reader.new (element_of result) }
 {
     let e = reader.boxed(e);
@@ -262,7 +287,13 @@ pub(crate) fn if_element(reader: &mut Reader<'_>, at: Place, test: Expr, held: E
     Elem::If(test, held, None, at)
 }
 
-pub(crate) fn if_else(reader: &mut Reader<'_>, at: Place, test: Expr, held: Elem, other: Elem) -> Elem
+pub(crate) fn if_else(
+    reader: &mut Reader<'_>,
+    at: Place,
+    test: Expr,
+    held: Elem,
+    other: Elem,
+) -> Elem
     ensures { Reads (made (if_else at (expression_of test) (element_of held) (element_of other))) reader.old reader.new (element_of result) }
 {
     let held = reader.boxed(held);

@@ -11,7 +11,9 @@ ghost use Rattle.scad_parse.specs.Standing.{Reads, standing, failed, passed, fro
 ghost use Rattle.scad_parse.specs.Standing.{made, took, took_at, needed, left_out, word_here, literal_here};
 
 use crate::fault::{Fault, Form};
-use crate::front::{behind, ends_arguments, first_word, is_key, is_named, is_sign, is_word, place, word};
+use crate::front::{
+    behind, ends_arguments, first_word, is_key, is_named, is_sign, is_word, place, word,
+};
 use crate::operator::literal;
 use scad_ast::Expr;
 use scad_fault::{Place, Text};
@@ -229,10 +231,7 @@ impl<'p> Reader<'p> {
             return None;
         }
         self.pass();
-        Some(Open {
-            at,
-            room: room - 1,
-        })
+        Some(Open { at, room: room - 1 })
     }
 
     /// The construct that this sign opens, where it comes and there is room.

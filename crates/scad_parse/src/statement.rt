@@ -19,7 +19,12 @@ use scad_lex::{Key, Sign};
 // body = ";" | "{" body* "}" | assign | inst
 // Where definitions may not stand, it is a body.
 #[cycle(statement)]
-pub(crate) fn statement(reader: &mut Reader<'_>, definitions: bool, scope: Scope, room: u32) -> Scope
+pub(crate) fn statement(
+    reader: &mut Reader<'_>,
+    definitions: bool,
+    scope: Scope,
+    room: u32,
+) -> Scope
     ensures { Reads (λ e ts. statement_of e (below_statements e room) definitions (items scope.items) ts)
         reader.old reader.new (scope_seen result) }
 {

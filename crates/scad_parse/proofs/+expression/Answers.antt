@@ -1,5 +1,5 @@
-use Rattle.std.proofs.Common.{◌≡◌, ◌-◌, length, ap, sym, ◌∙◌, true, false, List, [], ◌∷◌, Ok, Err, Some, None, option_map}
-use Rattle.std.specs.Prelude.{is_some, if◌then◌else◌}
+use Rattle.std.proofs.Common.{◌-◌, length, ap, sym, ◌∙◌, true, Ok, option_map}
+use Rattle.std.specs.Prelude.{is_some}
 use Rattle.scad_lex.specs.declared.token.Sign.TheVariants.{OpenRound, OpenSquare, CloseRound, CloseSquare, Question}
 use Rattle.scad_lex.specs.declared.token.Sign.TheVariants.{Colon, Bang, Plus, Minus, Dot, Caret, Semicolon}
 use Rattle.scad_lex.specs.declared.token.Key.TheVariants.{Function, If, Else, For, Let, Assert, Echo, Each}
@@ -10,7 +10,7 @@ use Rattle.scad_ast.specs.View.{expression_of, element_of, arguments, elements}
 use Rattle.scad_grammar.specs.Tokens.{is_sign, is_key, operator}
 use Rattle.scad_grammar.specs.Lists.{let_of}
 use Rattle.scad_grammar.specs.Behind.{letting, asserting, echoing, keyed_tree}
-use Rattle.scad_grammar.specs.Rules.{Read, then_read, deeper, expr_of, operand_of, unary_of, prim_of, posts_of, links_of}
+use Rattle.scad_grammar.specs.Rules.{then_read, expr_of, operand_of, unary_of, posts_of, links_of}
 use Rattle.scad_grammar.specs.Rules.{choice_of, expr_to, in_round_of, args_of, args_closed_of, elem_of, else_of, range_end}
 use Rattle.scad_grammar.specs.Rules.{head_end, for_all, for_steps, headed as grammar_headed}
 use Rattle.scad_parse.specs.declared.fault.Form.TheVariants.{Function as FunctionForm, Power}

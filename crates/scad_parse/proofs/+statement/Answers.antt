@@ -1,5 +1,4 @@
-use Rattle.std.proofs.Common.{◌≡◌, ap, sym, ◌∙◌, true, false, Ok}
-use Rattle.std.specs.Prelude.{is_some}
+use Rattle.std.proofs.Common.{ap, sym, ◌∙◌, true, false, Ok}
 use Rattle.scad_lex.specs.declared.token.Sign.TheVariants.{Star, Percent, Hash, Bang, Semicolon, OpenCurly, Assign}
 use Rattle.scad_lex.specs.declared.token.Key.TheVariants.{Else, If, Include, Use, Module, Function}
 use Rattle.scad_ast.specs.Tree.{choice, call_of, assignment, module_of, no_items}
@@ -331,12 +330,18 @@ pub instance::call-returns : goal.instance::call-returns
 instance::call-returns t c =
     follows (λ e ts. (rules_at e c.args.room).round_args ts)
     (λ e args us. then_read (child_of e (below_statements e c.args.room) us)
-    (λ inside vs. Ok (with_statement (marks_of c.args.before.marks) (items c.args.before.scope.items)
-    (call_of c.args.word.at c.args.before.marks.percent c.args.before.marks.hash c.args.word.name args inside), vs)))
+    (λ inside vs. Ok (
+      with_statement (marks_of c.args.before.marks) (items c.args.before.scope.items)
+          (call_of c.args.word.at c.args.before.marks.percent c.args.before.marks.hash c.args.word.name args inside),
+      vs,
+    )))
     c.round_arguments-args.ensures
     (follows (λ e ts. child_of e (below_statements e c.args.room) ts)
-    (λ e inside vs. Ok (with_statement (marks_of c.args.before.marks) (items c.args.before.scope.items)
-    (call_of c.args.word.at c.args.before.marks.percent c.args.before.marks.hash c.args.word.name (arguments_seen c.round_arguments-args.result) inside), vs))
+    (λ e inside vs. Ok (
+      with_statement (marks_of c.args.before.marks) (items c.args.before.scope.items)
+          (call_of c.args.word.at c.args.before.marks.percent c.args.before.marks.hash c.args.word.name (arguments_seen c.round_arguments-args.result) inside),
+      vs,
+    ))
     c.child-inside.ensures c.called.ensures)
 
 pub instance::choice-returns : goal.instance::choice-returns
@@ -351,15 +356,21 @@ instance::choice-returns t c =
     (same_rule (λ e ts. otherwise_of e (below_statements e c.args.room) c.args.at (marks_of c.args.before.marks) (expression_of c.round_expression-test.result)
     (items c.args.before.scope.items) (items c.child-held.result.items) ts)
     (λ e ts. then_read (other_of e (below_statements e c.args.room) ts)
-    (λ other us. Ok (with_statement (marks_of c.args.before.marks) (items c.args.before.scope.items)
-    (choice c.args.at c.args.before.marks.percent c.args.before.marks.hash (expression_of c.round_expression-test.result)
-    (items c.child-held.result.items) other), us)))
+    (λ other us. Ok (
+      with_statement (marks_of c.args.before.marks) (items c.args.before.scope.items)
+          (choice c.args.at c.args.before.marks.percent c.args.before.marks.hash (expression_of c.round_expression-test.result)
+          (items c.child-held.result.items) other),
+      us,
+    )))
     (λ e ts. otherwise_other e (below_statements e c.args.room) c.args.at (marks_of c.args.before.marks) (expression_of c.round_expression-test.result)
     (items c.args.before.scope.items) (items c.child-held.result.items) ts)
     (follows (λ e ts. other_of e (below_statements e c.args.room) ts)
-    (λ e other us. Ok (with_statement (marks_of c.args.before.marks) (items c.args.before.scope.items)
-    (choice c.args.at c.args.before.marks.percent c.args.before.marks.hash (expression_of c.round_expression-test.result)
-    (items c.child-held.result.items) other), us))
+    (λ e other us. Ok (
+      with_statement (marks_of c.args.before.marks) (items c.args.before.scope.items)
+          (choice c.args.at c.args.before.marks.percent c.args.before.marks.hash (expression_of c.round_expression-test.result)
+          (items c.child-held.result.items) other),
+      us,
+    ))
     c.otherwise-other.ensures c.chosen.ensures)))
 
 pub instance::otherwise-returns-in_default : goal.instance::otherwise-returns-in_default
@@ -420,7 +431,10 @@ definition::module-returns t c =
     (λ body vs. Ok (with_item (items c.args.scope.items) (module_of c.args.open.at h.0 h.1 body), vs)))
     c.heading-head.ensures
     (follows (λ e ts. statement_of e (below_statements e c.args.open.room) true (items c.new-none.result.items) ts)
-    (λ e body vs. Ok (with_item (items c.args.scope.items) (module_of c.args.open.at c.heading-head.result.name
-    (parameters_seen c.heading-head.result.params) body), vs)) c.statement-body.ensures
+    (λ e body vs. Ok (
+      with_item (items c.args.scope.items) (module_of c.args.open.at c.heading-head.result.name
+          (parameters_seen c.heading-head.result.params) body),
+      vs,
+    )) c.statement-body.ensures
     (made_same (ap (with_item (items c.args.scope.items)) (module_view c.heading-head.result.name
     c.heading-head.result.params c.statement-body.result c.args.open.at)) c.pushed.ensures)))

@@ -156,8 +156,11 @@ pub record ArgumentsGo (room : ℕ) (q r : Reader) (items : List Arg) : Type 0 w
 
 pub arguments_begin : (room : ℕ) (q : Reader) (items : List Arg) → items ≡ [] → ArgumentsGo room q q items
 arguments_begin room q items none =
-    record { ends = refl; going = going_begins (args_of q.end (below q.end room)) no_arguments (arguments items)
-    (standing q) (ap arguments none) }
+    record {
+      ends = refl;
+      going = going_begins (args_of q.end (below q.end room)) no_arguments (arguments items)
+          (standing q) (ap arguments none);
+    }
 
 module _ (room : ℕ) {q r r1 r2 r3 : Reader} (items after : List Arg) (x : Arg) (g : ArgumentsGo room q r items)
     (more : lacks ends_arguments (standing r) ≡ true)
@@ -176,18 +179,18 @@ module _ (room : ℕ) {q r r1 r2 r3 : Reader} (items after : List Arg) (x : Arg)
   arguments_go = record {
     ends = comma.ends ∙ (push.ends ∙ (read.ends ∙ g.ends));
     going = going_on (args_of q.end (below q.end room)) no_arguments arguments (argument_of q.end (below q.end room))
-    (comma_or ends_arguments q.end no_value) items (items ++ (x ∷ [])) after (argument_seen x) (standing q) (standing r)
-    (standing r1) (standing r2) (standing r3) g.going read_here push.turn comma_here
-    (λ ts0 ts us ws here there is end h. subst (λ all. Goes (args_of q.end (below q.end room))
-    (args_of q.end (below q.end room) (length ts0) no_arguments ts0) all ws) (sym (arguments_push items x))
-    (args_go q.end room (args_of q.end (below q.end room) (length ts0) no_arguments ts0) (arguments items) ts us ws
-    (argument_seen x) (more_arguments (standing r) ts more here) is end h))
-    (λ ts0 ts fault here is h. args_stop q.end room
-    (args_of q.end (below q.end room) (length ts0) no_arguments ts0) (arguments items) ts fault
-    (more_arguments (standing r) ts more here) is h)
-    (λ ts0 ts us fault here there is end h. args_stop_behind q.end room
-    (args_of q.end (below q.end room) (length ts0) no_arguments ts0) (arguments items) ts us (argument_seen x) fault
-    (more_arguments (standing r) ts more here) is end h);
+        (comma_or ends_arguments q.end no_value) items (items ++ (x ∷ [])) after (argument_seen x) (standing q) (standing r)
+        (standing r1) (standing r2) (standing r3) g.going read_here push.turn comma_here
+        (λ ts0 ts us ws here there is end h. subst (λ all. Goes (args_of q.end (below q.end room))
+        (args_of q.end (below q.end room) (length ts0) no_arguments ts0) all ws) (sym (arguments_push items x))
+        (args_go q.end room (args_of q.end (below q.end room) (length ts0) no_arguments ts0) (arguments items) ts us ws
+        (argument_seen x) (more_arguments (standing r) ts more here) is end h))
+        (λ ts0 ts fault here is h. args_stop q.end room
+        (args_of q.end (below q.end room) (length ts0) no_arguments ts0) (arguments items) ts fault
+        (more_arguments (standing r) ts more here) is h)
+        (λ ts0 ts us fault here there is end h. args_stop_behind q.end room
+        (args_of q.end (below q.end room) (length ts0) no_arguments ts0) (arguments items) ts us (argument_seen x) fault
+        (more_arguments (standing r) ts more here) is end h);
   }
 
   pub arguments_fewer : to_come (standing r3) < to_come (standing r)
@@ -202,8 +205,8 @@ pub arguments_end : (room : ℕ) {q r : Reader} (items after : List Arg) → Arg
 arguments_end room {q} {r} items after g last same = record {
   ends = g.ends;
   turn = subst (λ all. Turn (λ ts. args_of q.end (below q.end room) (length ts) no_arguments ts) (standing q) (standing r)
-  (arguments all)) (sym same) (going_ends (args_of q.end (below q.end room)) no_arguments (arguments items)
-  (λ ts. Ok (arguments items, ts)) (standing q) (standing r) (standing r) (arguments items) g.going
-  (turn_stay (standing r) (arguments items)) (λ ts0 ts here h. args_end q.end room _ (arguments items) ts
-  (last_argument (standing r) ts last here) h));
+      (arguments all)) (sym same) (going_ends (args_of q.end (below q.end room)) no_arguments (arguments items)
+      (λ ts. Ok (arguments items, ts)) (standing q) (standing r) (standing r) (arguments items) g.going
+      (turn_stay (standing r) (arguments items)) (λ ts0 ts here h. args_end q.end room _ (arguments items) ts
+      (last_argument (standing r) ts last here) h));
 }

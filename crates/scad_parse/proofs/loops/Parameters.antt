@@ -155,8 +155,11 @@ pub record ParametersGo (room : ℕ) (q r : Reader) (all : List Param) : Type 0 
   pub going : Going (params_at q.end room) [] (standing q) (map parameter all) (standing r)
 
 pub parameters_begin : (room : ℕ) (q : Reader) (all : List Param) → all ≡ [] → ParametersGo room q q all
-parameters_begin room q all none = record { ends = refl; going = going_begins (params_at q.end room) []
-    (map parameter all) (standing q) (ap (map parameter) none) }
+parameters_begin room q all none = record {
+  ends = refl;
+  going = going_begins (params_at q.end room) []
+      (map parameter all) (standing q) (ap (map parameter) none);
+}
 
 module _ (room : ℕ) {q r r1 r2 r3 : Reader} (all after : List Param) (x : Param) (g : ParametersGo room q r all)
     (more : lacks (is_sign CloseRound) (standing r) ≡ true)
@@ -174,16 +177,16 @@ module _ (room : ℕ) {q r r1 r2 r3 : Reader} (all after : List Param) (x : Para
   parameters_go = record {
     ends = comma.ends ∙ (push.ends ∙ (read.ends ∙ g.ends));
     going = going_on (params_at q.end room) [] (map parameter) (parameter_of q.end (below q.end room))
-    (comma_or (is_sign CloseRound) q.end no_value) all (all ++ (x ∷ [])) after (parameter x) (standing q) (standing r)
-    (standing r1) (standing r2) (standing r3) g.going read_here push.turn comma_here
-    (λ ts0 ts us ws here there is end h. subst (λ xs. Goes (params_at q.end room)
-    (params_at q.end room (length ts0) [] ts0) xs ws) (sym (parameters_push all x))
-    (params_go q.end room (params_at q.end room (length ts0) [] ts0) (map parameter all) ts
-    (more_sign CloseRound (standing r) ts more here) h us ws (parameter x) is end))
-    (λ ts0 ts fault here is h. params_stop q.end room (params_at q.end room (length ts0) [] ts0) (map parameter all) ts
-    (more_sign CloseRound (standing r) ts more here) h fault is)
-    (λ ts0 ts us fault here there is end h. params_stop_behind q.end room (params_at q.end room (length ts0) [] ts0)
-    (map parameter all) ts (more_sign CloseRound (standing r) ts more here) h us (parameter x) fault is end);
+        (comma_or (is_sign CloseRound) q.end no_value) all (all ++ (x ∷ [])) after (parameter x) (standing q) (standing r)
+        (standing r1) (standing r2) (standing r3) g.going read_here push.turn comma_here
+        (λ ts0 ts us ws here there is end h. subst (λ xs. Goes (params_at q.end room)
+        (params_at q.end room (length ts0) [] ts0) xs ws) (sym (parameters_push all x))
+        (params_go q.end room (params_at q.end room (length ts0) [] ts0) (map parameter all) ts
+        (more_sign CloseRound (standing r) ts more here) h us ws (parameter x) is end))
+        (λ ts0 ts fault here is h. params_stop q.end room (params_at q.end room (length ts0) [] ts0) (map parameter all) ts
+        (more_sign CloseRound (standing r) ts more here) h fault is)
+        (λ ts0 ts us fault here there is end h. params_stop_behind q.end room (params_at q.end room (length ts0) [] ts0)
+        (map parameter all) ts (more_sign CloseRound (standing r) ts more here) h us (parameter x) fault is end);
   }
 
   pub parameters_fewer : to_come (standing r3) < to_come (standing r)

@@ -1,7 +1,7 @@
 -- The turns of the loop over the statements of a program, and what the answer says in the grammar's words.
 use Rattle.std.proofs.Common.{◌≡◌, ℕ, zero, suc, ◌≤◌, true, false, List, [], ◌∷◌, Ok, Err, length, refl, sym, ap, ◌∙◌}
 use Rattle.std.proofs.Common.{◌<◌, Option, Some, None, subst, arith}
-use Rattle.std.specs.Prelude.{Result, ◌==◌, ◌≢◌}
+use Rattle.std.specs.Prelude.{Result, ◌≢◌}
 use Rattle.scad_fault.specs.declared.place.Place.{Place}
 use Rattle.scad_lex.specs.declared.token.Token.{Token}
 use Rattle.scad_ast.specs.Tree.{Items, no_items}

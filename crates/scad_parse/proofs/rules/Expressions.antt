@@ -16,7 +16,7 @@ use Rattle.scad_grammar.specs.Lists.{let_of}
 use Rattle.scad_grammar.specs.Behind.{letting, asserting, echoing}
 use Rattle.scad_grammar.specs.Steps.{literal, range_start}
 use Rattle.scad_grammar.specs.Grammar.{begins_named}
-use Rattle.scad_grammar.specs.Machine.{Refusal, syntax_at, left_out_at}
+use Rattle.scad_grammar.specs.Machine.{syntax_at, left_out_at}
 use Rattle.scad_grammar.specs.Rules.{Read, Rules, then_read, behind_sign, deeper, expr_of, operand_of, unary_of, prim_of}
 use Rattle.scad_grammar.specs.Rules.{posts_of, links_of, link_of, choice_of, expr_to, word_rule, call_or_name}
 use Rattle.scad_grammar.specs.Rules.{literal_rule, member_by, member_of}
@@ -26,7 +26,7 @@ use Rattle.scad_parse.specs.Reading.{below, rules_at, bound_by, prefixed_by, pri
 use Rattle.scad_parse.specs.Reading.{range_at, name_before, first_word, argument_of}
 use Rattle.scad_parse.specs.declared.reader.Reader.{Reader}
 use Rattle.scad_parse.specs.declared.reader.Open.{Open}
-use Rattle.scad_parse.specs.Standing.{Standing, Turn, Given, Reads, Opens, standing, passed, refused, operator_at, left_out, literal_here, literal_by, word_here, word_by, took, needed}
+use Rattle.scad_parse.specs.Standing.{Standing, Turn, Reads, Opens, standing, passed, operator_at, left_out, literal_here, literal_by, word_here, word_by, took}
 use Rattle.scad_parse.proofs.rules.Steps.{opened_or, opens, passes, follows, turn_refused, out, by_taken, taken}
 
 pub no_rules : (e : Place) → below e 0 ≡ None

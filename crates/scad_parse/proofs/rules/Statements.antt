@@ -1,5 +1,5 @@
 -- The rules of statements and definitions, step by step as the descent takes them.
-use Rattle.std.proofs.Common.{◌≡◌, ℕ, zero, suc, ◌++◌, Bool, true, false, List, [], ◌∷◌, Option, Some, None, Ok, Err}
+use Rattle.std.proofs.Common.{◌≡◌, ℕ, suc, ◌++◌, Bool, true, false, List, [], ◌∷◌, Option, Some, None, Ok, Err}
 use Rattle.std.proofs.Common.{refl, sym, ap, subst, ◌∙◌, length, ◌<◌, arith}
 use Rattle.std.specs.Prelude.{if◌then◌else◌, codes, is_some}
 use Rattle.scad_fault.specs.declared.place.Place.{Place}
@@ -12,11 +12,11 @@ use Rattle.scad_ast.specs.declared.statement.Item.{Item}
 use Rattle.scad_grammar.specs.Tokens.{is_sign, is_key, word_of}
 use Rattle.scad_grammar.specs.Lists.{with_item, with_statement, Marks, no_marks, starred, percented, hashed}
 use Rattle.scad_grammar.specs.StatementSteps.{callee}
-use Rattle.scad_grammar.specs.Machine.{syntax_at, left_out_at}
-use Rattle.scad_grammar.specs.Rules.{Read, then_read, behind_sign, deeper, Rules, expr_of, expr_to, in_round_of}
+use Rattle.scad_grammar.specs.Machine.{left_out_at}
+use Rattle.scad_grammar.specs.Rules.{Read, then_read, behind_sign, deeper, expr_of, expr_to, in_round_of}
 use Rattle.scad_grammar.specs.StatementRules.{StatementRules, statement_of, start_of, definition_of, first_of, marked_first}
 use Rattle.scad_grammar.specs.StatementRules.{call_first, call_by, child_of, otherwise_of, heading_of, heading_by, marked_of}
-use Rattle.scad_grammar.specs.StatementRules.{call_behind_of, choice_behind_of, word_behind_of}
+use Rattle.scad_grammar.specs.StatementRules.{choice_behind_of}
 use Rattle.scad_parse.specs.declared.fault.Form.TheVariants.{Include as IncludeForm, Use as UseForm, Root}
 use Rattle.scad_parse.specs.declared.reader.Reader.{Reader}
 use Rattle.scad_parse.specs.declared.reader.Open.{Open}

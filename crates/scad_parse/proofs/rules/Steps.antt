@@ -1,5 +1,5 @@
 -- Rules one behind another, and where a construct opens.
-use Rattle.std.proofs.Common.{◌≡◌, ℕ, zero, suc, Bool, true, false, List, [], ◌∷◌, Option, Some, None, Result, Ok, Err}
+use Rattle.std.proofs.Common.{◌≡◌, ℕ, zero, suc, Bool, true, false, List, [], ◌∷◌, Option, Some, None, Ok, Err}
 use Rattle.std.proofs.Common.{refl, sym, ap, subst, ◌∙◌}
 use Rattle.std.specs.Prelude.{if◌then◌else◌, is_some}
 use Rattle.scad_fault.specs.declared.place.Place.{Place}
@@ -9,7 +9,6 @@ use Rattle.scad_lex.specs.declared.token.Sign.TheVariants.{OpenRound}
 use Rattle.scad_grammar.specs.Tokens.{is_sign}
 use Rattle.scad_grammar.specs.Machine.{Refusal, syntax_at, left_out_at}
 use Rattle.scad_grammar.specs.Rules.{Read, then_read, behind_sign, deeper, in_round_of}
-use Rattle.scad_parse.specs.declared.fault.Fault.{Fault}
 use Rattle.scad_parse.specs.declared.fault.Fault.TheVariants.{Memory}
 use Rattle.scad_parse.specs.declared.fault.Form.{Form}
 use Rattle.scad_parse.specs.declared.reader.Reader.{Reader}
@@ -36,7 +35,7 @@ pub follows : {A B : Type 0} (f : Place → List Token → Read A) (g : Place �
 follows f g {q} {r} {s} {a} {b} x y = record {
   ends = y.ends ∙ x.ends;
   turn = turn_then (f q.end) (g q.end) (standing q) (standing r) (standing s) a b x.turn
-  (subst (λ e. Turn (g e a) (standing r) (standing s) b) x.ends y.turn);
+      (subst (λ e. Turn (g e a) (standing r) (standing s) b) x.ends y.turn);
 }
 
 -- nothing is read
@@ -192,9 +191,9 @@ module _ {R : Type 0} (lower : Place → ℕ → Option R) (level : Place → �
       by true (suc n) now is =
           let same : o ≡ record { at = u.at; room = n } = cc in
           let p1 : Turn (k o.at (level e o.room)) (Ok us) t b =
-              subst (λ s. Turn (k o.at (level e o.room)) s t b) now p in
+          subst (λ s. Turn (k o.at (level e o.room)) s t b) now p in
           let p2 : Turn (k u.at (level e n)) (Ok us) t b =
-              subst (λ (o : Open). Turn (k o.at (level e o.room)) (Ok us) t b) same p1 in
+          subst (λ (o : Open). Turn (k o.at (level e o.room)) (Ok us) t b) same p1 in
           subst (λ l. Given (deeper l u.at (λ r. k u.at r us)) t b) (sym (some e n)) p2
       by false room now is = absurd (cc)
 
@@ -224,7 +223,7 @@ module _ {R : Type 0} (lower : Place → ℕ → Option R) (level : Place → �
   opens test k rest {room} {o} {q} {r} {s} {b} is x y = record {
     ends = y.ends ∙ x.ends;
     turn = opens_at test room q.end (k q.end) (rest q.end) (standing q) (standing r) (standing s) o b x.now (sym is ∙ x.is)
-    (subst (λ e. Turn (k e o.at (level e o.room)) (standing r) (standing s) b) x.ends y.turn);
+        (subst (λ e. Turn (k e o.at (level e o.room)) (standing r) (standing s) b) x.ends y.turn);
   }
 
   pub passes : {B : Type 0} (test : Token → Bool) (k : Place → Place → R → List Token → Read B)
@@ -234,7 +233,7 @@ module _ {R : Type 0} (lower : Place → ℕ → Option R) (level : Place → �
   passes test k rest {room} {q} {r} {s} {b} is x y = record {
     ends = y.ends ∙ x.ends;
     turn = closes_at test room q.end (k q.end) (rest q.end) (standing q) (standing r) (standing s) b x.now (sym is ∙ x.is)
-    (subst (λ e. Turn (rest e) (standing r) (standing s) b) x.ends y.turn);
+        (subst (λ e. Turn (rest e) (standing r) (standing s) b) x.ends y.turn);
   }
 
   -- ---- a construct that begins at a place
@@ -255,7 +254,7 @@ module _ {R : Type 0} (lower : Place → ℕ → Option R) (level : Place → �
   goes_in k {room} {n} {at} {q} {r} {s} {b} is x y = record {
     ends = y.ends ∙ x.ends;
     turn = goes_at room n at q.end (k q.end) (standing q) (standing r) (standing s) b x.now (sym is ∙ x.is)
-    (subst (λ e. Turn (k e (level e n)) (standing r) (standing s) b) x.ends y.turn);
+        (subst (λ e. Turn (k e (level e n)) (standing r) (standing s) b) x.ends y.turn);
   }
 
   stops_at : {B : Type 0} (room : ℕ) (at e : Place) (k : R → List Token → Read B) (r s : Standing) (b : B) →
@@ -285,7 +284,7 @@ pub boxed_some : {T B : Type 0} {found : Option T} {x : T} {q r : Reader} {a b :
 boxed_some {found = found} {x} {q} {r} {a} {b} is k same = record {
   ends = k.ends;
   turn = subst (λ t. Turn (λ ts. Ok (a, ts)) (standing q) t b) (sym (box_here found x (standing q) (standing r) is k.now))
-  (subst (λ b. Turn (λ ts. Ok (a, ts)) (standing q) (standing q) b) (sym same) (turn_stay (standing q) a));
+      (subst (λ b. Turn (λ ts. Ok (a, ts)) (standing q) (standing q) b) (sym same) (turn_stay (standing q) a));
 }
 
 pub boxed_none : {T B : Type 0} {found : Option T} {q r : Reader} {a b : B} → found ≡ None → Kept found q r →
@@ -293,6 +292,6 @@ pub boxed_none : {T B : Type 0} {found : Option T} {q r : Reader} {a b : B} → 
 boxed_none {found = found} {q} {r} {a} {b} is k = record {
   ends = k.ends;
   turn = subst (λ t. Turn (λ ts. Ok (a, ts)) (standing q) t b)
-  (sym (k.now ∙ ap (λ f. if is_some f then standing q else failed Memory (standing q)) is))
-  (turn_failed a b (standing q));
+      (sym (k.now ∙ ap (λ f. if is_some f then standing q else failed Memory (standing q)) is))
+      (turn_failed a b (standing q));
 }

@@ -21,5 +21,8 @@ returns c =
     (expected Assign (function_value c.args.open.room c.args.open.at (items c.args.scope.items)
     (c.heading-head.result.name, parameters_seen c.heading-head.result.params)) c.expect.ensures
     (follows (λ e ts. expr_to e Semicolon (expr_of e (below e c.args.open.room)) ts)
-    (λ e x vs. Ok (with_item (items c.args.scope.items) (function_of c.args.open.at c.heading-head.result.name
-    (parameters_seen c.heading-head.result.params) x), vs)) c.closed-body.ensures c.pushed.ensures)))
+    (λ e x vs. Ok (
+      with_item (items c.args.scope.items) (function_of c.args.open.at c.heading-head.result.name
+          (parameters_seen c.heading-head.result.params) x),
+      vs,
+    )) c.closed-body.ensures c.pushed.ensures)))

@@ -4,9 +4,15 @@ use Rattle.scad_parse.proofs.rules.Statements.{mark_here, mark_fewer, marks_read
 use Rattle.scad_parse.proofs.mark.marks.Goals as goal
 
 pub marks-preserved : goal.marks-preserved
-marks-preserved c = (c.marks.invariant.0, (c.marks.invariant.1.0, rw (c.with_mark-all.ensures, c.behind-reader.ensures)
-    (c.marks.invariant.1.1 ∙ mark_here (marks_of c.marks.all) c.marks.reader.left.now
-    (sym c.is_mark.ensures ∙ c.marks-test.true))))
+marks-preserved c = (
+  c.marks.invariant.0,
+  (
+    c.marks.invariant.1.0,
+    rw (c.with_mark-all.ensures, c.behind-reader.ensures)
+        (c.marks.invariant.1.1 ∙ mark_here (marks_of c.marks.all) c.marks.reader.left.now
+        (sym c.is_mark.ensures ∙ c.marks-test.true)),
+  ),
+)
 
 pub marks-smaller : goal.marks-smaller
 marks-smaller c = rw c.behind-reader.ensures (mark_fewer c.marks.reader.left.now (sym c.is_mark.ensures ∙ c.marks-test.true))
