@@ -42,7 +42,7 @@ use Rattle.scad_leaves.specs.declared.space.Space.TheVariants.{Solid as Outside,
 use Rattle.scad_leaves.specs.declared.space.Turning.{Turning}
 use Rattle.scad_leaves.specs.declared.space.Where.{Where}
 use Rattle.scad_leaves.specs.Fineness.{fineness}
-use Rattle.scad_leaves.specs.FlatLeaves.{linear_leaf, judge_points, judge_sides, swept, turned_leaf, leaf_in, flat_leaves}
+use Rattle.scad_leaves.specs.FlatLeaves.{linear_leaf, judge_points, judge_sides, swept, profile_turned, turned_leaf, leaf_in, flat_leaves}
 use Rattle.scad_leaves.specs.Products.{tree_limit, placed, leaf, argued, placed_by, judge_solid, judge_flat, judged}
 use Rattle.scad_leaves.specs.Shapes.{primitive_made, first_without_others, flat_made}
 use Rattle.meaning_laws.proofs.MemoryWants.{Reads}
@@ -125,7 +125,7 @@ keeps-swept at ring t whole =
 
 keeps-turned : (at : Place) (name : List ℕ) (o : Outline) (t : Turning) (whole : Matrix)
     → Keeps AreSolids (turned_leaf at name o t whole)
-unfolding turned_leaf
+unfolding turned_leaf profile_turned
 keeps-turned at name o t whole =
     bind (keeps-count_leaf at) (λ _ _. bind (keeps-judge_points at (points_in o)) (λ _ _.
     bind (keeps-argued at name (profile_of t.profile (ring_of o)) (reads-profile t.profile (ring_of o))) (λ ring _.

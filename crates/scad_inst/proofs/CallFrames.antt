@@ -15,11 +15,11 @@ use Rattle.scad_expr.specs.State.{State, Outcome, gives, and_then}
 use Rattle.scad_expr.specs.Variables.{Bound}
 use Rattle.scad_value.proofs.Lists.{arguments-drop, arguments-drop_all, data-drop, data-drop_all}
 use Rattle.scad_expr.proofs.OpenFrames.{call-left}
-use Rattle.scad_inst.specs.Meaning.{statements_meaning}
-use Rattle.scad_inst.specs.Modules.{Found}
-use Rattle.scad_inst.specs.OpenFrames.{call_opened, dollars_of}
-use Rattle.scad_inst.specs.Stack.{own_opened}
-use Rattle.scad_inst.proofs.Levels.{expressions-are}
+use Rattle.scad_members.specs.Meaning.{statements_meaning}
+use Rattle.scad_members.specs.Modules.{Found}
+use Rattle.scad_members.specs.OpenFrames.{call_opened, dollars_of}
+use Rattle.scad_inst.specs.Calls.{own_opened}
+use Rattle.scad_members.proofs.Levels.{expressions-are}
 
 -- ---- a module of the program
 -- its frames are those that `bind` opens, with the children kept

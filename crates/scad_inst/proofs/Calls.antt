@@ -9,14 +9,14 @@ use Rattle.scad_modules.specs.declared.module.Name.TheVariants.{Known, For, Inte
 use Rattle.scad_expr.specs.State.{State, Outcome, gives, refuses, Action, and_then, pure}
 use Rattle.scad_leaves.specs.declared.operation.Operation.TheVariants.{Unite}
 use Rattle.scad_leaves.specs.declared.space.Where.{Where}
-use Rattle.scad_inst.specs.Meaning.{Below, called, called_own, looped, let_in, combined}
+use Rattle.scad_members.specs.Meaning.{Below, called, called_own, looped, let_in, combined}
 use Rattle.scad_expr.specs.Machine.{Held, env_in, along_in}
 use Rattle.scad_expr.specs.Meaning.{bound}
 use Rattle.scad_expr.specs.OpenFrames.{opened_in}
-use Rattle.scad_inst.specs.Modules.{Found}
-use Rattle.scad_inst.specs.OpenFrames.{call_opened}
-use Rattle.scad_inst.specs.Stack.{called_with, own_opened}
-use Rattle.scad_inst.proofs.Levels.{expressions-are}
+use Rattle.scad_members.specs.Modules.{Found}
+use Rattle.scad_members.specs.OpenFrames.{call_opened}
+use Rattle.scad_inst.specs.Calls.{called_with, own_opened}
+use Rattle.scad_members.proofs.Levels.{expressions-are}
 
 module _ (below : Below) (at : Place) (word : List ℕ) (w : Where) (env along : Env) (args : Arguments) (all : Items) (s : State) where
   pub called-for : (n : Name) (own : Option Found) → n ≡ For → called below n own at word w env along args all s

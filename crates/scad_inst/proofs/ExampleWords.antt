@@ -12,7 +12,7 @@ use Rattle.scad_tree.specs.Solid.{Solid, Solids, nothing, surface, union, inters
 use Rattle.scad_machine.specs.declared.fault.EvalFault.{EvalFault}
 use Rattle.scad_machine.specs.declared.fault.EvalFault.TheVariants.{Fault, Over}
 use Rattle.scad_expr.specs.State.{Outcome, gives, refuses}
-use Rattle.scad_inst.specs.Meaning.{means}
+use Rattle.scad_members.specs.Meaning.{means}
 
 -- in line 1
 abbrev pub at : ℕ → Place

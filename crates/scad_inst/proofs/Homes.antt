@@ -7,7 +7,7 @@ use Rattle.scad_ast.specs.declared.statement.Stmt.{Stmt}
 use Rattle.scad_ast.specs.declared.statement.StmtBody.{StmtBody, Call', If'}
 use Rattle.scad_ast.specs.Scope.{item_of, body_of}
 use Rattle.scad_ast.proofs.ScopeRows.{module_view}
-use Rattle.scad_inst.specs.Modules.{module_by}
+use Rattle.scad_members.specs.Modules.{module_by}
 use Rattle.scad_inst.specs.View.{definition}
 
 pub not_statement : (s : Stmt) → module_by (item_of (Run s)) ≡ None

@@ -1,4 +1,3 @@
-pub mod AssignedNames
 pub mod CallFrames
 pub mod ExampleWords
 pub mod ExamplesCalls
@@ -13,12 +12,7 @@ pub mod ExamplesTrees
 pub mod FirstFrames
 pub mod Heights
 pub mod Homes
-pub mod Items
-pub mod KeptRound
-pub mod Levels
 pub mod OnLiterals
-pub mod ScopeFrames
 pub mod Bodies
 pub mod Calls
-pub mod NearRange
 pub mod Onward

@@ -14,15 +14,15 @@ use Rattle.scad_modules.specs.Arguments.{taken}
 use Rattle.scad_modules.specs.Shapes.{primitive_of}
 use Rattle.scad_modules.specs.Transforms.{first_three, matrix_of}
 use Rattle.scad_expr.proofs.OnLiterals.{expressions_on_literals}
-use Rattle.scad_leaves.specs.FlatLeaves.{linear_leaf, judge_points, judge_sides, swept, turned_leaf, leaf_in, flat_leaves}
+use Rattle.scad_leaves.specs.FlatLeaves.{linear_leaf, judge_points, judge_sides, swept, profile_turned, turned_leaf, leaf_in, flat_leaves}
 use Rattle.scad_leaves.specs.Hulls.{judge_united, hulled, hull_leaf, solid_hull, hull_profile, turned_hull, hull_in, hull_made}
 use Rattle.scad_leaves.specs.Products.{count_leaf, count_triangles, placed, leaf, argued, placed_by, judge_solid, judge_flat, judged}
 use Rattle.scad_leaves.specs.Profiles.{with_its_profiles}
 use Rattle.scad_leaves.specs.Shapes.{primitive_made, first_without_others, flat_made}
 use Rattle.scad_leaves.specs.Where.{moved, inside_linear}
-use Rattle.scad_inst.specs.Modules.{module_named, kept_children}
-use Rattle.scad_inst.specs.OpenFrames.{dollars_of}
-use Rattle.scad_inst.specs.Meaning.{assigned_value, assigned, opened_scope, member, members_from, members, combined, called_own, turns, for_variables, looped, let_in, child, children_by, chosen, run_children, built_in, called_known, called, node, statement_layer, statements_meaning, program_of, means}
+use Rattle.scad_members.specs.Modules.{module_named, kept_children}
+use Rattle.scad_members.specs.OpenFrames.{dollars_of}
+use Rattle.scad_members.specs.Meaning.{assigned_value, assigned, opened_scope, member, members_from, members, combined, called_own, turns, for_variables, looped, let_in, child, children_by, chosen, run_children, built_in, called_known, called, node, statement_layer, statements_meaning, program_of, means}
 
 unfoldable pub statements_on_literals : ⊤
 unfolding expressions_on_literals least_step fragments_by_steps fragments_of vertex_angle_of cosines first_quarter
@@ -30,7 +30,7 @@ unfolding expressions_on_literals least_step fragments_by_steps fragments_of ver
     linear_by turned_by outlines_of primitive_of first_three matrix_of moved inside_linear module_named kept_children
     count_leaf count_triangles placed leaf argued placed_by judge_solid judge_flat judged linear_leaf with_its_profiles
     judge_united hulled hull_leaf solid_hull hull_profile turned_hull hull_in hull_made judge_points judge_sides swept
-    turned_leaf leaf_in flat_leaves primitive_made first_without_others flat_made dollars_of assigned_value assigned
+    profile_turned turned_leaf leaf_in flat_leaves primitive_made first_without_others flat_made dollars_of assigned_value assigned
     opened_scope member members_from members combined called_own turns for_variables looped let_in child children_by
     chosen run_children built_in called_known called node statement_layer statements_meaning program_of means
 statements_on_literals = tt

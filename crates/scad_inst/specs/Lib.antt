@@ -1,13 +1,13 @@
 -- What the public calls promise.
-pub mod Choice
-pub mod Meaning
-pub mod Modules
-pub mod OpenFrames
-pub mod Scopes
 pub mod Model
+-- What lies below.
+pub use Rattle.scad_members.specs.Choice
+pub use Rattle.scad_members.specs.Meaning
+pub use Rattle.scad_members.specs.Modules
+pub use Rattle.scad_members.specs.OpenFrames
+pub use Rattle.scad_members.specs.Scopes
 -- What only the steps of the code promise to one another.
-pub mod Frames
+pub mod Calls
 pub mod FirstFrames
-pub mod Stack
+pub mod Turns
 pub mod View
-pub mod ChildRange

@@ -7,7 +7,7 @@ use Rattle.scad_scope.specs.Env.{Env}
 use Rattle.scad_scope.specs.FrameStore.{env_at}
 use Rattle.scad_inst.specs.declared.modules.Defined.{Defined}
 use Rattle.scad_inst.specs.declared.modules.DefinedAt.{DefinedAt}
-use Rattle.scad_inst.specs.Modules.{Module, Found}
+use Rattle.scad_members.specs.Modules.{Module, Found}
 
 -- a module that is defined by these parameters and these items
 abbrev pub definition : List Param → List Item → Module

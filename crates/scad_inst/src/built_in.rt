@@ -9,26 +9,23 @@ ghost use Rattle.scad_value.specs.Datum.{Datum};
 ghost use Rattle.scad_value.specs.View.{data_of};
 ghost use Rattle.scad_expr.specs.Machine.{held, env_in, along_in, state_of};
 ghost use Rattle.scad_expr.specs.State.{Outcome};
-ghost use Rattle.scad_inst.specs.Frames.{below_of};
-ghost use Rattle.scad_inst.specs.Meaning.{built_in};
-ghost use Rattle.scad_inst.specs.Stack.{Goes, onward};
+ghost use Rattle.scad_members.specs.Frames.{below_of};
+ghost use Rattle.scad_members.specs.Meaning.{built_in};
+ghost use Rattle.scad_members.specs.Stack.{Goes, onward};
 ghost use Rattle.scad_modules.specs.declared.module.Module.TheVariants.{Extrusion as IsExtrusion, Transform as IsTransform, Hull as IsHull, Echo as IsEcho, Assert as IsAssert};
 ghost use Rattle.scad_modules.specs.declared.module.Extrusion.TheVariants.{Linear as IsLinear, Rotate as IsRotate};
 
-use crate::children::children;
-use crate::members::combined;
-use crate::stack::Stack;
-use crate::work::{Focus, Frame, at_work};
 use scad_expr::{EvalFault, Machine, asserted};
 use scad_leaves::{
-    Call, Operation, Space, Where, called_resolution, flat_shape, height_argued, inside_linear,
-    judge_solid, matrix_argued, moved_by, primitive, profile_count, turned_at,
+    Call, Operation, Space, Where, argued, called_resolution, flat_shape, inside_linear,
+    judge_solid, moved_by, primitive, profile_count, turned_at,
 };
+use scad_members::{Focus, Frame, Stack, at_work, children, combined};
 use scad_modules::{Extrusion, Module, Transform, linear_by, matrix_of, taken};
 use scad_value::Value;
 
 /// A module of the language, inside its frames.
-#[tactic(auto, using(crate::proofs::Onward::nodes), unfolding(crate::specs::Meaning::built_in, crate::specs::Stack::goes_on))]
+#[tactic(auto, using(crate::proofs::Onward::nodes), unfolding(scad_members::specs::Meaning::built_in, scad_members::specs::Stack::goes_on))]
 pub(crate) fn built_in<'p>(
     known: Module,
     call: Call<'p>,
@@ -62,7 +59,7 @@ pub(crate) fn built_in<'p>(
 }
 
 /// `linear_extrude`.
-#[tactic(auto, using(crate::proofs::Onward::nodes), unfolding(crate::specs::Meaning::built_in))]
+#[tactic(auto, using(crate::proofs::Onward::nodes), unfolding(scad_members::specs::Meaning::built_in))]
 fn linear_extrude<'p>(
     call: Call<'p>,
     found: &[Value],
@@ -76,13 +73,13 @@ fn linear_extrude<'p>(
         call.entry.all.now.items) (state_of m.old)) stack.old m.old → Goes o result stack.new m.new }
 {
     judge_solid(stack.alloc, call.at, w.space)?;
-    let height = height_argued(stack.alloc, call.at, call.name, linear_by(call.args, found))?;
+    let height = argued(stack.alloc, call.at, call.name, linear_by(call.args, found))?;
     let inner = inside_linear(&w.whole, height);
     combined(Operation::Unite, call.at, call.all, &inner, stack, m)
 }
 
 /// `rotate_extrude`.
-#[tactic(auto, using(crate::proofs::Onward::nodes), unfolding(crate::specs::Meaning::built_in))]
+#[tactic(auto, using(crate::proofs::Onward::nodes), unfolding(scad_members::specs::Meaning::built_in))]
 fn rotate_extrude<'p>(
     call: Call<'p>,
     found: &[Value],
@@ -106,7 +103,7 @@ fn rotate_extrude<'p>(
 }
 
 /// `translate`, `scale`, `rotate`, `mirror` and `multmatrix`.
-#[tactic(auto, using(crate::proofs::Onward::nodes), unfolding(crate::specs::Meaning::built_in))]
+#[tactic(auto, using(crate::proofs::Onward::nodes), unfolding(scad_members::specs::Meaning::built_in))]
 fn transformed<'p>(
     transform: Transform,
     call: Call<'p>,
@@ -121,13 +118,13 @@ fn transformed<'p>(
         call.entry.all.now.items) (state_of m.old)) stack.old m.old → Goes o result stack.new m.new }
 {
     let read = matrix_of(transform, call.args, found);
-    let by = matrix_argued(stack.alloc, call.at, call.name, read)?;
+    let by = argued(stack.alloc, call.at, call.name, read)?;
     let inner = moved_by(stack.alloc, call.at, w, &by)?;
     combined(Operation::Unite, call.at, call.all, &inner, stack, m)
 }
 
 /// `hull`: its children are united, and then it is made of their tree.
-#[tactic(auto, using(crate::proofs::Onward::nodes), unfolding(crate::specs::Meaning::built_in))]
+#[tactic(auto, using(crate::proofs::Onward::nodes), unfolding(scad_members::specs::Meaning::built_in))]
 fn hull<'p>(
     call: Call<'p>,
     w: &Where,
@@ -145,7 +142,7 @@ fn hull<'p>(
 }
 
 /// `echo`.
-#[tactic(auto, using(crate::proofs::Onward::nodes), unfolding(crate::specs::Meaning::built_in))]
+#[tactic(auto, using(crate::proofs::Onward::nodes), unfolding(scad_members::specs::Meaning::built_in))]
 fn echo<'p>(
     call: Call<'p>,
     found: &[Value],
@@ -163,7 +160,7 @@ fn echo<'p>(
 }
 
 /// `assert`.
-#[tactic(auto, using(crate::proofs::Onward::nodes), unfolding(crate::specs::Meaning::built_in))]
+#[tactic(auto, using(crate::proofs::Onward::nodes), unfolding(scad_members::specs::Meaning::built_in))]
 fn assert<'p>(
     call: Call<'p>,
     found: &[Value],

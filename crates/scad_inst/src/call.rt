@@ -9,28 +9,26 @@ ghost use Rattle.scad_scope.specs.FrameStore.{envs};
 ghost use Rattle.scad_modules.specs.declared.module.Name.TheVariants.{For, Let};
 ghost use Rattle.scad_expr.specs.Machine.{held, env_in, along_in, state_of};
 ghost use Rattle.scad_expr.specs.State.{Outcome};
-ghost use Rattle.scad_inst.specs.Frames.{below_of};
-ghost use Rattle.scad_inst.specs.Meaning.{node, called};
-ghost use Rattle.scad_inst.specs.Modules.{module_named};
-ghost use Rattle.scad_inst.specs.Stack.{called_with, known_with, refused_with, Goes, onward};
+ghost use Rattle.scad_members.specs.Frames.{below_of};
+ghost use Rattle.scad_members.specs.Meaning.{node, called};
+ghost use Rattle.scad_members.specs.Modules.{module_named};
+ghost use Rattle.scad_members.specs.Stack.{Goes, onward};
+ghost use Rattle.scad_inst.specs.Calls.{called_with, known_with, refused_with};
 ghost use Rattle.scad_inst.specs.View.{found_at};
 
 use crate::built_in::built_in;
-use crate::frames::{open_known, open_own};
+use crate::call_frames::{open_known, open_own};
 use crate::lookup::module_named;
-use crate::members::combined;
 use crate::modules::DefinedAt;
-use crate::stack::Stack;
-use crate::turn::{let_in, looped};
-use crate::work::{Focus, Frame};
 use scad_expr::{EvalFault, Machine, values};
 use scad_fault::FaultKind;
 use scad_leaves::{Call, Operation, Where};
 use scad_machine::named_fault;
+use scad_members::{Focus, Frame, Stack, combined, let_in, looped};
 use scad_modules::{Module, Name, meaning_of};
 
 /// A call, by what its name means.
-#[tactic(auto, using(crate::proofs::Calls::meanings, crate::proofs::Onward::nodes), unfolding(crate::specs::Meaning::node))]
+#[tactic(auto, using(crate::proofs::Calls::meanings, crate::proofs::Onward::nodes), unfolding(scad_members::specs::Meaning::node))]
 pub(crate) fn call<'p>(
     call: Call<'p>,
     w: &Where,
@@ -72,7 +70,7 @@ fn called<'p>(
 }
 
 /// A call of a module of the program.
-#[tactic(auto, using(crate::proofs::Calls::own_frames, crate::proofs::Onward::nodes), unfolding(crate::specs::Stack::called_with))]
+#[tactic(auto, using(crate::proofs::Calls::own_frames, crate::proofs::Onward::nodes), unfolding(crate::specs::Calls::called_with))]
 fn called_own<'p>(
     own: DefinedAt<'p>,
     call: Call<'p>,
@@ -93,7 +91,7 @@ fn called_own<'p>(
 }
 
 /// A call of a name that the program doesn't define.
-#[tactic(auto, unfolding(crate::specs::Meaning::called, crate::specs::Stack::known_with, crate::specs::Stack::refused_with))]
+#[tactic(auto, unfolding(scad_members::specs::Meaning::called, crate::specs::Calls::known_with, crate::specs::Calls::refused_with))]
 fn called_by<'p>(
     meaning: Name,
     call: Call<'p>,
@@ -117,7 +115,7 @@ fn called_by<'p>(
 }
 
 /// A name that is refused after the arguments were evaluated.
-#[tactic(auto, using(crate::proofs::Levels::expressions), unfolding(crate::specs::Stack::refused_with, scad_machine::specs::State::fault_of))]
+#[tactic(auto, using(scad_members::proofs::Levels::expressions), unfolding(crate::specs::Calls::refused_with, scad_machine::specs::State::fault_of))]
 fn refused<'p>(
     kind: FaultKind,
     call: Call<'p>,
@@ -133,7 +131,7 @@ fn refused<'p>(
 }
 
 /// A call of a module of the language: its `$` arguments are set in frames of its own.
-#[tactic(auto, using(crate::proofs::Levels::expressions, crate::proofs::Onward::nodes), unfolding(crate::specs::Stack::known_with, crate::specs::Meaning::called_known, crate::specs::Stack::onto))]
+#[tactic(auto, using(scad_members::proofs::Levels::expressions, crate::proofs::Onward::nodes), unfolding(crate::specs::Calls::known_with, scad_members::specs::Meaning::called_known, scad_members::specs::Stack::onto))]
 fn called_known<'p>(
     known: Module,
     call: Call<'p>,

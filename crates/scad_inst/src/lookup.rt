@@ -4,7 +4,7 @@ ghost use Rattle.std.specs.Prelude.{◌≡◌, ◌<◌, length, option_map, IfOk
 ghost use Rattle.scad_ast.specs.Scope.{item_of};
 ghost use Rattle.scad_scope.specs.FrameStore.{envs};
 ghost use Rattle.scad_expr.specs.Machine.{held, env_in, state_of};
-ghost use Rattle.scad_inst.specs.Modules.{module_by, module_named};
+ghost use Rattle.scad_members.specs.Modules.{module_by, module_named};
 ghost use Rattle.scad_inst.specs.View.{module_at, found_at};
 
 use crate::modules::{Defined, DefinedAt};
@@ -27,7 +27,7 @@ fn module_by<'p>(item: &'p Item) -> Option<Defined<'p>>
 }
 
 /// The module of a name in the innermost scope that has one.
-#[tactic(auto, unfolding(crate::specs::Modules::module_named))]
+#[tactic(auto, unfolding(scad_members::specs::Modules::module_named))]
 pub(crate) fn module_named<'p>(
     m: &mut Machine<'p>,
     name: &[u8],

@@ -1,7 +1,6 @@
-//! Modules of the program, and variables of a `for`, as they stand in memory.
+//! Modules of the program, as they stand in memory.
 
 use scad_ast::{Params, Scope};
-use scad_leaves::Call;
 
 /// The parameters and the body of a module.
 #[derive(Clone, Copy)]
@@ -15,12 +14,4 @@ pub(crate) struct Defined<'p> {
 pub(crate) struct DefinedAt<'p> {
     pub(crate) module: Defined<'p>,
     pub(crate) home: u32,
-}
-
-/// A variable of a `for`, with the number of the argument behind it.
-#[derive(Clone, Copy)]
-pub(crate) struct Variable<'p> {
-    pub(crate) call: Call<'p>,
-    pub(crate) name: &'p [u8],
-    pub(crate) next: usize,
 }

@@ -6,8 +6,8 @@ ghost use Rattle.scad_ast.specs.Scope.{items, program_of};
 ghost use Rattle.scad_tree.specs.Solid.{Solid};
 ghost use Rattle.scad_tree.specs.View.{solid_of};
 ghost use Rattle.scad_expr.specs.Answers.{Does};
-ghost use Rattle.scad_inst.specs.Meaning.{means};
-ghost use Rattle.scad_inst.specs.Meaning.{program_of as outcome_of};
+ghost use Rattle.scad_members.specs.Meaning.{means};
+ghost use Rattle.scad_members.specs.Meaning.{program_of as outcome_of};
 ghost use Rattle.scad_inst.specs.Model.{Makes};
 ghost use Rattle.scad_value.specs.Datum.{number, boolean};
 ghost use Rattle.scad_value.specs.View.{datum_of};
@@ -19,15 +19,12 @@ ghost use Rattle.scad_machine.specs.declared.fault.EvalFault.TheVariants.{Memory
 ghost use Rattle.scad_inst.specs.FirstFrames.{outermost};
 
 use crate::answers::{Model, ModelEnd};
-use crate::frames::here;
 use crate::run::run;
-use crate::scopes::open_scope;
-use crate::stack::Stack;
-use crate::work::Focus;
 use scad_ast::{Program, Scope};
 use scad_expr::{DEPTH_LIMIT, EvalFault, Machine, STEP_LIMIT};
 use scad_fault::Text;
 use scad_leaves::at_first;
+use scad_members::{Focus, Stack, here, open_scope};
 use scad_num::Num;
 use scad_scope::Frames;
 use scad_tree::Tree;
@@ -145,7 +142,7 @@ fn answer(tree: Result<Tree, EvalFault>, echoes: Vec<Text>) -> Result<Model, Mod
 }
 
 /// What a program makes in the machine before it.
-#[tactic(auto, unfolding(crate::specs::Meaning::means))]
+#[tactic(auto, unfolding(scad_members::specs::Meaning::means))]
 fn made_in<'p>(alloc: Global, program: &'p Program, m: Machine<'p>) -> Result<Model, ModelEnd>
     requires env { env_in (held m) ≡ first_env }
     requires along { along_in (held m) ≡ first_along }

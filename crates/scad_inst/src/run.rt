@@ -8,17 +8,15 @@ ghost use Rattle.scad_expr.specs.Answers.{Does};
 ghost use Rattle.scad_expr.specs.Machine.{held, state_of};
 ghost use Rattle.scad_expr.specs.State.{gives};
 ghost use Rattle.scad_leaves.specs.Profiles.{with_its_profiles};
-ghost use Rattle.scad_inst.specs.Stack.{Goes, Ends, IsMore, rest, made_in, goes_on, onto};
+ghost use Rattle.scad_inst.specs.Turns.{Ends, IsMore};
+ghost use Rattle.scad_members.specs.Stack.{Goes, rest, made_in, goes_on, onto};
 
-use crate::children::children_by;
-use crate::frames::go_back;
-use crate::members::{made_of, members};
-use crate::stack::Stack;
-use crate::turn::{turns, variables};
 use crate::walk::{statement, unless_marked};
-use crate::work::{Focus, Frame, at_work};
 use scad_expr::{EvalFault, Machine};
 use scad_leaves::{hull_made, with_its_profiles};
+use scad_members::{
+    Focus, Frame, Stack, at_work, children_by, go_back, made_of, members, turns, variables,
+};
 use scad_tree::{Tree, unite};
 use std::alloc::AllocError;
 
@@ -42,7 +40,7 @@ fn statement_tree<'p>(marked: bool, from: usize, tree: Tree, m: &mut Machine<'p>
 }
 
 /// A frame has its tree.
-#[tactic(auto, using(crate::proofs::Onward::nodes, crate::proofs::Onward::given_frames), unfolding(crate::specs::Stack::onto, crate::specs::Stack::goes_on))]
+#[tactic(auto, using(crate::proofs::Onward::nodes, crate::proofs::Onward::given_frames), unfolding(scad_members::specs::Stack::onto, scad_members::specs::Stack::goes_on))]
 fn given<'p>(
     frame: Frame<'p>,
     tree: Tree,
@@ -90,7 +88,7 @@ fn more<'p>(focus: Result<Focus<'p>, EvalFault>) -> Result<Next<'p>, EvalFault>
 }
 
 /// One turn.
-#[tactic(auto, unfolding(crate::specs::Stack::goes_on))]
+#[tactic(auto, unfolding(scad_members::specs::Stack::goes_on))]
 fn turn<'p>(
     focus: Focus<'p>,
     stack: &mut Stack<'p>,

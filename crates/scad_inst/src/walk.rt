@@ -8,27 +8,23 @@ ghost use Rattle.scad_tree.specs.Solid.{Solid, nothing};
 ghost use Rattle.scad_tree.specs.View.{solid_of};
 ghost use Rattle.scad_expr.specs.Machine.{held, env_in, along_in, state_of};
 ghost use Rattle.scad_expr.specs.State.{Outcome};
-ghost use Rattle.scad_inst.specs.Frames.{below_of};
-ghost use Rattle.scad_inst.specs.Meaning.{node};
-ghost use Rattle.scad_inst.specs.Stack.{Goes, onward};
+ghost use Rattle.scad_members.specs.Frames.{below_of};
+ghost use Rattle.scad_members.specs.Meaning.{node};
+ghost use Rattle.scad_members.specs.Stack.{Goes, onward};
 
 use crate::call::call;
-use crate::frames::{depth, go_deeper};
-use crate::item::{is_marked, item_place};
-use crate::members::combined;
-use crate::stack::Stack;
-use crate::work::{Focus, Frame};
 use scad_ast::{Expr, Item, Scope, Stmt, StmtBody};
 use scad_expr::{EvalFault, Machine, eval};
 use scad_fault::{BudgetKind, Place};
 use scad_leaves::{Call, Operation, Where, profile_count};
 use scad_machine::over;
+use scad_members::{Focus, Frame, Stack, combined, depth, go_deeper, is_marked, item_place};
 use scad_tree::Tree;
 use scad_value::truth;
 
 /// A statement takes a step as it begins, with the levels of depth that the machine has left for it, and what it
 /// holds or calls stands one deeper.
-#[tactic(auto, using(crate::proofs::Levels::levels), unfolding(scad_machine::specs::State::over))]
+#[tactic(auto, using(scad_members::proofs::Levels::levels), unfolding(scad_machine::specs::State::over))]
 pub(crate) fn statement<'p>(
     item: &'p Item,
     w: &Where,
@@ -58,7 +54,7 @@ pub(crate) fn unless_marked(marked: bool, tree: Tree) -> Tree
 }
 
 /// Definitions and assignments aren't run.
-#[tactic(auto, using(crate::proofs::Items::kinds), unfolding(crate::specs::Meaning::node, crate::specs::Stack::goes_on))]
+#[tactic(auto, using(scad_members::proofs::Items::kinds), unfolding(scad_members::specs::Meaning::node, scad_members::specs::Stack::goes_on))]
 fn node<'p>(
     item: &'p Item,
     w: &Where,
@@ -131,7 +127,7 @@ struct Choice<'p> {
 }
 
 /// The test, and then the chosen statements as one scope.
-#[tactic(auto, using(crate::proofs::Levels::expressions, crate::proofs::Onward::nodes), unfolding(crate::specs::Meaning::node))]
+#[tactic(auto, using(scad_members::proofs::Levels::expressions, crate::proofs::Onward::nodes), unfolding(scad_members::specs::Meaning::node))]
 fn choose<'p>(
     branch: Choice<'p>,
     w: &Where,

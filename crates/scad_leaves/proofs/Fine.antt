@@ -14,7 +14,7 @@ pub not-refused : {A B : Type 0} (a : A) (s t : State) (e : EvalFault) (o : Outc
     → o ≡ refuses e t
 not-refused a s t e o is = absurd (cc)
 
-same-value : {A : Type 0} (a b : A) (s t : State) → gives a s ≡ gives b t → a ≡ b
+pub same-value : {A : Type 0} (a b : A) (s t : State) → gives a s ≡ gives b t → a ≡ b
 same-value a b s t is = cc
 
 abbrev fine : Datum → Datum → Datum → Fineness

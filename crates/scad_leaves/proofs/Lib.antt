@@ -3,4 +3,5 @@ pub mod FlatRounds
 pub mod HullFacts
 pub mod KeptPoints
 pub mod MadeTrees
+pub mod Readings
 pub mod Sweeps

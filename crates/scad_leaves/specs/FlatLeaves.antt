@@ -44,6 +44,13 @@ swept at ring t whole = do
   count_triangles (triangles_of (Sweep (length ring) (turns_of t.resolution ring))) at
   placed at (turned_of ring (turns_of t.resolution ring) whole)
 
+-- a placed profile is judged, kept for a hull and turned
+unfoldable pub profile_turned : Place → List Pair → Turning → Matrix → Action Solid
+profile_turned at ring t whole = do
+  judge_sides t.word ring
+  keep_profile ring
+  swept at ring t whole
+
 -- a leaf is counted, then the points of its outline are judged; the outline is placed as a profile, which is judged
 -- in its turn, kept for a hull and turned
 unfoldable pub turned_leaf : Place → List ℕ → Outline → Turning → Matrix → Action Solid
@@ -51,20 +58,7 @@ turned_leaf at name o t whole = do
   count_leaf at
   judge_points at (points_in o)
   ring ← argued at name (profile_of t.profile (ring_of o))
-  judge_sides t.word ring
-  keep_profile ring
-  swept at ring t whole
-
--- the profile of a leaf
-unfoldable pub profile_made : Place → List ℕ → Outline → Matrix → Action (List Pair)
-profile_made at name o by = argued at name (profile_of by (ring_of o))
-
--- it is judged, kept for a hull and turned
-unfoldable pub profile_turned : Place → List Pair → Turning → Matrix → Action Solid
-profile_turned at ring t whole = do
-  judge_sides t.word ring
-  keep_profile ring
-  swept at ring t whole
+  profile_turned at ring t whole
 
 -- ---- inside either
 unfoldable pub leaf_in : Place → List ℕ → Outline → Matrix → Space → Action Solid

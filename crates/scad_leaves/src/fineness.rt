@@ -10,7 +10,7 @@ ghost use Rattle.scad_machine.specs.State.{gives};
 ghost use Rattle.scad_leaves.specs.Fineness.{fineness};
 ghost use Rattle.scad_leaves.specs.Products.{argued};
 
-use crate::arguments::resolution_argued;
+use crate::arguments::argued;
 use crate::call::Call;
 use scad_machine::{EvalFault, Machine};
 use scad_modules::{Fineness, Resolution, turned_by};
@@ -42,5 +42,5 @@ pub fn called_resolution<'p>(
 {
     let fine = fineness(alloc, m)?;
     let read = turned_by(&fine, call.args, found);
-    resolution_argued(alloc, call.at, call.name, read)
+    argued(alloc, call.at, call.name, read)
 }

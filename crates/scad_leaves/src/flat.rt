@@ -5,18 +5,19 @@ ghost use Rattle.scad_shapes.specs.Limits.{triangle_limit};
 ghost use Rattle.std.specs.List.{list_all};
 ghost use Rattle.scad_extrude.specs.Count.{triangles_of as triangles_in};
 ghost use Rattle.scad_extrude.specs.declared.count.FlatForm.TheVariants.{Linear as Prism, Turned as Sweep};
-ghost use Rattle.scad_modules.specs.Outline.{is_outline, points_in as count_of};
+ghost use Rattle.scad_modules.specs.Outline.{is_outline, points_in as count_of, ring_of};
+ghost use Rattle.scad_modules.specs.Profile.{profile_of};
 ghost use Rattle.scad_modules.specs.Primitive.{are_fragments};
 ghost use Rattle.scad_modules.specs.View.{outline, outlines};
 ghost use Rattle.scad_tree.specs.View.{solid_of};
 ghost use Rattle.scad_machine.specs.Answers.{Does, nothing};
 ghost use Rattle.scad_machine.specs.Machine.{held, state_of};
 ghost use Rattle.scad_machine.specs.State.{State};
-ghost use Rattle.scad_leaves.specs.FlatLeaves.{linear_leaf, judge_points, judge_sides, swept, turned_leaf, leaf_in, flat_leaves, profile_made, profile_turned};
-ghost use Rattle.scad_leaves.specs.Products.{count_triangles};
+ghost use Rattle.scad_leaves.specs.FlatLeaves.{linear_leaf, judge_points, judge_sides, swept, turned_leaf, leaf_in, flat_leaves, profile_turned};
+ghost use Rattle.scad_leaves.specs.Products.{argued, count_triangles};
 ghost use Rattle.scad_leaves.specs.View.{trees_in};
 
-use crate::arguments::profile_argued;
+use crate::arguments::argued;
 use crate::leaves::{TRIANGLE_LIMIT, count_leaf, count_triangles, placed};
 use crate::profiles::keep_profile;
 use crate::space::{Space, Turning, Where};
@@ -138,7 +139,7 @@ pub(crate) fn swept<'p>(
 }
 
 /// The outline of a leaf, placed as a profile.
-#[tactic(auto, unfolding(crate::specs::FlatLeaves::profile_made))]
+#[tactic(auto, using(crate::proofs::Readings::readings))]
 fn profile_made(
     alloc: Global,
     leaf: FlatLeaf,
@@ -146,13 +147,13 @@ fn profile_made(
     by: &Matrix,
 ) -> Result<Vec<(Num, Num)>, EvalFault>
     requires { is_outline (outline leaf.shape.now) ≡ true }
-    ensures does { (s : State) → Does (λ v. v.items) (profile_made leaf.entry.at name.now (outline
-        leaf.entry.shape.now) by.now s) result s }
+    ensures does { (s : State) → Does (λ v. v.items) (argued leaf.entry.at name.now (profile_of by.now (ring_of (outline
+        leaf.entry.shape.now))) s) result s }
     ensures count { IfOk result (λ v. length v.items ≡ count_of (outline leaf.entry.shape.now)) }
     ensures some { IfOk result (λ v. 3 ≤ length v.items) }
 {
     let ring = ring_of(alloc, leaf.shape)?;
-    profile_argued(alloc, leaf.at, name, profile_of(alloc, by, &ring))
+    argued(alloc, leaf.at, name, profile_of(alloc, by, &ring))
 }
 
 /// A placed profile is judged, kept for a hull and turned.
@@ -177,7 +178,7 @@ fn profile_turned<'p>(
 
 /// A leaf inside `rotate_extrude`: it is counted, then the points of its outline are judged; the outline is
 /// placed as a profile, which is judged in its turn, kept for a hull and turned.
-#[tactic(auto, unfolding(crate::specs::FlatLeaves::turned_leaf, crate::specs::FlatLeaves::profile_made, crate::specs::FlatLeaves::profile_turned))]
+#[tactic(auto, unfolding(crate::specs::FlatLeaves::turned_leaf))]
 fn turned_leaf<'p>(
     alloc: Global,
     leaf: FlatLeaf,

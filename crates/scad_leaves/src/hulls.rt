@@ -135,26 +135,6 @@ fn hull_profile<'p>(
     swept(alloc, stand.at, points, t, &stand.whole, m)
 }
 
-/// No hull is no profile.
-#[tactic(auto, unfolding(crate::specs::Hulls::hull_profile))]
-fn hull_turned<'p>(
-    stand: Stand,
-    t: &Turning,
-    alloc: Global,
-    found: Option<Ring2>,
-    m: &mut Machine<'p>,
-) -> Result<Tree, EvalFault>
-    requires { IfSome found (λ r. 3 ≤ length r) }
-    ensures does { Does solid_of (hull_profile stand.at stand.from t.now stand.whole found (state_of m.old)) result
-        (state_of m.new) }
-    ensures kept { held m.new ≡ held m.old }
-{
-    match found {
-        Some(ring) => hull_profile(stand, t, alloc, ring.as_slice(), m),
-        None => Ok(Tree::empty()),
-    }
-}
-
 /// Where a hull inside `rotate_extrude` stands, and the number from which on the points of profiles are its own.
 #[derive(Clone, Copy)]
 struct Stand {
@@ -163,8 +143,8 @@ struct Stand {
     whole: Matrix,
 }
 
-/// A hull of the points of profiles.
-#[tactic(auto, unfolding(crate::specs::Hulls::turned_hull, scad_machine::specs::Machine::state_of))]
+/// A hull of the points of profiles; no hull is no profile.
+#[tactic(auto, unfolding(crate::specs::Hulls::turned_hull, crate::specs::Hulls::hull_profile, scad_machine::specs::Machine::state_of))]
 fn turned_hull<'p>(
     stand: Stand,
     t: &Turning,
@@ -175,8 +155,10 @@ fn turned_hull<'p>(
         m.new) }
     ensures kept { held m.new ≡ held m.old }
 {
-    let found = ring_round(alloc, stand.at, stand.from, m)?;
-    hull_turned(stand, t, alloc, found, m)
+    match ring_round(alloc, stand.at, stand.from, m)? {
+        Some(ring) => hull_profile(stand, t, alloc, ring.as_slice(), m),
+        None => Ok(Tree::empty()),
+    }
 }
 
 /// The hull of the tree of its children, whose profiles' points are those from a number on: a solid, inside

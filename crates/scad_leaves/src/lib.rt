@@ -16,7 +16,7 @@ mod shapes;
 mod space;
 mod trees;
 
-pub use arguments::{height_argued, matrix_argued, moved_by};
+pub use arguments::{argued, moved_by};
 pub use call::Call;
 pub use dimensions::judge_solid;
 pub use fineness::called_resolution;

@@ -16,7 +16,7 @@ ghost use Rattle.scad_leaves.specs.Fineness.{fineness};
 ghost use Rattle.scad_leaves.specs.Products.{argued};
 ghost use Rattle.scad_leaves.specs.Shapes.{primitive_made, first_without_others, flat_made};
 
-use crate::arguments::{outlines_argued, primitive_argued};
+use crate::arguments::argued;
 use crate::call::Call;
 use crate::dimensions::{judge_flat, judge_solid};
 use crate::fineness::fineness;
@@ -32,6 +32,7 @@ use scad_value::Value;
 use std::alloc::Global;
 
 /// The primitive that the arguments of a call say.
+#[tactic(auto, using(crate::proofs::Readings::readings))]
 fn called_primitive<'p>(
     alloc: Global,
     shape: Shape,
@@ -46,7 +47,7 @@ fn called_primitive<'p>(
 {
     let fine = fineness(alloc, m)?;
     let read = primitive_of(alloc, shape, &fine, call.args, found);
-    primitive_argued(alloc, call.at, call.name, read)
+    argued(alloc, call.at, call.name, read)
 }
 
 /// `cube`, `sphere`, `cylinder` and `polyhedron` by the values of their arguments: a leaf. MixedDimensions inside an
@@ -72,6 +73,7 @@ pub fn primitive<'p>(
 }
 
 /// The outlines that the arguments of a call say.
+#[tactic(auto, using(crate::proofs::Readings::readings))]
 fn called_outlines<'p>(
     alloc: Global,
     flat: Flat,
@@ -86,7 +88,7 @@ fn called_outlines<'p>(
 {
     let fine = fineness(alloc, m)?;
     let read = outlines_of(alloc, flat, &fine, call.args, found);
-    outlines_argued(alloc, call.at, call.name, read)
+    argued(alloc, call.at, call.name, read)
 }
 
 /// The leaves of outlines, and the first without the others.

@@ -1,7 +1,7 @@
 //! Where a statement's shapes stand.
 
 ghost use Rattle.std.specs.Prelude.{◌≡◌};
-ghost use Rattle.scad_leaves.specs.Where.{unmoved, at_first, inside_linear, moved, moved_in, turned_at};
+ghost use Rattle.scad_leaves.specs.Where.{unmoved, at_first, inside_linear, moved, turned_at};
 
 use scad_fault::Place;
 use scad_matrix::{Matrix, MatrixFault, translate};
@@ -76,10 +76,14 @@ pub fn turned_at(word: Place, resolution: Resolution) -> Turning
     }
 }
 
-fn moved_in(whole: &Matrix, m: &Matrix, space: Space) -> Result<Where, MatrixFault>
-    ensures { result ≡ moved_in whole.now m.now space }
+/// A transformation by a matrix. Inside an extrusion it acts by its x and y rows and columns alone, and
+/// inside `rotate_extrude` apart from the whole matrix.
+#[tactic(auto, unfolding(crate::specs::Where::moved))]
+pub(crate) fn moved(w: &Where, m: &Matrix) -> Result<Where, MatrixFault>
+    ensures { result ≡ moved w.now m.now }
 {
-    match space {
+    let whole = &w.whole;
+    match w.space {
         Space::Solid => Ok(Where {
             whole: whole.compose(m)?,
             space: Space::Solid,
@@ -96,13 +100,4 @@ fn moved_in(whole: &Matrix, m: &Matrix, space: Space) -> Result<Where, MatrixFau
             }),
         }),
     }
-}
-
-/// A transformation by a matrix. Inside an extrusion it acts by its x and y rows and columns alone, and
-/// inside `rotate_extrude` apart from the whole matrix.
-#[tactic(auto, unfolding(crate::specs::Where::moved))]
-pub(crate) fn moved(w: &Where, m: &Matrix) -> Result<Where, MatrixFault>
-    ensures { result ≡ moved w.now m.now }
-{
-    moved_in(&w.whole, m, w.space)
 }

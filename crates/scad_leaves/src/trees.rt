@@ -14,7 +14,7 @@ use scad_tree::{Tree, intersect, subtract, unite};
 use std::alloc::{AllocError, Global};
 
 /// How deep the parts of a tree lie in one another at most.
-const NESTING: u32 = 200;
+const TREE_LIMIT: u32 = 200;
 
 /// The tree of an operation, in normal form.
 fn operated(alloc: Global, operation: Operation, members: Vec<Tree>) -> Result<Tree, AllocError>
@@ -27,20 +27,9 @@ fn operated(alloc: Global, operation: Operation, members: Vec<Tree>) -> Result<T
     }
 }
 
-/// Depth where the parts of the tree lie too deep in one another.
-#[tactic(auto, unfolding(crate::specs::Products::judged, scad_machine::specs::State::over))]
-fn judged(at: Place, tree: Tree) -> Result<Tree, EvalFault>
-    ensures { (s : State) → Does solid_of (judged at (solid_of tree) s) result s }
-{
-    if tree.nesting() > NESTING {
-        Err(over(BudgetKind::Depth, at))
-    } else {
-        Ok(tree)
-    }
-}
-
 /// The tree of an operation that the statement at a place makes; the budget Depth where its parts lie more than 200
 /// deep in one another.
+#[tactic(auto, unfolding(crate::specs::Products::judged, scad_machine::specs::State::over))]
 pub fn tree_of_operation(
     alloc: Global,
     operation: Operation,
@@ -50,5 +39,8 @@ pub fn tree_of_operation(
     ensures { (s : State) → Does solid_of (judged at (operated operation (solids members.items)) s) result s }
 {
     let tree = operated(alloc, operation, members)?;
-    judged(at, tree)
+    if tree.nesting() > TREE_LIMIT {
+        return Err(over(BudgetKind::Depth, at));
+    }
+    Ok(tree)
 }

@@ -5,9 +5,9 @@ use Rattle.scad_ast.specs.View.{arguments}
 use Rattle.scad_value.specs.View.{data_of}
 use Rattle.scad_expr.specs.Machine.{held, env_in, along_in, state_of}
 use Rattle.scad_modules.specs.declared.module.Module.{Module}
-use Rattle.scad_inst.specs.Frames.{below_of}
-use Rattle.scad_inst.specs.Meaning.{built_in}
-use Rattle.scad_inst.specs.Stack.{onward}
+use Rattle.scad_members.specs.Frames.{below_of}
+use Rattle.scad_members.specs.Meaning.{built_in}
+use Rattle.scad_members.specs.Stack.{onward}
 use Rattle.scad_inst.proofs.built_in.built_in.Goals as goal
 
 pub returns-in-Hull : goal.returns-in-Hull

@@ -3,9 +3,9 @@ use Rattle.std.proofs.Common.{◌∙◌}
 use Rattle.scad_ast.specs.Scope.{items}
 use Rattle.scad_expr.specs.Machine.{held, env_in, along_in, state_of}
 use Rattle.scad_leaves.specs.declared.operation.Operation.TheVariants.{Unite}
-use Rattle.scad_inst.specs.Frames.{below_of}
-use Rattle.scad_inst.specs.Meaning.{built_in, combined}
-use Rattle.scad_inst.specs.Stack.{rest, made_in}
+use Rattle.scad_members.specs.Frames.{below_of}
+use Rattle.scad_members.specs.Meaning.{built_in, combined}
+use Rattle.scad_members.specs.Stack.{rest, made_in}
 use Rattle.scad_inst.proofs.Onward.{hull-begins}
 use Rattle.scad_inst.proofs.built_in.hull.Goals as goal
 

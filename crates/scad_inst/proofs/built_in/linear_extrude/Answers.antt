@@ -14,9 +14,9 @@ use Rattle.scad_leaves.specs.declared.operation.Operation.TheVariants.{Unite}
 use Rattle.scad_leaves.specs.declared.space.Where.{Where}
 use Rattle.scad_leaves.specs.Products.{argued}
 use Rattle.scad_leaves.specs.Where.{inside_linear}
-use Rattle.scad_inst.specs.Frames.{below_of}
-use Rattle.scad_inst.specs.Meaning.{built_in, combined}
-use Rattle.scad_inst.specs.Stack.{onward}
+use Rattle.scad_members.specs.Frames.{below_of}
+use Rattle.scad_members.specs.Meaning.{built_in, combined}
+use Rattle.scad_members.specs.Stack.{onward}
 use Rattle.scad_inst.proofs.Heights.{height-stops, height-goes}
 use Rattle.scad_inst.proofs.built_in.linear_extrude.Goals as goal
 
@@ -33,7 +33,7 @@ returns c =
     (λ (h : ℤ × Bool). combined (below_of (held c.args.m.now)) Unite c.args.call.at
     (inside_linear c.args.w.now.whole h) (items c.args.call.all.now.items) (env_in (held c.args.m.now))
     (along_in (held c.args.m.now))) s (c.in_ok-judge_solid.ensures s) c.in_ok-height.height
-    (ap (λ (r : Read (ℤ × Bool)). argued c.args.call.at c.args.call.name.now r s) (sym said) ∙ c.in_ok-height.ensures
+    (ap (λ (r : Read (ℤ × Bool)). argued c.args.call.at c.args.call.name.now r s) (sym said) ∙ c.in_ok-height.ensures.argued
     s)
     ∙ ap (λ (w : Where). combined (below_of (held c.args.m.now)) Unite c.args.call.at w
     (items c.args.call.all.now.items) (env_in (held c.args.m.now)) (along_in (held c.args.m.now)) s)
@@ -54,4 +54,4 @@ returns-in_err-height c =
     (inside_linear c.args.w.now.whole h) (items c.args.call.all.now.items) (env_in (held c.args.m.now))
     (along_in (held c.args.m.now))) s (c.in_ok-judge_solid.ensures s) _
     (ap (λ (r : Read (ℤ × Bool)). argued c.args.call.at c.args.call.name.now r s) (sym said)
-    ∙ c.in_err-height.ensures s some)))
+    ∙ c.in_err-height.ensures.argued s some)))

@@ -5,8 +5,9 @@ use Rattle.scad_ast.specs.View.{arguments}
 use Rattle.scad_value.specs.View.{data_in}
 use Rattle.scad_scope.specs.FrameStore.{envs}
 use Rattle.scad_expr.specs.Machine.{Held, held, env_in, along_in, state_of}
-use Rattle.scad_inst.specs.Frames.{below_of}
-use Rattle.scad_inst.specs.Stack.{rest, made_in, own_opened}
+use Rattle.scad_members.specs.Frames.{below_of}
+use Rattle.scad_members.specs.Stack.{rest, made_in}
+use Rattle.scad_inst.specs.Calls.{own_opened}
 use Rattle.scad_inst.specs.View.{found_at}
 use Rattle.scad_inst.proofs.Onward.{own-begins}
 use Rattle.scad_inst.proofs.call.called_own.Goals as goal

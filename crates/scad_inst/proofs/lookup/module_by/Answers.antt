@@ -1,6 +1,6 @@
 use Rattle.std.proofs.Common.{sym, ap, ◌∙◌}
 use Rattle.scad_ast.specs.Scope.{item_of}
-use Rattle.scad_inst.specs.Modules.{module_by}
+use Rattle.scad_members.specs.Modules.{module_by}
 use Rattle.scad_inst.proofs.Homes.{a_module}
 use Rattle.scad_inst.proofs.lookup.module_by.Goals as goal
 

@@ -5,8 +5,8 @@ use Rattle.scad_tree.specs.View.{solid_of}
 use Rattle.scad_expr.specs.Answers.{Does}
 use Rattle.scad_expr.specs.Machine.{state_of}
 use Rattle.scad_expr.specs.State.{State}
-use Rattle.scad_inst.specs.Meaning.{means}
-use Rattle.scad_inst.specs.Meaning.{program_of as outcome_of}
+use Rattle.scad_members.specs.Meaning.{means}
+use Rattle.scad_members.specs.Meaning.{program_of as outcome_of}
 use Rattle.scad_inst.proofs.programs.made_in.Goals as goal
 
 pub returns : goal.returns

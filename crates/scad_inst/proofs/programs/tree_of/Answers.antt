@@ -8,9 +8,9 @@ use Rattle.scad_tree.specs.View.{solid_of}
 use Rattle.scad_expr.specs.Answers.{Does}
 use Rattle.scad_expr.specs.Machine.{held, along_in, state_of}
 use Rattle.scad_expr.specs.State.{Outcome}
-use Rattle.scad_inst.specs.Frames.{below_of}
-use Rattle.scad_inst.specs.Meaning.{opened_scope}
-use Rattle.scad_inst.specs.Stack.{rest, made_in}
+use Rattle.scad_members.specs.Frames.{below_of}
+use Rattle.scad_members.specs.Meaning.{opened_scope}
+use Rattle.scad_members.specs.Stack.{rest, made_in}
 use Rattle.scad_inst.proofs.Onward.{program-begins, program-stops}
 use Rattle.scad_inst.proofs.programs.tree_of.Goals as goal
 

@@ -1,7 +1,7 @@
 -- What is at work and what follows it is what the whole was.
 use Rattle.std.proofs.Common.{◌≡◌}
 use Rattle.scad_expr.specs.Machine.{held, state_of}
-use Rattle.scad_inst.specs.Stack.{rest, made_in, goes_on}
+use Rattle.scad_members.specs.Stack.{rest, made_in, goes_on}
 use Rattle.scad_inst.proofs.run.run.Given as goal
 
 abbrev pub invariant-turns : goal.invariant-turns

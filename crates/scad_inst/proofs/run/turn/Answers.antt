@@ -1,9 +1,9 @@
 -- What begins without the machine goes on.
 use Rattle.std.proofs.Common.{ap}
 use Rattle.scad_expr.specs.Machine.{held, state_of}
-use Rattle.scad_inst.specs.declared.work.Focus.{Focus}
-use Rattle.scad_inst.specs.Stack.{rest, made_in, goes_on}
-use Rattle.scad_inst.proofs.Onward.{starts-goes}
+use Rattle.scad_members.specs.declared.work.Focus.{Focus}
+use Rattle.scad_members.specs.Stack.{rest, made_in, goes_on}
+use Rattle.scad_members.proofs.Onward.{starts-goes}
 use Rattle.scad_inst.proofs.run.turn.Goals as goal
 
 pub returns-in-Members : goal.returns-in-Members

@@ -2,9 +2,9 @@
 use Rattle.std.proofs.Common.{ap, sym, ◌∙◌}
 use Rattle.scad_ast.specs.Tree.{Item}
 use Rattle.scad_expr.specs.Machine.{held, env_in, along_in, state_of}
-use Rattle.scad_inst.specs.Frames.{below_of}
-use Rattle.scad_inst.specs.Meaning.{node}
-use Rattle.scad_inst.specs.Stack.{onward}
+use Rattle.scad_members.specs.Frames.{below_of}
+use Rattle.scad_members.specs.Meaning.{node}
+use Rattle.scad_members.specs.Stack.{onward}
 use Rattle.scad_inst.proofs.Bodies.{call_statement, choice_statement}
 use Rattle.scad_inst.proofs.walk.run.Goals as goal
 

@@ -5,7 +5,7 @@ use Rattle.scad_fault.specs.declared.place.Place.{Place}
 use Rattle.scad_ast.specs.Scope.{item_of}
 use Rattle.scad_expr.specs.Machine.{held, state_of}
 use Rattle.scad_expr.specs.State.{step}
-use Rattle.scad_inst.specs.Stack.{rest, made_in}
+use Rattle.scad_members.specs.Stack.{rest, made_in}
 use Rattle.scad_inst.proofs.Onward.{statement-begins, statement-stops}
 use Rattle.scad_inst.proofs.walk.statement.Goals as goal
 

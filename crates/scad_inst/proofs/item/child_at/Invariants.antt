@@ -1,7 +1,0 @@
-use Rattle.std.proofs.Common.{◌≡◌, drop}
-use Rattle.scad_ast.specs.Scope.{items}
-use Rattle.scad_inst.specs.Scopes.{child_at}
-use Rattle.scad_inst.proofs.item.child_at.Given as goal
-
-abbrev pub invariant-items : goal.invariant-items
-invariant-items l = child_at (items (drop l.item-index l.scope.items)) l.left ≡ child_at (items l.scope.items) l.n
