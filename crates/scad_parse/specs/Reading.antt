@@ -17,7 +17,8 @@ use Rattle.scad_grammar.specs.Behind.{Keyed, letting, asserting, echoing, keyed_
 use Rattle.scad_grammar.specs.Tokens.{word_of, is_sign}
 use Rattle.scad_grammar.specs.Grammar.{begins_named}
 use Rattle.scad_grammar.specs.Machine.{Refusal, syntax_at, nesting_at, left_out_at}
-use Rattle.scad_grammar.specs.Rules.{Read, then_read, Rules, above, expr_of, prim_of, word_rule, range_by, in_round_of, Head}
+use Rattle.scad_grammar.specs.Rules.{Read, then_read, Rules, above, expr_of, prim_of, word_rule, range_by, in_round_of}
+use Rattle.scad_grammar.specs.Rules.{Head}
 use Rattle.scad_grammar.specs.Steps.{range_start}
 
 -- the place of the first token, or that behind the text

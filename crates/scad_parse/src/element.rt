@@ -56,7 +56,8 @@ fn otherwise(reader: &mut Reader<'_>, test: Expr, held: Elem, whole: Open) -> El
 // "(" args ")" elem | "(" args ";" expr ";" args ")" elem, behind the "for"
 #[cycle(expression)]
 fn for_element(reader: &mut Reader<'_>, open: Open) -> Elem
-    ensures { Reads (λ e ts. (rules_at e «open».room).for_behind «open».at ts) reader.old reader.new (element_of result) }
+    ensures { Reads (λ e ts. (rules_at e «open».room).for_behind «open».at ts) reader.old reader.new
+        (element_of result) }
 {
     let head = round_head(reader, open.room);
     let elem = element(reader, open.room);

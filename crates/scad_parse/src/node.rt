@@ -1,4 +1,5 @@
-//! The nodes of the tree. Where there is no memory for what a node holds, the reader remembers it, and the node is of no
+//! The nodes of the tree. Where there is no memory for what a node holds, the reader remembers it, and the node is of
+//! no
 //! meaning.
 
 ghost use Rattle.std.specs.Prelude.{◌≡◌, IfOk};
@@ -98,7 +99,8 @@ pub(crate) fn unary(reader: &mut Reader<'_>, at: Place, op: UnOp, e: Expr) -> Ex
 }
 
 pub(crate) fn binary(reader: &mut Reader<'_>, at: Place, op: BinOp, left: Expr, right: Expr) -> Expr
-    ensures { Reads (made (binary at op (expression_of left) (expression_of right))) reader.old reader.new (expression_of result) }
+    ensures { Reads (made (binary at op (expression_of left) (expression_of right))) reader.old reader.new
+        (expression_of result) }
 {
     let left = reader.boxed(left);
     let right = reader.boxed(right);
@@ -118,7 +120,8 @@ pub(crate) fn choose(
     chosen: Expr,
     other: Expr,
 ) -> Expr
-    ensures { Reads (made (choose at (expression_of test) (expression_of chosen) (expression_of other))) reader.old reader.new (expression_of result) }
+    ensures { Reads (made (choose at (expression_of test) (expression_of chosen) (expression_of other))) reader.old
+        reader.new (expression_of result) }
 {
     let test = reader.boxed(test);
     let chosen = reader.boxed(chosen);
@@ -133,7 +136,8 @@ pub(crate) fn choose(
 }
 
 pub(crate) fn index(reader: &mut Reader<'_>, at: Place, value: Expr, i: Expr) -> Expr
-    ensures { Reads (made (index at (expression_of value) (expression_of i))) reader.old reader.new (expression_of result) }
+    ensures { Reads (made (index at (expression_of value) (expression_of i))) reader.old reader.new
+        (expression_of result) }
 {
     let value = reader.boxed(value);
     let i = reader.boxed(i);
@@ -166,7 +170,8 @@ pub(crate) fn bound(
     args: Args,
     body: Expr,
 ) -> Expr
-    ensures { Reads (made (keyed_tree (keyed binder) at (arguments args.items) (expression_of body))) reader.old reader.new (expression_of result) }
+    ensures { Reads (made (keyed_tree (keyed binder) at (arguments args.items) (expression_of body))) reader.old
+        reader.new (expression_of result) }
 {
     let body = reader.boxed(body);
     let Some(body) = body else {
@@ -190,7 +195,8 @@ pub(crate) fn bound(
 
 /// The range from start to end.
 pub(crate) fn range(reader: &mut Reader<'_>, at: Place, start: Expr, last: Expr) -> Expr
-    ensures { Reads (made (range at (expression_of start) (expression_of last))) reader.old reader.new (expression_of result) }
+    ensures { Reads (made (range at (expression_of start) (expression_of last))) reader.old reader.new
+        (expression_of result) }
 {
     let start = reader.boxed(start);
     let last = reader.boxed(last);
@@ -211,7 +217,8 @@ pub(crate) fn stepped(
     step: Expr,
     last: Expr,
 ) -> Expr
-    ensures { Reads (made (stepped at (expression_of start) (expression_of step) (expression_of last))) reader.old reader.new (expression_of result) }
+    ensures { Reads (made (stepped at (expression_of start) (expression_of step) (expression_of last))) reader.old
+        reader.new (expression_of result) }
 {
     let start = reader.boxed(start);
     let step = reader.boxed(step);
@@ -236,7 +243,8 @@ pub(crate) fn each(reader: &mut Reader<'_>, at: Place, e: Elem) -> Elem
 }
 
 pub(crate) fn for_each(reader: &mut Reader<'_>, at: Place, args: Args, e: Elem) -> Elem
-    ensures { Reads (made (for_each at (arguments args.items) (element_of e))) reader.old reader.new (element_of result) }
+    ensures { Reads (made (for_each at (arguments args.items) (element_of e))) reader.old reader.new
+        (element_of result) }
 {
     let e = reader.boxed(e);
     let Some(e) = e else {
@@ -253,7 +261,8 @@ pub(crate) fn for_loop(
     step: Args,
     e: Elem,
 ) -> Elem
-    ensures { Reads (made (for_loop at (arguments init.items) (expression_of test) (arguments step.items) (element_of e))) reader.old reader.new (element_of result) }
+    ensures { Reads (made (for_loop at (arguments init.items) (expression_of test) (arguments step.items)
+        (element_of e))) reader.old reader.new (element_of result) }
 {
     let e = reader.boxed(e);
     let Some(e) = e else {
@@ -278,7 +287,8 @@ pub(crate) fn let_element(reader: &mut Reader<'_>, at: Place, args: Args, e: Ele
 }
 
 pub(crate) fn if_element(reader: &mut Reader<'_>, at: Place, test: Expr, held: Elem) -> Elem
-    ensures { Reads (made (if_element at (expression_of test) (element_of held))) reader.old reader.new (element_of result) }
+    ensures { Reads (made (if_element at (expression_of test) (element_of held))) reader.old reader.new
+        (element_of result) }
 {
     let held = reader.boxed(held);
     let Some(held) = held else {
@@ -294,7 +304,8 @@ pub(crate) fn if_else(
     held: Elem,
     other: Elem,
 ) -> Elem
-    ensures { Reads (made (if_else at (expression_of test) (element_of held) (element_of other))) reader.old reader.new (element_of result) }
+    ensures { Reads (made (if_else at (expression_of test) (element_of held) (element_of other))) reader.old reader.new
+        (element_of result) }
 {
     let held = reader.boxed(held);
     let other = reader.boxed(other);

@@ -96,7 +96,8 @@ fn posts(reader: &mut Reader<'_>, value: Expr, room: u32) -> Expr
 // expr "]" behind the "[" of an index, which opens two constructs
 #[cycle(expression)]
 fn indexed(reader: &mut Reader<'_>, open: Open) -> Expr
-    ensures { Reads (λ e ts. (rules_at e «open».room).indexed «open».at ts) reader.old reader.new (expression_of result) }
+    ensures { Reads (λ e ts. (rules_at e «open».room).indexed «open».at ts) reader.old reader.new
+        (expression_of result) }
 {
     let Some(inner) = reader.deeper(open.at, open.room) else {
         return node::nothing(open.at);

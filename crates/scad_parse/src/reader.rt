@@ -7,7 +7,8 @@ ghost use Rattle.scad_grammar.specs.Grammar.{ends_arguments};
 ghost use Rattle.scad_grammar.specs.Machine.{syntax_at};
 ghost use Rattle.scad_grammar.specs.Reads.{behind_sign};
 ghost use Rattle.scad_parse.specs.Reading.{place_of, no_value, comma_or, name_before};
-ghost use Rattle.scad_parse.specs.Standing.{Reads, standing, failed, passed, front_of, stands_at, lacks, more_to_come, Opens, Within, Kept};
+ghost use Rattle.scad_parse.specs.Standing.{Reads, standing, failed, passed, front_of, stands_at, lacks, more_to_come};
+ghost use Rattle.scad_parse.specs.Standing.{Opens, Within, Kept};
 ghost use Rattle.scad_parse.specs.Standing.{made, took, took_at, needed, left_out, word_here, literal_here};
 
 use crate::fault::{Fault, Form};

@@ -18,7 +18,8 @@ use scad_lex::Sign;
 // vector = "[" list of elem "]"
 #[cycle(expression)]
 pub(crate) fn brackets(reader: &mut Reader<'_>, open: Open) -> Expr
-    ensures { Reads (λ e ts. (rules_at e «open».room).brackets «open».at ts) reader.old reader.new (expression_of result) }
+    ensures { Reads (λ e ts. (rules_at e «open».room).brackets «open».at ts) reader.old reader.new
+        (expression_of result) }
 {
     let mut all = Elems::new(reader.alloc);
     'members: while reader.lacks(Sign::CloseSquare) {
@@ -70,7 +71,8 @@ fn range(reader: &mut Reader<'_>, all: &Elems, first: Elem, open: Open) -> Expr
 // [":" expr] "]", behind the first two parts
 #[cycle(expression)]
 fn ranged(reader: &mut Reader<'_>, start: Expr, second: Expr, open: Open) -> Expr
-    ensures { Reads (λ e ts. range_end e (below e «open».room) «open».at (expression_of start) (expression_of second) ts)
+    ensures { Reads (λ e ts. range_end e (below e «open».room) «open».at (expression_of start)
+        (expression_of second) ts)
         reader.old reader.new (expression_of result) }
 {
     if reader.takes(Sign::Colon) {

@@ -1,70 +1,91 @@
-use Rattle.std.proofs.Common.{◌-◌, length, ap, sym, ◌∙◌, true, Ok, option_map}
+use Rattle.std.proofs.Common.{◌-◌, length, ap, sym, ◌∙◌, Ok, option_map}
 use Rattle.std.specs.Prelude.{is_some}
 use Rattle.scad_lex.specs.declared.token.Sign.TheVariants.{OpenRound, OpenSquare, CloseRound, CloseSquare, Question}
 use Rattle.scad_lex.specs.declared.token.Sign.TheVariants.{Colon, Bang, Plus, Minus, Dot, Caret, Semicolon}
 use Rattle.scad_lex.specs.declared.token.Key.TheVariants.{Function, If, Else, For, Let, Assert, Echo, Each}
 use Rattle.scad_ast.specs.declared.operator.UnOp.TheVariants.{Not, Plus as UnaryPlus, Minus as UnaryMinus}
-use Rattle.scad_ast.specs.Tree.{no_arguments, name, call, choose, index, member, range, stepped, unary, binary, item, each}
+use Rattle.scad_ast.specs.Tree.{no_arguments, name, call, choose, index, member, range, stepped, unary, binary, item}
+use Rattle.scad_ast.specs.Tree.{each}
 use Rattle.scad_ast.specs.Tree.{if_element, if_else}
-use Rattle.scad_ast.specs.View.{expression_of, element_of, arguments, elements}
+use Rattle.scad_ast.specs.View.{expression_of, element_of, elements}
 use Rattle.scad_grammar.specs.Tokens.{is_sign, is_key, operator}
 use Rattle.scad_grammar.specs.Lists.{let_of}
 use Rattle.scad_grammar.specs.Behind.{letting, asserting, echoing, keyed_tree}
 use Rattle.scad_grammar.specs.Rules.{then_read, expr_of, operand_of, unary_of, posts_of, links_of}
-use Rattle.scad_grammar.specs.Rules.{choice_of, expr_to, in_round_of, args_of, args_closed_of, elem_of, else_of, range_end}
+use Rattle.scad_grammar.specs.Rules.{choice_of, expr_to, args_of, args_closed_of, elem_of, else_of}
+use Rattle.scad_grammar.specs.Rules.{range_end}
 use Rattle.scad_grammar.specs.Rules.{head_end, for_all, for_steps, headed as grammar_headed}
 use Rattle.scad_parse.specs.declared.fault.Form.TheVariants.{Function as FunctionForm, Power}
 use Rattle.scad_parse.specs.Heads.{head_of}
 use Rattle.scad_parse.specs.Reading.{below, rules_at, keyed, bound_by, prefixed_by, prim_at, name_at, name_before}
 use Rattle.scad_parse.specs.Reading.{argument_of, arguments_seen, round_head_of}
-use Rattle.scad_parse.specs.Standing.{standing, operator_at, left_out, needed, took, word_here, literal_here}
+use Rattle.scad_parse.specs.Standing.{standing, operator_at, left_out, took, word_here, literal_here}
 use Rattle.scad_parse.proofs.loops.Arguments.{arguments_go, arguments_fewer, arguments_end}
 use Rattle.scad_parse.proofs.loops.Elements.{elements_go_on, elements_fewer_come, elements_ranged, elements_ended}
-use Rattle.scad_parse.proofs.rules.Steps.{follows, same_rule, same_rule_here, stay, made_as, made_then, expected, closed_by, taking, by_taken}
-use Rattle.scad_parse.proofs.rules.Steps.{opened_or, round_is, goes_in, no_room}
-use Rattle.scad_parse.proofs.rules.Expressions.{no_rules, more_rules, opens_rule, passes_rule, expression_by, expression_is}
-use Rattle.scad_parse.proofs.rules.Expressions.{not_function, not_assert, not_echo, unbound, chosen, choice_by, choice_is}
-use Rattle.scad_parse.proofs.rules.Expressions.{operand_tightest, operand_looser, operand_by, one_less, links_by, link_by}
+use Rattle.scad_parse.proofs.rules.Steps.{follows, same_rule, same_rule_here, stay, made_as, made_then, expected}
+use Rattle.scad_parse.proofs.rules.Steps.{closed_by, taking, by_taken, round_opens, round_stops}
+use Rattle.scad_parse.proofs.rules.Steps.{goes_in, no_room}
+use Rattle.scad_parse.proofs.rules.Expressions.{no_rules, more_rules, opens_rule, passes_rule, expression_by}
+use Rattle.scad_parse.proofs.rules.Expressions.{expression_is}
+use Rattle.scad_parse.proofs.rules.Expressions.{not_function, not_assert, not_echo, unbound, chosen, choice_by}
+use Rattle.scad_parse.proofs.rules.Expressions.{choice_is}
+use Rattle.scad_parse.proofs.rules.Expressions.{operand_tightest, operand_looser, operand_by, one_less, links_by}
+use Rattle.scad_parse.proofs.rules.Expressions.{link_by}
 use Rattle.scad_parse.proofs.rules.Expressions.{links_are, linked, unary_by, unary_is, not_bang, not_plus, unprefixed}
 use Rattle.scad_parse.proofs.rules.Expressions.{posts_by, posts_is, index_by, not_square, member_by_word, not_dot}
 use Rattle.scad_parse.proofs.rules.Expressions.{primary_by, primary_is, not_round, not_bracket, by_literal, named_by}
 use Rattle.scad_parse.proofs.rules.Expressions.{named_is, behind_name, call_by, ranged_by, ranged_is, stepping, ended}
-use Rattle.scad_parse.proofs.rules.Expressions.{element_by, element_is, not_for, not_each, not_if, plain, each_by, if_by}
-use Rattle.scad_parse.proofs.rules.Expressions.{let_by, else_by, else_is, other_by, head_by, head_is, in_parts, steps_by}
+use Rattle.scad_parse.proofs.rules.Expressions.{element_by, element_is, not_for, not_each, not_if, plain, each_by}
+use Rattle.scad_parse.proofs.rules.Expressions.{if_by}
+use Rattle.scad_parse.proofs.rules.Expressions.{let_by, else_by, else_is, other_by, head_by, head_is, in_parts}
+use Rattle.scad_parse.proofs.rules.Expressions.{steps_by}
 use Rattle.scad_parse.proofs.rules.Expressions.{argument_by, argument_is, range_reads, range_refused}
 use Rattle.scad_parse.proofs.+expression.Goals as goal
 
 pub expression::expression-returns-in-Some : goal.expression::expression-returns-in-Some
 expression::expression-returns-in-Some t c =
     same_rule (λ e ts. expr_of e (below e c.args.room) ts) (expression_by c.args.room) (expression_is c.args.room)
-    (follows (λ e ts. left_out (is_key Function) FunctionForm ts) (λ e _. not_function e c.args.room) c.leaves_out.ensures
-    (opens_rule (is_key Let) (λ e. bound_by letting) (λ e. not_assert e c.args.room) c.in-Some.is c.opens_key.ensures.opens
+    (follows (λ e ts. left_out (is_key Function) FunctionForm ts)
+    (λ e _. not_function e c.args.room) c.leaves_out.ensures
+    (opens_rule (is_key Let) (λ e. bound_by letting) (λ e. not_assert e c.args.room) c.in-Some.is
+    c.opens_key.ensures.opens
     c.bound.ensures))
 
 pub expression::expression-returns-in-Some-opens_key : goal.expression::expression-returns-in-Some-opens_key
 expression::expression-returns-in-Some-opens_key t c =
     same_rule (λ e ts. expr_of e (below e c.args.room) ts) (expression_by c.args.room) (expression_is c.args.room)
-    (follows (λ e ts. left_out (is_key Function) FunctionForm ts) (λ e _. not_function e c.args.room) c.leaves_out.ensures
-    (passes_rule (is_key Let) (λ e. bound_by letting) (λ e. not_assert e c.args.room) c.in_default.is c.opens_key.ensures.opens
-    (opens_rule (is_key Assert) (λ e. bound_by asserting) (λ e. not_echo e c.args.room) c.in-Some-opens_key.is c.opens_key-2.ensures.opens
+    (follows (λ e ts. left_out (is_key Function) FunctionForm ts)
+    (λ e _. not_function e c.args.room) c.leaves_out.ensures
+    (passes_rule (is_key Let) (λ e. bound_by letting) (λ e. not_assert e c.args.room) c.in_default.is
+    c.opens_key.ensures.opens
+    (opens_rule (is_key Assert) (λ e. bound_by asserting) (λ e. not_echo e c.args.room) c.in-Some-opens_key.is
+    c.opens_key-2.ensures.opens
     c.bound-in-Some-opens_key.ensures)))
 
 pub expression::expression-returns-in-Some-opens_key-2 : goal.expression::expression-returns-in-Some-opens_key-2
 expression::expression-returns-in-Some-opens_key-2 t c =
     same_rule (λ e ts. expr_of e (below e c.args.room) ts) (expression_by c.args.room) (expression_is c.args.room)
-    (follows (λ e ts. left_out (is_key Function) FunctionForm ts) (λ e _. not_function e c.args.room) c.leaves_out.ensures
-    (passes_rule (is_key Let) (λ e. bound_by letting) (λ e. not_assert e c.args.room) c.in_default.is c.opens_key.ensures.opens
-    (passes_rule (is_key Assert) (λ e. bound_by asserting) (λ e. not_echo e c.args.room) c.in_default-opens_key.is c.opens_key-2.ensures.opens
-    (opens_rule (is_key Echo) (λ e. bound_by echoing) (λ e. unbound e c.args.room) c.in-Some-opens_key-2.is c.opens_key-3.ensures.opens
+    (follows (λ e ts. left_out (is_key Function) FunctionForm ts)
+    (λ e _. not_function e c.args.room) c.leaves_out.ensures
+    (passes_rule (is_key Let) (λ e. bound_by letting) (λ e. not_assert e c.args.room) c.in_default.is
+    c.opens_key.ensures.opens
+    (passes_rule (is_key Assert) (λ e. bound_by asserting)
+    (λ e. not_echo e c.args.room) c.in_default-opens_key.is c.opens_key-2.ensures.opens
+    (opens_rule (is_key Echo) (λ e. bound_by echoing) (λ e. unbound e c.args.room) c.in-Some-opens_key-2.is
+    c.opens_key-3.ensures.opens
     c.bound-in-Some-opens_key-2.ensures))))
 
 pub expression::expression-returns : goal.expression::expression-returns
 expression::expression-returns t c =
     same_rule (λ e ts. expr_of e (below e c.args.room) ts) (expression_by c.args.room) (expression_is c.args.room)
-    (follows (λ e ts. left_out (is_key Function) FunctionForm ts) (λ e _. not_function e c.args.room) c.leaves_out.ensures
-    (passes_rule (is_key Let) (λ e. bound_by letting) (λ e. not_assert e c.args.room) c.in_default.is c.opens_key.ensures.opens
-    (passes_rule (is_key Assert) (λ e. bound_by asserting) (λ e. not_echo e c.args.room) c.in_default-opens_key.is c.opens_key-2.ensures.opens
-    (passes_rule (is_key Echo) (λ e. bound_by echoing) (λ e. unbound e c.args.room) c.in_default-opens_key-2.is c.opens_key-3.ensures.opens
+    (follows (λ e ts. left_out (is_key Function) FunctionForm ts)
+    (λ e _. not_function e c.args.room) c.leaves_out.ensures
+    (passes_rule (is_key Let) (λ e. bound_by letting) (λ e. not_assert e c.args.room) c.in_default.is
+    c.opens_key.ensures.opens
+    (passes_rule (is_key Assert) (λ e. bound_by asserting)
+    (λ e. not_echo e c.args.room) c.in_default-opens_key.is c.opens_key-2.ensures.opens
+    (passes_rule (is_key Echo) (λ e. bound_by echoing) (λ e. unbound e c.args.room) c.in_default-opens_key-2.is
+    c.opens_key-3.ensures.opens
     (follows (λ e ts. operand_of e (below e c.args.room) 6 ts) (λ e. choice_of e (below e c.args.room))
     c.operand-test.ensures c.choice.ensures)))))
 
@@ -74,21 +95,24 @@ expression::bound-returns t c =
     (λ e all us. then_read ((rules_at e c.args.open.room).expr us)
     (λ x vs. Ok (keyed_tree (keyed c.args.binder) c.args.open.at all x, vs))) c.round_arguments-args.ensures
     (follows (λ e ts. (rules_at e c.args.open.room).expr ts)
-    (λ e x vs. Ok (keyed_tree (keyed c.args.binder) c.args.open.at (arguments_seen c.round_arguments-args.result) x, vs))
+    (λ e x vs. Ok (keyed_tree (keyed c.args.binder) c.args.open.at
+    (arguments_seen c.round_arguments-args.result) x, vs))
     c.expression-body.ensures c.bound.ensures)
 
 pub expression::choice-returns-in_default : goal.expression::choice-returns-in_default
 expression::choice-returns-in_default t c =
     same_rule (λ e ts. choice_of e (below e c.args.room) (expression_of c.args.test) ts)
     (chosen c.args.room (expression_of c.args.test)) (choice_is c.args.room (expression_of c.args.test))
-    (passes_rule (is_sign Question) (choice_by (expression_of c.args.test)) (λ e us. Ok (expression_of c.args.test, us)) c.in_default.is
+    (passes_rule (is_sign Question) (choice_by (expression_of c.args.test))
+    (λ e us. Ok (expression_of c.args.test, us)) c.in_default.is
     c.opens.ensures.opens stay)
 
 pub expression::choice-returns : goal.expression::choice-returns
 expression::choice-returns t c =
     same_rule (λ e ts. choice_of e (below e c.args.room) (expression_of c.args.test) ts)
     (chosen c.args.room (expression_of c.args.test)) (choice_is c.args.room (expression_of c.args.test))
-    (opens_rule (is_sign Question) (choice_by (expression_of c.args.test)) (λ e us. Ok (expression_of c.args.test, us)) c.in-Some.is
+    (opens_rule (is_sign Question) (choice_by (expression_of c.args.test))
+    (λ e us. Ok (expression_of c.args.test, us)) c.in-Some.is
     c.opens.ensures.opens
     (follows (λ e ts. expr_to e Colon (expr_of e (below e c.in-Some.open.room)) ts)
     (λ e b us. then_read (expr_of e (below e c.in-Some.open.room) us)
@@ -103,69 +127,36 @@ expression::closed-returns t c =
 
 pub expression::round_expression-returns-in_default : goal.expression::round_expression-returns-in_default
 expression::round_expression-returns-in_default t c =
-    same_rule (λ e ts. in_round_of e (below e c.args.room) (λ r us. expr_to e CloseRound r.expr us) ts)
-    (λ e ts. then_read (needed (is_sign OpenRound) e ts)
-    (λ _. opened_or (λ t. true) (below e c.args.room) (λ at. (λ r us. expr_to e CloseRound r.expr us)) (λ us. Ok (expression_of c.nothing.result, us))))
-    (λ e ts. round_is e (below e c.args.room) (λ r us. expr_to e CloseRound r.expr us) (expression_of c.nothing.result) ts)
-    (follows (needed (is_sign OpenRound))
-    (λ e _. opened_or (λ t. true) (below e c.args.room) (λ at. (λ r us. expr_to e CloseRound r.expr us)) (λ us. Ok (expression_of c.nothing.result, us))) c.needs.ensures
-    (passes_rule (λ t. true) (λ e at. (λ r us. expr_to e CloseRound r.expr us)) (λ e us. Ok (expression_of c.nothing.result, us)) c.in_default.is
-    c.open.ensures.opens stay))
+    round_stops below rules_at no_rules more_rules
+    (λ e r us. expr_to e CloseRound r.expr us) c.needs.ensures c.in_default.is c.open.ensures.opens
 
 pub expression::round_expression-returns : goal.expression::round_expression-returns
 expression::round_expression-returns t c =
-    same_rule (λ e ts. in_round_of e (below e c.args.room) (λ r us. expr_to e CloseRound r.expr us) ts)
-    (λ e ts. then_read (needed (is_sign OpenRound) e ts)
-    (λ _. opened_or (λ t. true) (below e c.args.room) (λ at. (λ r us. expr_to e CloseRound r.expr us)) (λ us. Ok (expression_of c.closed.result, us))))
-    (λ e ts. round_is e (below e c.args.room) (λ r us. expr_to e CloseRound r.expr us) (expression_of c.closed.result) ts)
-    (follows (needed (is_sign OpenRound))
-    (λ e _. opened_or (λ t. true) (below e c.args.room) (λ at. (λ r us. expr_to e CloseRound r.expr us)) (λ us. Ok (expression_of c.closed.result, us))) c.needs.ensures
-    (opens_rule (λ t. true) (λ e at. (λ r us. expr_to e CloseRound r.expr us)) (λ e us. Ok (expression_of c.closed.result, us)) c.in-Some.is
-    c.open.ensures.opens c.closed.ensures))
+    round_opens below rules_at no_rules more_rules
+    (λ e r us. expr_to e CloseRound r.expr us) c.needs.ensures c.in-Some.is c.open.ensures.opens
+    c.closed.ensures
 
 pub argument::round_arguments-returns-in_default : goal.argument::round_arguments-returns-in_default
 argument::round_arguments-returns-in_default t c =
-    same_rule (λ e ts. in_round_of e (below e c.args.room) (λ r us. r.args_closed us) ts)
-    (λ e ts. then_read (needed (is_sign OpenRound) e ts)
-    (λ _. opened_or (λ t. true) (below e c.args.room) (λ at. (λ r us. r.args_closed us)) (λ us. Ok (arguments_seen c.new.result, us))))
-    (λ e ts. round_is e (below e c.args.room) (λ r us. r.args_closed us) (arguments_seen c.new.result) ts)
-    (follows (needed (is_sign OpenRound))
-    (λ e _. opened_or (λ t. true) (below e c.args.room) (λ at. (λ r us. r.args_closed us)) (λ us. Ok (arguments_seen c.new.result, us))) c.needs.ensures
-    (passes_rule (λ t. true) (λ e at. (λ r us. r.args_closed us)) (λ e us. Ok (arguments_seen c.new.result, us)) c.in_default.is
-    c.open.ensures.opens stay))
+    round_stops below rules_at no_rules more_rules
+    (λ e r us. r.args_closed us) c.needs.ensures c.in_default.is c.open.ensures.opens
 
 pub argument::round_arguments-returns : goal.argument::round_arguments-returns
 argument::round_arguments-returns t c =
-    same_rule (λ e ts. in_round_of e (below e c.args.room) (λ r us. r.args_closed us) ts)
-    (λ e ts. then_read (needed (is_sign OpenRound) e ts)
-    (λ _. opened_or (λ t. true) (below e c.args.room) (λ at. (λ r us. r.args_closed us)) (λ us. Ok (arguments_seen c.closed_arguments.result, us))))
-    (λ e ts. round_is e (below e c.args.room) (λ r us. r.args_closed us) (arguments_seen c.closed_arguments.result) ts)
-    (follows (needed (is_sign OpenRound))
-    (λ e _. opened_or (λ t. true) (below e c.args.room) (λ at. (λ r us. r.args_closed us)) (λ us. Ok (arguments_seen c.closed_arguments.result, us))) c.needs.ensures
-    (opens_rule (λ t. true) (λ e at. (λ r us. r.args_closed us)) (λ e us. Ok (arguments_seen c.closed_arguments.result, us)) c.in-Some.is
-    c.open.ensures.opens c.closed_arguments.ensures))
+    round_opens below rules_at no_rules more_rules
+    (λ e r us. r.args_closed us) c.needs.ensures c.in-Some.is c.open.ensures.opens
+    c.closed_arguments.ensures
 
 pub element::round_head-returns-in_default : goal.element::round_head-returns-in_default
 element::round_head-returns-in_default t c =
-    same_rule (λ e ts. in_round_of e (below e c.args.room) (λ r us. r.for_head us) ts)
-    (λ e ts. then_read (needed (is_sign OpenRound) e ts)
-    (λ _. opened_or (λ t. true) (below e c.args.room) (λ at. (λ r us. r.for_head us)) (λ us. Ok (for_all (arguments c.new.result.items), us))))
-    (λ e ts. round_is e (below e c.args.room) (λ r us. r.for_head us) (for_all (arguments c.new.result.items)) ts)
-    (follows (needed (is_sign OpenRound))
-    (λ e _. opened_or (λ t. true) (below e c.args.room) (λ at. (λ r us. r.for_head us)) (λ us. Ok (for_all (arguments c.new.result.items), us))) c.needs.ensures
-    (passes_rule (λ t. true) (λ e at. (λ r us. r.for_head us)) (λ e us. Ok (for_all (arguments c.new.result.items), us)) c.in_default.is
-    c.open.ensures.opens stay))
+    round_stops below rules_at no_rules more_rules
+    (λ e r us. r.for_head us) c.needs.ensures c.in_default.is c.open.ensures.opens
 
 pub element::round_head-returns : goal.element::round_head-returns
 element::round_head-returns t c =
-    same_rule (λ e ts. in_round_of e (below e c.args.room) (λ r us. r.for_head us) ts)
-    (λ e ts. then_read (needed (is_sign OpenRound) e ts)
-    (λ _. opened_or (λ t. true) (below e c.args.room) (λ at. (λ r us. r.for_head us)) (λ us. Ok (head_of c.for_head.result, us))))
-    (λ e ts. round_is e (below e c.args.room) (λ r us. r.for_head us) (head_of c.for_head.result) ts)
-    (follows (needed (is_sign OpenRound))
-    (λ e _. opened_or (λ t. true) (below e c.args.room) (λ at. (λ r us. r.for_head us)) (λ us. Ok (head_of c.for_head.result, us))) c.needs.ensures
-    (opens_rule (λ t. true) (λ e at. (λ r us. r.for_head us)) (λ e us. Ok (head_of c.for_head.result, us)) c.in-Some.is
-    c.open.ensures.opens c.for_head.ensures))
+    round_opens below rules_at no_rules more_rules
+    (λ e r us. r.for_head us) c.needs.ensures c.in-Some.is c.open.ensures.opens
+    c.for_head.ensures
 
 pub argument::closed_arguments-returns : goal.argument::closed_arguments-returns
 argument::closed_arguments-returns t c =
@@ -176,7 +167,8 @@ pub argument::argument-returns : goal.argument::argument-returns
 argument::argument-returns t c =
     same_rule (λ e ts. argument_of e (below e c.args.room) ts) (argument_by c.args.room) (argument_is c.args.room)
     (follows (λ e ts. name_before ts)
-    (λ e name us. then_read (expr_of e (below e c.args.room) us) (λ x vs. Ok ((name, x), vs))) c.argument_name-name.ensures
+    (λ e name us. then_read (expr_of e (below e c.args.room) us) (λ x vs. Ok ((name, x), vs)))
+    c.argument_name-name.ensures
     (follows (λ e ts. expr_of e (below e c.args.room) ts) (λ e x vs. Ok ((c.argument_name-name.result, x), vs))
     c.expression-value.ensures stay))
 
@@ -212,7 +204,8 @@ operand::operand-returns t c =
 pub operand::links-returns-in_default : goal.operand::links-returns-in_default
 operand::links-returns-in_default t c =
     same_rule_here (λ e ts. links_of (below e c.args.room) c.args.line (expression_of c.args.left) ts)
-    (links_by c.args.room c.args.line (expression_of c.args.left) (operator_at c.args.line (standing c.args.reader.now)))
+    (links_by c.args.room c.args.line (expression_of c.args.left)
+    (operator_at c.args.line (standing c.args.reader.now)))
     (links_are c.args.room c.args.line (expression_of c.args.left) (standing c.args.reader.now))
     (passes_rule (λ t. is_some (operator c.args.line t))
     (λ e. link_by c.args.line (expression_of c.args.left) (operator_at c.args.line (standing c.args.reader.now)))
@@ -222,7 +215,8 @@ operand::links-returns-in_default t c =
 pub operand::links-returns : goal.operand::links-returns
 operand::links-returns t c =
     same_rule_here (λ e ts. links_of (below e c.args.room) c.args.line (expression_of c.args.left) ts)
-    (links_by c.args.room c.args.line (expression_of c.args.left) (operator_at c.args.line (standing c.args.reader.now)))
+    (links_by c.args.room c.args.line (expression_of c.args.left)
+    (operator_at c.args.line (standing c.args.reader.now)))
     (links_are c.args.room c.args.line (expression_of c.args.left) (standing c.args.reader.now))
     (opens_rule (λ t. is_some (operator c.args.line t))
     (λ e. link_by c.args.line (expression_of c.args.left) (operator_at c.args.line (standing c.args.reader.now)))
@@ -232,35 +226,46 @@ operand::links-returns t c =
     (follows (λ e ts. operand_of e (below e c.in-Some.link.open.room) c.args.line ts)
     (λ e b. links_of (below e c.in-Some.link.open.room) c.args.line
     (binary c.in-Some.link.open.at c.in-Some.link.op (expression_of c.args.left) b)) c.operand-right.ensures
-    (made_then (λ e a. links_of (below e c.in-Some.link.open.room) c.args.line a) c.binary-both.ensures c.links.ensures))))
+    (made_then (λ e a. links_of (below e c.in-Some.link.open.room) c.args.line a) c.binary-both.ensures
+    c.links.ensures))))
 
 pub operand::unary-returns-in-Some : goal.operand::unary-returns-in-Some
 operand::unary-returns-in-Some t c =
     same_rule (λ e ts. unary_of e (below e c.args.room) ts) (unary_by c.args.room) (unary_is c.args.room)
-    (opens_rule (is_sign Bang) (λ e. prefixed_by Not) (λ e. not_bang e c.args.room) c.in-Some.is c.opens.ensures.opens c.prefixed.ensures)
+    (opens_rule (is_sign Bang) (λ e. prefixed_by Not) (λ e. not_bang e c.args.room) c.in-Some.is c.opens.ensures.opens
+    c.prefixed.ensures)
 
 pub operand::unary-returns-in-Some-opens : goal.operand::unary-returns-in-Some-opens
 operand::unary-returns-in-Some-opens t c =
     same_rule (λ e ts. unary_of e (below e c.args.room) ts) (unary_by c.args.room) (unary_is c.args.room)
-    (passes_rule (is_sign Bang) (λ e. prefixed_by Not) (λ e. not_bang e c.args.room) c.in_default.is c.opens.ensures.opens
-    (opens_rule (is_sign Plus) (λ e. prefixed_by UnaryPlus) (λ e. not_plus e c.args.room) c.in-Some-opens.is c.opens-2.ensures.opens
+    (passes_rule (is_sign Bang) (λ e. prefixed_by Not) (λ e. not_bang e c.args.room) c.in_default.is
+    c.opens.ensures.opens
+    (opens_rule (is_sign Plus) (λ e. prefixed_by UnaryPlus)
+    (λ e. not_plus e c.args.room) c.in-Some-opens.is c.opens-2.ensures.opens
     c.prefixed-in-Some-opens.ensures))
 
 pub operand::unary-returns-in-Some-opens-2 : goal.operand::unary-returns-in-Some-opens-2
 operand::unary-returns-in-Some-opens-2 t c =
     same_rule (λ e ts. unary_of e (below e c.args.room) ts) (unary_by c.args.room) (unary_is c.args.room)
-    (passes_rule (is_sign Bang) (λ e. prefixed_by Not) (λ e. not_bang e c.args.room) c.in_default.is c.opens.ensures.opens
-    (passes_rule (is_sign Plus) (λ e. prefixed_by UnaryPlus) (λ e. not_plus e c.args.room) c.in_default-opens.is c.opens-2.ensures.opens
-    (opens_rule (is_sign Minus) (λ e. prefixed_by UnaryMinus) (λ e. unprefixed e c.args.room) c.in-Some-opens-2.is c.opens-3.ensures.opens
+    (passes_rule (is_sign Bang) (λ e. prefixed_by Not) (λ e. not_bang e c.args.room) c.in_default.is
+    c.opens.ensures.opens
+    (passes_rule (is_sign Plus) (λ e. prefixed_by UnaryPlus)
+    (λ e. not_plus e c.args.room) c.in_default-opens.is c.opens-2.ensures.opens
+    (opens_rule (is_sign Minus) (λ e. prefixed_by UnaryMinus)
+    (λ e. unprefixed e c.args.room) c.in-Some-opens-2.is c.opens-3.ensures.opens
     c.prefixed-in-Some-opens-2.ensures)))
 
 pub operand::unary-returns : goal.operand::unary-returns
 operand::unary-returns t c =
     same_rule (λ e ts. unary_of e (below e c.args.room) ts) (unary_by c.args.room) (unary_is c.args.room)
-    (passes_rule (is_sign Bang) (λ e. prefixed_by Not) (λ e. not_bang e c.args.room) c.in_default.is c.opens.ensures.opens
-    (passes_rule (is_sign Plus) (λ e. prefixed_by UnaryPlus) (λ e. not_plus e c.args.room) c.in_default-opens.is c.opens-2.ensures.opens
-    (passes_rule (is_sign Minus) (λ e. prefixed_by UnaryMinus) (λ e. unprefixed e c.args.room) c.in_default-opens-2.is c.opens-3.ensures.opens
-    (follows (λ e ts. prim_at e (below e c.args.room) ts) (λ e. posts_of e (below e c.args.room)) c.primary-value.ensures
+    (passes_rule (is_sign Bang) (λ e. prefixed_by Not) (λ e. not_bang e c.args.room) c.in_default.is
+    c.opens.ensures.opens
+    (passes_rule (is_sign Plus) (λ e. prefixed_by UnaryPlus)
+    (λ e. not_plus e c.args.room) c.in_default-opens.is c.opens-2.ensures.opens
+    (passes_rule (is_sign Minus) (λ e. prefixed_by UnaryMinus)
+    (λ e. unprefixed e c.args.room) c.in_default-opens-2.is c.opens-3.ensures.opens
+    (follows (λ e ts. prim_at e (below e c.args.room) ts) (λ e. posts_of e (below e c.args.room))
+    c.primary-value.ensures
     c.posts.ensures))))
 
 pub operand::prefixed-returns : goal.operand::prefixed-returns
@@ -286,10 +291,12 @@ operand::posts-returns-in-Some-opens t c =
     (posts_by c.args.room (expression_of c.args.value)) (posts_is c.args.room (expression_of c.args.value))
     (passes_rule (is_sign OpenSquare) (index_by (expression_of c.args.value))
     (not_square c.args.room (expression_of c.args.value)) c.in_default.is c.opens.ensures.opens
-    (opens_rule (is_sign Dot) (member_by_word (expression_of c.args.value)) (not_dot (expression_of c.args.value)) c.in-Some-opens.is
+    (opens_rule (is_sign Dot) (member_by_word (expression_of c.args.value))
+    (not_dot (expression_of c.args.value)) c.in-Some-opens.is
     c.opens-2.ensures.opens
     (follows word_here
-    (λ e w. posts_of e (below e c.in-Some-opens.open.room) (member c.in-Some-opens.open.at (expression_of c.args.value) w.1))
+    (λ e w. posts_of e (below e c.in-Some-opens.open.room)
+    (member c.in-Some-opens.open.at (expression_of c.args.value) w.1))
     c.word-word.ensures
     (made_then (λ e a. posts_of e (below e c.in-Some-opens.open.room) a) c.member-whole.ensures
     c.posts-in-Some-opens.ensures))))
@@ -300,46 +307,58 @@ operand::posts-returns t c =
     (posts_by c.args.room (expression_of c.args.value)) (posts_is c.args.room (expression_of c.args.value))
     (passes_rule (is_sign OpenSquare) (index_by (expression_of c.args.value))
     (not_square c.args.room (expression_of c.args.value)) c.in_default.is c.opens.ensures.opens
-    (passes_rule (is_sign Dot) (member_by_word (expression_of c.args.value)) (not_dot (expression_of c.args.value)) c.in_default-opens.is
+    (passes_rule (is_sign Dot) (member_by_word (expression_of c.args.value))
+    (not_dot (expression_of c.args.value)) c.in_default-opens.is
     c.opens-2.ensures.opens
     (follows (λ e ts. left_out (is_sign Caret) Power ts) (λ e _ vs. Ok (expression_of c.args.value, vs))
     c.leaves_out_sign.ensures stay)))
 
 pub operand::indexed-returns-in_default : goal.operand::indexed-returns-in_default
 operand::indexed-returns-in_default t c =
-    no_room below rules_at no_rules more_rules (λ e r ts. expr_to e CloseSquare r.expr ts) c.in_default.is c.deeper.ensures.within
+    no_room below rules_at no_rules more_rules (λ e r ts. expr_to e CloseSquare r.expr ts) c.in_default.is
+    c.deeper.ensures.within
 
 pub operand::indexed-returns : goal.operand::indexed-returns
 operand::indexed-returns t c =
-    goes_in below rules_at no_rules more_rules (λ e r ts. expr_to e CloseSquare r.expr ts) c.in-Some.is c.deeper.ensures.within
+    goes_in below rules_at no_rules more_rules (λ e r ts. expr_to e CloseSquare r.expr ts) c.in-Some.is
+    c.deeper.ensures.within
     c.closed.ensures
 
 pub primary::primary-returns-in-Some : goal.primary::primary-returns-in-Some
 primary::primary-returns-in-Some t c =
     same_rule (λ e ts. prim_at e (below e c.args.room) ts) (primary_by c.args.room) (primary_is c.args.room)
-    (opens_rule (is_sign OpenRound) (λ e at r. expr_to e CloseRound r.expr) (λ e. not_round e c.args.room) c.in-Some.is c.opens.ensures.opens
+    (opens_rule (is_sign OpenRound) (λ e at r. expr_to e CloseRound r.expr)
+    (λ e. not_round e c.args.room) c.in-Some.is c.opens.ensures.opens
     c.closed.ensures)
 
 pub primary::primary-returns-in-Some-opens : goal.primary::primary-returns-in-Some-opens
 primary::primary-returns-in-Some-opens t c =
     same_rule (λ e ts. prim_at e (below e c.args.room) ts) (primary_by c.args.room) (primary_is c.args.room)
-    (passes_rule (is_sign OpenRound) (λ e at r. expr_to e CloseRound r.expr) (λ e. not_round e c.args.room) c.in_default.is c.opens.ensures.opens
-    (opens_rule (is_sign OpenSquare) (λ e at r. r.brackets at) (λ e. not_bracket e c.args.room) c.in-Some-opens.is c.opens-2.ensures.opens
+    (passes_rule (is_sign OpenRound) (λ e at r. expr_to e CloseRound r.expr)
+    (λ e. not_round e c.args.room) c.in_default.is c.opens.ensures.opens
+    (opens_rule (is_sign OpenSquare) (λ e at r. r.brackets at)
+    (λ e. not_bracket e c.args.room) c.in-Some-opens.is c.opens-2.ensures.opens
     c.brackets.ensures))
 
 pub primary::primary-returns-in-Some-literal : goal.primary::primary-returns-in-Some-literal
 primary::primary-returns-in-Some-literal t c =
     same_rule (λ e ts. prim_at e (below e c.args.room) ts) (primary_by c.args.room) (primary_is c.args.room)
-    (passes_rule (is_sign OpenRound) (λ e at r. expr_to e CloseRound r.expr) (λ e. not_round e c.args.room) c.in_default.is c.opens.ensures.opens
-    (passes_rule (is_sign OpenSquare) (λ e at r. r.brackets at) (λ e. not_bracket e c.args.room) c.in_default-opens.is c.opens-2.ensures.opens
-    (taking (λ e ts. literal_here ts) (λ e. by_literal e c.args.room) (ap (option_map expression_of) c.in-Some-literal.is) c.literal.ensures stay)))
+    (passes_rule (is_sign OpenRound) (λ e at r. expr_to e CloseRound r.expr)
+    (λ e. not_round e c.args.room) c.in_default.is c.opens.ensures.opens
+    (passes_rule (is_sign OpenSquare) (λ e at r. r.brackets at)
+    (λ e. not_bracket e c.args.room) c.in_default-opens.is c.opens-2.ensures.opens
+    (taking (λ e ts. literal_here ts) (λ e. by_literal e c.args.room)
+    (ap (option_map expression_of) c.in-Some-literal.is) c.literal.ensures stay)))
 
 pub primary::primary-returns : goal.primary::primary-returns
 primary::primary-returns t c =
     same_rule (λ e ts. prim_at e (below e c.args.room) ts) (primary_by c.args.room) (primary_is c.args.room)
-    (passes_rule (is_sign OpenRound) (λ e at r. expr_to e CloseRound r.expr) (λ e. not_round e c.args.room) c.in_default.is c.opens.ensures.opens
-    (passes_rule (is_sign OpenSquare) (λ e at r. r.brackets at) (λ e. not_bracket e c.args.room) c.in_default-opens.is c.opens-2.ensures.opens
-    (taking (λ e ts. literal_here ts) (λ e. by_literal e c.args.room) (ap (option_map expression_of) c.in_default-literal.is) c.literal.ensures
+    (passes_rule (is_sign OpenRound) (λ e at r. expr_to e CloseRound r.expr)
+    (λ e. not_round e c.args.room) c.in_default.is c.opens.ensures.opens
+    (passes_rule (is_sign OpenSquare) (λ e at r. r.brackets at)
+    (λ e. not_bracket e c.args.room) c.in_default-opens.is c.opens-2.ensures.opens
+    (taking (λ e ts. literal_here ts) (λ e. by_literal e c.args.room)
+    (ap (option_map expression_of) c.in_default-literal.is) c.literal.ensures
     c.named.ensures)))
 
 pub primary::named-returns-in_default : goal.primary::named-returns-in_default
@@ -402,7 +421,8 @@ vector::ranged-returns-then-takes t c =
     (ranged_by c.args.open.room c.args.open.at (expression_of c.args.start) (expression_of c.args.second))
     (ranged_is c.args.open.room c.args.open.at (expression_of c.args.start) (expression_of c.args.second))
     (taking (λ e ts. took (is_sign Colon) ts)
-    (λ e. by_taken (stepping c.args.open.room c.args.open.at (expression_of c.args.start) (expression_of c.args.second) e)
+    (λ e. by_taken (stepping c.args.open.room c.args.open.at (expression_of c.args.start)
+    (expression_of c.args.second) e)
     (ended c.args.open.at (expression_of c.args.start) (expression_of c.args.second) e))
     c.if-takes.true c.takes.ensures
     (follows (λ e ts. expr_to e CloseSquare (expr_of e (below e c.args.open.room)) ts)
@@ -416,7 +436,8 @@ vector::ranged-returns t c =
     (ranged_by c.args.open.room c.args.open.at (expression_of c.args.start) (expression_of c.args.second))
     (ranged_is c.args.open.room c.args.open.at (expression_of c.args.start) (expression_of c.args.second))
     (taking (λ e ts. took (is_sign Colon) ts)
-    (λ e. by_taken (stepping c.args.open.room c.args.open.at (expression_of c.args.start) (expression_of c.args.second) e)
+    (λ e. by_taken (stepping c.args.open.room c.args.open.at (expression_of c.args.start)
+    (expression_of c.args.second) e)
     (ended c.args.open.at (expression_of c.args.start) (expression_of c.args.second) e))
     c.if-takes.false c.takes.ensures
     (expected CloseSquare
@@ -426,23 +447,29 @@ vector::ranged-returns t c =
 pub element::element-returns-in-Some : goal.element::element-returns-in-Some
 element::element-returns-in-Some t c =
     same_rule (λ e ts. elem_of e (below e c.args.room) ts) (element_by c.args.room) (element_is c.args.room)
-    (opens_rule (is_key For) (λ e at r. r.for_behind at) (λ e. not_for e c.args.room) c.in-Some.is c.opens_key.ensures.opens
+    (opens_rule (is_key For) (λ e at r. r.for_behind at) (λ e. not_for e c.args.room) c.in-Some.is
+    c.opens_key.ensures.opens
     c.for_element.ensures)
 
 pub element::element-returns-in-Some-opens_key : goal.element::element-returns-in-Some-opens_key
 element::element-returns-in-Some-opens_key t c =
     same_rule (λ e ts. elem_of e (below e c.args.room) ts) (element_by c.args.room) (element_is c.args.room)
-    (passes_rule (is_key For) (λ e at r. r.for_behind at) (λ e. not_for e c.args.room) c.in_default.is c.opens_key.ensures.opens
-    (opens_rule (is_key Each) (λ e. each_by) (λ e. not_each e c.args.room) c.in-Some-opens_key.is c.opens_key-2.ensures.opens
+    (passes_rule (is_key For) (λ e at r. r.for_behind at) (λ e. not_for e c.args.room) c.in_default.is
+    c.opens_key.ensures.opens
+    (opens_rule (is_key Each) (λ e. each_by) (λ e. not_each e c.args.room) c.in-Some-opens_key.is
+    c.opens_key-2.ensures.opens
     (follows (λ e ts. (rules_at e c.in-Some-opens_key.open.room).elem ts)
     (λ e el us. Ok (each c.in-Some-opens_key.open.at el, us)) c.element-elem.ensures c.each.ensures)))
 
 pub element::element-returns-in-Some-opens_key-2 : goal.element::element-returns-in-Some-opens_key-2
 element::element-returns-in-Some-opens_key-2 t c =
     same_rule (λ e ts. elem_of e (below e c.args.room) ts) (element_by c.args.room) (element_is c.args.room)
-    (passes_rule (is_key For) (λ e at r. r.for_behind at) (λ e. not_for e c.args.room) c.in_default.is c.opens_key.ensures.opens
-    (passes_rule (is_key Each) (λ e. each_by) (λ e. not_each e c.args.room) c.in_default-opens_key.is c.opens_key-2.ensures.opens
-    (opens_rule (is_key If) (λ e. if_by) (λ e. not_if e c.args.room) c.in-Some-opens_key-2.is c.opens_key-3.ensures.opens
+    (passes_rule (is_key For) (λ e at r. r.for_behind at) (λ e. not_for e c.args.room) c.in_default.is
+    c.opens_key.ensures.opens
+    (passes_rule (is_key Each) (λ e. each_by) (λ e. not_each e c.args.room) c.in_default-opens_key.is
+    c.opens_key-2.ensures.opens
+    (opens_rule (is_key If) (λ e. if_by) (λ e. not_if e c.args.room) c.in-Some-opens_key-2.is
+    c.opens_key-3.ensures.opens
     (follows (λ e ts. (rules_at e c.in-Some-opens_key-2.open.room).round_expr ts)
     (λ e x us. then_read ((rules_at e c.in-Some-opens_key-2.open.room).elem us)
     ((rules_at e c.in-Some-opens_key-2.open.room).else_end c.in-Some-opens_key-2.open.at x))
@@ -454,10 +481,14 @@ element::element-returns-in-Some-opens_key-2 t c =
 pub element::element-returns-in-Some-opens_key-3 : goal.element::element-returns-in-Some-opens_key-3
 element::element-returns-in-Some-opens_key-3 t c =
     same_rule (λ e ts. elem_of e (below e c.args.room) ts) (element_by c.args.room) (element_is c.args.room)
-    (passes_rule (is_key For) (λ e at r. r.for_behind at) (λ e. not_for e c.args.room) c.in_default.is c.opens_key.ensures.opens
-    (passes_rule (is_key Each) (λ e. each_by) (λ e. not_each e c.args.room) c.in_default-opens_key.is c.opens_key-2.ensures.opens
-    (passes_rule (is_key If) (λ e. if_by) (λ e. not_if e c.args.room) c.in_default-opens_key-2.is c.opens_key-3.ensures.opens
-    (opens_rule (is_key Let) (λ e. let_by) (λ e. plain e c.args.room) c.in-Some-opens_key-3.is c.opens_key-4.ensures.opens
+    (passes_rule (is_key For) (λ e at r. r.for_behind at) (λ e. not_for e c.args.room) c.in_default.is
+    c.opens_key.ensures.opens
+    (passes_rule (is_key Each) (λ e. each_by) (λ e. not_each e c.args.room) c.in_default-opens_key.is
+    c.opens_key-2.ensures.opens
+    (passes_rule (is_key If) (λ e. if_by) (λ e. not_if e c.args.room) c.in_default-opens_key-2.is
+    c.opens_key-3.ensures.opens
+    (opens_rule (is_key Let) (λ e. let_by) (λ e. plain e c.args.room) c.in-Some-opens_key-3.is
+    c.opens_key-4.ensures.opens
     (follows (λ e ts. (rules_at e c.in-Some-opens_key-3.open.room).round_args ts)
     (λ e all us. then_read ((rules_at e c.in-Some-opens_key-3.open.room).elem us)
     (λ el vs. Ok (let_of c.in-Some-opens_key-3.open.at all el, vs))) c.round_arguments-args.ensures
@@ -468,10 +499,14 @@ element::element-returns-in-Some-opens_key-3 t c =
 pub element::element-returns : goal.element::element-returns
 element::element-returns t c =
     same_rule (λ e ts. elem_of e (below e c.args.room) ts) (element_by c.args.room) (element_is c.args.room)
-    (passes_rule (is_key For) (λ e at r. r.for_behind at) (λ e. not_for e c.args.room) c.in_default.is c.opens_key.ensures.opens
-    (passes_rule (is_key Each) (λ e. each_by) (λ e. not_each e c.args.room) c.in_default-opens_key.is c.opens_key-2.ensures.opens
-    (passes_rule (is_key If) (λ e. if_by) (λ e. not_if e c.args.room) c.in_default-opens_key-2.is c.opens_key-3.ensures.opens
-    (passes_rule (is_key Let) (λ e. let_by) (λ e. plain e c.args.room) c.in_default-opens_key-3.is c.opens_key-4.ensures.opens
+    (passes_rule (is_key For) (λ e at r. r.for_behind at) (λ e. not_for e c.args.room) c.in_default.is
+    c.opens_key.ensures.opens
+    (passes_rule (is_key Each) (λ e. each_by) (λ e. not_each e c.args.room) c.in_default-opens_key.is
+    c.opens_key-2.ensures.opens
+    (passes_rule (is_key If) (λ e. if_by) (λ e. not_if e c.args.room) c.in_default-opens_key-2.is
+    c.opens_key-3.ensures.opens
+    (passes_rule (is_key Let) (λ e. let_by) (λ e. plain e c.args.room) c.in_default-opens_key-3.is
+    c.opens_key-4.ensures.opens
     (follows (λ e ts. expr_of e (below e c.args.room) ts) (λ e x us. Ok (item x, us)) c.expression.ensures stay)))))
 
 pub element::otherwise-returns-in_default : goal.element::otherwise-returns-in_default
@@ -510,7 +545,8 @@ element::for_element-returns t c =
 
 pub element::for_head-returns-then-takes : goal.element::for_head-returns-then-takes
 element::for_head-returns-then-takes t c =
-    follows (λ e ts. args_of e (below e c.args.room) (length ts) no_arguments ts) (λ e. head_end e (below e c.args.room))
+    follows (λ e ts. args_of e (below e c.args.room) (length ts) no_arguments ts)
+    (λ e. head_end e (below e c.args.room))
     c.arguments-init.ensures
     (same_rule (λ e ts. head_end e (below e c.args.room) (arguments_seen c.arguments-init.result) ts)
     (λ e ts. head_by c.args.room e (arguments_seen c.arguments-init.result) ts)
@@ -522,7 +558,8 @@ element::for_head-returns-then-takes t c =
 
 pub element::for_head-returns : goal.element::for_head-returns
 element::for_head-returns t c =
-    follows (λ e ts. args_of e (below e c.args.room) (length ts) no_arguments ts) (λ e. head_end e (below e c.args.room))
+    follows (λ e ts. args_of e (below e c.args.room) (length ts) no_arguments ts)
+    (λ e. head_end e (below e c.args.room))
     c.arguments-init.ensures
     (same_rule (λ e ts. head_end e (below e c.args.room) (arguments_seen c.arguments-init.result) ts)
     (λ e ts. head_by c.args.room e (arguments_seen c.arguments-init.result) ts)

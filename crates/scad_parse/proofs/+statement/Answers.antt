@@ -11,17 +11,23 @@ use Rattle.scad_grammar.specs.Rules.{then_read, deeper, expr_of, expr_to}
 use Rattle.scad_grammar.specs.StatementRules.{statement_of, child_of, otherwise_of}
 use Rattle.scad_parse.specs.declared.fault.Form.TheVariants.{Include as IncludeForm, Use as UseForm, Root}
 use Rattle.scad_parse.specs.Reading.{below, rules_at, arguments_seen}
-use Rattle.scad_parse.specs.ReadingStatements.{below_statements, statement_rules_at, parameters_seen, marks_of, heading_read}
-use Rattle.scad_parse.specs.ReadingStatements.{other_of, unmarked_of, first_at, definition_at, word_at, call_at, callee_here}
+use Rattle.scad_parse.specs.ReadingStatements.{below_statements, statement_rules_at, parameters_seen, marks_of}
+use Rattle.scad_parse.specs.ReadingStatements.{heading_read}
+use Rattle.scad_parse.specs.ReadingStatements.{other_of, unmarked_of, first_at, definition_at, word_at, call_at}
+use Rattle.scad_parse.specs.ReadingStatements.{callee_here}
 use Rattle.scad_parse.specs.ReadingStatements.{marks_here}
 use Rattle.scad_parse.specs.Standing.{left_out, took, took_at, word_here}
 use Rattle.scad_parse.proofs.loops.Groups.{group_next, group_fewer_come, group_ended}
-use Rattle.scad_parse.proofs.rules.Steps.{follows, same_rule, stay, made_as, made_same, taking, by_taken, by_place, goes_in}
+use Rattle.scad_parse.proofs.rules.Steps.{follows, same_rule, stay, made_as, made_same, taking, by_taken, by_place}
+use Rattle.scad_parse.proofs.rules.Steps.{goes_in}
 use Rattle.scad_parse.proofs.rules.Steps.{no_room}
-use Rattle.scad_parse.proofs.rules.Statements.{no_statements, more_statements, opens_statement, passes_statement, by_marks}
+use Rattle.scad_parse.proofs.rules.Statements.{no_statements, more_statements, opens_statement, passes_statement}
+use Rattle.scad_parse.proofs.rules.Statements.{by_marks}
 use Rattle.scad_parse.proofs.rules.Statements.{when_at, unless_at, is_word, statement_by, statement_is, not_semicolon}
-use Rattle.scad_parse.proofs.rules.Statements.{not_curly, not_word, not_word_as, definition_by, definition_is, not_module}
-use Rattle.scad_parse.proofs.rules.Statements.{first_by, first_is, not_include, not_use, not_star, not_percent, not_hash}
+use Rattle.scad_parse.proofs.rules.Statements.{not_curly, not_word, not_word_as, definition_by, definition_is}
+use Rattle.scad_parse.proofs.rules.Statements.{not_module}
+use Rattle.scad_parse.proofs.rules.Statements.{first_by, first_is, not_include, not_use, not_star, not_percent}
+use Rattle.scad_parse.proofs.rules.Statements.{not_hash}
 use Rattle.scad_parse.proofs.rules.Statements.{not_root, marked_by, marked_is, run_by, run_is, not_left_out, called_by}
 use Rattle.scad_parse.proofs.rules.Statements.{other_by, other_is, otherwise_other, child_by, child_is, not_ended}
 use Rattle.scad_parse.proofs.rules.Statements.{word_behind_by, word_behind_is, assigned_by, module_by, module_is}
@@ -43,7 +49,8 @@ statement::statement-returns-in-Some t c =
     (taking (λ e ts. took (is_sign Semicolon) ts) (λ e. by_taken (λ us. Ok (items c.args.scope.items, us))
     (not_semicolon c.args.definitions c.args.room (items c.args.scope.items) e)) c.if-takes.false c.takes.ensures
     (opens_statement (is_sign OpenCurly) (λ e at r. r.group c.args.definitions (items c.args.scope.items))
-    (not_curly c.args.definitions c.args.room (items c.args.scope.items)) c.in-Some.is c.opens.ensures.opens c.group.ensures))
+    (not_curly c.args.definitions c.args.room (items c.args.scope.items)) c.in-Some.is c.opens.ensures.opens
+    c.group.ensures))
 
 pub statement::statement-returns-then-begins_with_word : goal.statement::statement-returns-then-begins_with_word
 statement::statement-returns-then-begins_with_word t c =
@@ -113,7 +120,8 @@ statement::worded-returns-in_default t c =
     (λ e w us. deeper (below_statements e c.args.room) w.0 (λ r. r.word_behind w.0 w.1 (items c.args.scope.items) us))
     c.word-word.ensures
     (no_room below_statements statement_rules_at no_statements more_statements
-    (λ e r us. r.word_behind c.word-word.result.at c.word-word.result.name (items c.args.scope.items) us) c.in_default.is
+    (λ e r us. r.word_behind c.word-word.result.at c.word-word.result.name (items c.args.scope.items) us)
+    c.in_default.is
     c.deeper.ensures.within)
 
 pub statement::worded-returns : goal.statement::worded-returns
@@ -128,19 +136,23 @@ statement::worded-returns t c =
 pub instance::called_first-returns-in_default : goal.instance::called_first-returns-in_default
 instance::called_first-returns-in_default t c =
     follows callee_here
-    (λ e w us. deeper (below_statements e c.args.room) w.0 (λ r. r.call_behind w.0 no_marks w.1 (items c.args.scope.items) us))
+    (λ e w us. deeper (below_statements e c.args.room) w.0
+    (λ r. r.call_behind w.0 no_marks w.1 (items c.args.scope.items) us))
     c.callee-word.ensures
     (no_room below_statements statement_rules_at no_statements more_statements
-    (λ e r us. r.call_behind c.callee-word.result.at no_marks c.callee-word.result.name (items c.args.scope.items) us) c.in_default.is
+    (λ e r us. r.call_behind c.callee-word.result.at no_marks c.callee-word.result.name (items c.args.scope.items) us)
+    c.in_default.is
     c.deeper.ensures.within)
 
 pub instance::called_first-returns : goal.instance::called_first-returns
 instance::called_first-returns t c =
     follows callee_here
-    (λ e w us. deeper (below_statements e c.args.room) w.0 (λ r. r.call_behind w.0 no_marks w.1 (items c.args.scope.items) us))
+    (λ e w us. deeper (below_statements e c.args.room) w.0
+    (λ r. r.call_behind w.0 no_marks w.1 (items c.args.scope.items) us))
     c.callee-word.ensures
     (goes_in below_statements statement_rules_at no_statements more_statements
-    (λ e r us. r.call_behind c.callee-word.result.at no_marks c.callee-word.result.name (items c.args.scope.items) us) c.in-Some.is
+    (λ e r us. r.call_behind c.callee-word.result.at no_marks c.callee-word.result.name (items c.args.scope.items) us)
+    c.in-Some.is
     c.deeper.ensures.within (by_marks
     (λ m e ts. (statement_rules_at e c.in-Some.inner).call_behind c.callee-word.result.at m c.callee-word.result.name
     (items c.args.scope.items) ts) c.unmarked-marks.ensures c.call.ensures))
@@ -153,7 +165,8 @@ statement::word_behind-returns-then-takes t c =
     (word_behind_is c.args.room c.args.word.at c.args.word.name (items c.args.scope.items))
     (taking (λ e ts. took (is_sign Assign) ts)
     (λ e. by_taken (assigned_by c.args.room c.args.word.at c.args.word.name (items c.args.scope.items) e)
-    ((statement_rules_at e c.args.room).call_behind c.args.word.at no_marks c.args.word.name (items c.args.scope.items)))
+    ((statement_rules_at e c.args.room).call_behind c.args.word.at no_marks c.args.word.name
+    (items c.args.scope.items)))
     c.if-takes.true c.takes.ensures
     (follows (λ e ts. expr_to e Semicolon (expr_of e (below e c.args.room)) ts)
     (λ e x vs. Ok (with_item (items c.args.scope.items) (assignment c.args.word.at c.args.word.name x), vs))
@@ -167,7 +180,8 @@ statement::word_behind-returns t c =
     (word_behind_is c.args.room c.args.word.at c.args.word.name (items c.args.scope.items))
     (taking (λ e ts. took (is_sign Assign) ts)
     (λ e. by_taken (assigned_by c.args.room c.args.word.at c.args.word.name (items c.args.scope.items) e)
-    ((statement_rules_at e c.args.room).call_behind c.args.word.at no_marks c.args.word.name (items c.args.scope.items)))
+    ((statement_rules_at e c.args.room).call_behind c.args.word.at no_marks c.args.word.name
+    (items c.args.scope.items)))
     c.if-takes.false c.takes.ensures
     (by_marks (λ m e ts. (statement_rules_at e c.args.room).call_behind c.args.word.at m c.args.word.name
     (items c.args.scope.items) ts) c.unmarked-marks.ensures c.call.ensures))
@@ -262,7 +276,8 @@ instance::first-returns-in-Some-opens_key t c =
     (follows (λ e ts. left_out (is_sign Bang) Root ts) (λ e _. not_root c.args.room (items c.args.scope.items) e)
     c.leaves_out_sign.ensures
     (opens_statement (is_key If) (λ e at r. r.choice_behind at no_marks (items c.args.scope.items))
-    (λ e. call_at e (below_statements e c.args.room) (items c.args.scope.items)) c.in-Some-opens_key.is c.opens_key.ensures.opens (by_marks
+    (λ e. call_at e (below_statements e c.args.room) (items c.args.scope.items)) c.in-Some-opens_key.is
+    c.opens_key.ensures.opens (by_marks
     (λ m e ts. (statement_rules_at e c.in-Some-opens_key.open.room).choice_behind c.in-Some-opens_key.open.at m
     (items c.args.scope.items) ts) c.unmarked-none.ensures c.choice.ensures))))))))
 
@@ -283,7 +298,8 @@ instance::first-returns t c =
     (follows (λ e ts. left_out (is_sign Bang) Root ts) (λ e _. not_root c.args.room (items c.args.scope.items) e)
     c.leaves_out_sign.ensures
     (passes_statement (is_key If) (λ e at r. r.choice_behind at no_marks (items c.args.scope.items))
-    (λ e. call_at e (below_statements e c.args.room) (items c.args.scope.items)) c.in_default-opens_key.is c.opens_key.ensures.opens c.called_first.ensures)))))))
+    (λ e. call_at e (below_statements e c.args.room) (items c.args.scope.items)) c.in_default-opens_key.is
+    c.opens_key.ensures.opens c.called_first.ensures)))))))
 
 pub instance::marked-returns : goal.instance::marked-returns
 instance::marked-returns t c =
@@ -339,7 +355,8 @@ instance::call-returns t c =
     (follows (λ e ts. child_of e (below_statements e c.args.room) ts)
     (λ e inside vs. Ok (
       with_statement (marks_of c.args.before.marks) (items c.args.before.scope.items)
-          (call_of c.args.word.at c.args.before.marks.percent c.args.before.marks.hash c.args.word.name (arguments_seen c.round_arguments-args.result) inside),
+          (call_of c.args.word.at c.args.before.marks.percent c.args.before.marks.hash c.args.word.name
+          (arguments_seen c.round_arguments-args.result) inside),
       vs,
     ))
     c.child-inside.ensures c.called.ensures)
@@ -351,23 +368,28 @@ instance::choice-returns t c =
     (otherwise_of e (below_statements e c.args.room) c.args.at (marks_of c.args.before.marks) x
     (items c.args.before.scope.items))) c.round_expression-test.ensures
     (follows (λ e ts. child_of e (below_statements e c.args.room) ts)
-    (λ e. otherwise_of e (below_statements e c.args.room) c.args.at (marks_of c.args.before.marks) (expression_of c.round_expression-test.result)
+    (λ e. otherwise_of e (below_statements e c.args.room) c.args.at (marks_of c.args.before.marks)
+    (expression_of c.round_expression-test.result)
     (items c.args.before.scope.items)) c.child-held.ensures
-    (same_rule (λ e ts. otherwise_of e (below_statements e c.args.room) c.args.at (marks_of c.args.before.marks) (expression_of c.round_expression-test.result)
+    (same_rule (λ e ts. otherwise_of e (below_statements e c.args.room) c.args.at (marks_of c.args.before.marks)
+    (expression_of c.round_expression-test.result)
     (items c.args.before.scope.items) (items c.child-held.result.items) ts)
     (λ e ts. then_read (other_of e (below_statements e c.args.room) ts)
     (λ other us. Ok (
       with_statement (marks_of c.args.before.marks) (items c.args.before.scope.items)
-          (choice c.args.at c.args.before.marks.percent c.args.before.marks.hash (expression_of c.round_expression-test.result)
+          (choice c.args.at c.args.before.marks.percent c.args.before.marks.hash
+          (expression_of c.round_expression-test.result)
           (items c.child-held.result.items) other),
       us,
     )))
-    (λ e ts. otherwise_other e (below_statements e c.args.room) c.args.at (marks_of c.args.before.marks) (expression_of c.round_expression-test.result)
+    (λ e ts. otherwise_other e (below_statements e c.args.room) c.args.at (marks_of c.args.before.marks)
+    (expression_of c.round_expression-test.result)
     (items c.args.before.scope.items) (items c.child-held.result.items) ts)
     (follows (λ e ts. other_of e (below_statements e c.args.room) ts)
     (λ e other us. Ok (
       with_statement (marks_of c.args.before.marks) (items c.args.before.scope.items)
-          (choice c.args.at c.args.before.marks.percent c.args.before.marks.hash (expression_of c.round_expression-test.result)
+          (choice c.args.at c.args.before.marks.percent c.args.before.marks.hash
+          (expression_of c.round_expression-test.result)
           (items c.child-held.result.items) other),
       us,
     ))
@@ -393,7 +415,8 @@ instance::child-returns-then-takes t c =
     (child_by c.args.room (items c.new-none.result.items))
     (child_is c.args.room c.new-none.result.items c.new-none.ensures.items)
     (taking (λ e ts. took (is_sign Semicolon) ts)
-    (λ e. by_taken (λ us. Ok (items c.new-none.result.items, us)) (not_ended c.args.room (items c.new-none.result.items) e))
+    (λ e. by_taken (λ us. Ok (items c.new-none.result.items, us))
+    (not_ended c.args.room (items c.new-none.result.items) e))
     c.if-takes.true c.takes.ensures stay)
 
 pub instance::child-returns-in-Some : goal.instance::child-returns-in-Some
@@ -402,7 +425,8 @@ instance::child-returns-in-Some t c =
     (child_by c.args.room (items c.new-none.result.items))
     (child_is c.args.room c.new-none.result.items c.new-none.ensures.items)
     (taking (λ e ts. took (is_sign Semicolon) ts)
-    (λ e. by_taken (λ us. Ok (items c.new-none.result.items, us)) (not_ended c.args.room (items c.new-none.result.items) e))
+    (λ e. by_taken (λ us. Ok (items c.new-none.result.items, us))
+    (not_ended c.args.room (items c.new-none.result.items) e))
     c.if-takes.false c.takes.ensures
     (opens_statement (is_sign OpenCurly) (λ e at r. r.group false (items c.new-none.result.items))
     (λ e. first_at e (below_statements e c.args.room) (items c.new-none.result.items))
@@ -414,7 +438,8 @@ instance::child-returns t c =
     (child_by c.args.room (items c.new-none.result.items))
     (child_is c.args.room c.new-none.result.items c.new-none.ensures.items)
     (taking (λ e ts. took (is_sign Semicolon) ts)
-    (λ e. by_taken (λ us. Ok (items c.new-none.result.items, us)) (not_ended c.args.room (items c.new-none.result.items) e))
+    (λ e. by_taken (λ us. Ok (items c.new-none.result.items, us))
+    (not_ended c.args.room (items c.new-none.result.items) e))
     c.if-takes.false c.takes.ensures
     (passes_statement (is_sign OpenCurly) (λ e at r. r.group false (items c.new-none.result.items))
     (λ e. first_at e (below_statements e c.args.room) (items c.new-none.result.items))
@@ -422,7 +447,8 @@ instance::child-returns t c =
 
 pub definition::module-returns : goal.definition::module-returns
 definition::module-returns t c =
-    same_rule (λ e ts. (statement_rules_at e c.args.open.room).module_behind c.args.open.at (items c.args.scope.items) ts)
+    same_rule (λ e ts. (statement_rules_at e c.args.open.room).module_behind c.args.open.at
+    (items c.args.scope.items) ts)
     (module_by c.args.open.room c.args.open.at (items c.args.scope.items) (items c.new-none.result.items))
     (module_is c.args.open.room c.args.open.at (items c.args.scope.items) c.new-none.result.items
     c.new-none.ensures.items)

@@ -179,7 +179,8 @@ module _ (room : ℕ) {q r r1 r2 r3 : Reader} (items after : List Arg) (x : Arg)
   arguments_go = record {
     ends = comma.ends ∙ (push.ends ∙ (read.ends ∙ g.ends));
     going = going_on (args_of q.end (below q.end room)) no_arguments arguments (argument_of q.end (below q.end room))
-        (comma_or ends_arguments q.end no_value) items (items ++ (x ∷ [])) after (argument_seen x) (standing q) (standing r)
+        (comma_or ends_arguments q.end no_value) items (items ++ (x ∷ [])) after (argument_seen x) (standing q)
+        (standing r)
         (standing r1) (standing r2) (standing r3) g.going read_here push.turn comma_here
         (λ ts0 ts us ws here there is end h. subst (λ all. Goes (args_of q.end (below q.end room))
         (args_of q.end (below q.end room) (length ts0) no_arguments ts0) all ws) (sym (arguments_push items x))
@@ -204,7 +205,8 @@ pub arguments_end : (room : ℕ) {q r : Reader} (items after : List Arg) → Arg
     Reads (λ e ts. args_of e (below e room) (length ts) no_arguments ts) q r (arguments after)
 arguments_end room {q} {r} items after g last same = record {
   ends = g.ends;
-  turn = subst (λ all. Turn (λ ts. args_of q.end (below q.end room) (length ts) no_arguments ts) (standing q) (standing r)
+  turn = subst (λ all. Turn (λ ts. args_of q.end (below q.end room) (length ts) no_arguments ts) (standing q)
+      (standing r)
       (arguments all)) (sym same) (going_ends (args_of q.end (below q.end room)) no_arguments (arguments items)
       (λ ts. Ok (arguments items, ts)) (standing q) (standing r) (standing r) (arguments items) g.going
       (turn_stay (standing r) (arguments items)) (λ ts0 ts here h. args_end q.end room _ (arguments items) ts

@@ -151,7 +151,8 @@ elements_begin room at q items none =
           (ap elements none);
     }
 
-ranged_here : (room : ℕ) (at : Place) (items : List Elem) (e : Place) (whole : Read Expression) (ts : List Token) (x : Element) (s : Standing) →
+ranged_here : (room : ℕ) (at : Place) (items : List Elem) (e : Place) (whole : Read Expression) (ts : List Token)
+    (x : Element) (s : Standing) →
     begins_with CloseSquare ts ≡ false → Goes (elements_at e room at) whole (elements items) ts →
     Given (elem_of e (below e room) ts) s x → stands_at (is_sign Colon) s ≡ true →
     whole ≡ then_read (elem_of e (below e room) ts) (λ el us. ranged e (below e room) at (elements items) el us)
@@ -207,18 +208,22 @@ module _ (room : ℕ) (at : Place) {q r r1 : Reader} (items : List Elem) where
       Reads (λ e ts. ranged e (below e room) at (elements items) (element_of x) ts) r1 s b →
       Reads (λ e ts. elements_of e (below e room) (length ts) at no_elements ts) q s b
   elements_ranged {s} {b} x g more read colon range =
-      let w = follows (λ e ts. elem_of e (below e room) ts) (λ e el us. ranged e (below e room) at (elements items) el us)
+      let w = follows (λ e ts. elem_of e (below e room) ts)
+          (λ e el us. ranged e (below e room) at (elements items) el us)
       read range in record {
         ends = w.ends ∙ g.ends;
         turn = going_ends (elements_at q.end room at) no_elements (elements items)
             (λ ts. then_read (elem_of q.end (below q.end room) ts)
-            (λ el us. ranged q.end (below q.end room) at (elements items) el us)) (standing q) (standing r) (standing s) b g.going
+            (λ el us. ranged q.end (below q.end room) at (elements items) el us)) (standing q) (standing r)
+            (standing s) b g.going
             (subst (λ e. Turn (λ ts. then_read (elem_of e (below e room) ts)
             (λ el us. ranged e (below e room) at (elements items) el us)) (standing r) (standing s) b) g.ends w.turn)
-            (λ ts0 ts here h. ranged_here room at items q.end (elements_at q.end room at (length ts0) no_elements ts0) ts (element_of x)
+            (λ ts0 ts here h. ranged_here room at items q.end
+            (elements_at q.end room at (length ts0) no_elements ts0) ts (element_of x)
             (standing r1) (more_sign CloseSquare (standing r) ts more here) h
             (subst (λ s. Turn (elem_of q.end (below q.end room)) s (standing r1) (element_of x)) here
-            (subst (λ e. Turn (elem_of e (below e room)) (standing r) (standing r1) (element_of x)) g.ends read.turn)) colon);
+            (subst (λ e. Turn (elem_of e (below e room)) (standing r) (standing r1) (element_of x)) g.ends read.turn))
+            colon);
       }
 
 pub elements_ended : (room : ℕ) (at : Place) {q r s : Reader} (items after : List Elem) {b : Expression} →
@@ -228,11 +233,14 @@ pub elements_ended : (room : ℕ) (at : Place) {q r s : Reader} (items after : L
 elements_ended room at {q} {r} {s} items after {b} is g last ends now same =
     let x : vector at (elements items) ≡ b = ap (λ all. vector at (elements all)) (sym same) ∙ sym is in record {
       ends = ends ∙ g.ends;
-      turn = subst (λ b. Turn (λ ts. elements_of q.end (below q.end room) (length ts) at no_elements ts) (standing q) (standing s)
+      turn = subst (λ b. Turn (λ ts. elements_of q.end (below q.end room) (length ts) at no_elements ts) (standing q)
+          (standing s)
           b) x (going_ends (elements_at q.end room at) no_elements (elements items)
           (λ ts. Ok (vector at (elements items), behind ts)) (standing q) (standing r) (standing s)
           (vector at (elements items)) g.going
-          (subst (λ s. Turn (λ ts. Ok (vector at (elements items), behind ts)) (standing r) s (vector at (elements items)))
-          (sym now) (turn_passed (standing r) (vector at (elements items)))) (λ ts0 ts here h. elements_end q.end room at _
+          (subst (λ s. Turn (λ ts. Ok (vector at (elements items), behind ts)) (standing r) s
+          (vector at (elements items)))
+          (sym now) (turn_passed (standing r) (vector at (elements items))))
+          (λ ts0 ts here h. elements_end q.end room at _
           (elements items) ts (last_sign CloseSquare (standing r) ts last here) h));
     }

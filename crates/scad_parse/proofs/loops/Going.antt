@@ -154,14 +154,16 @@ more_arguments s (t ∷ ts) h here = flipped (ends_arguments t) (ap (λ s. lacks
 
 pub last_sign : (sign : SignName) (s : Standing) (ts : List Token) → lacks (is_sign sign) s ≡ false → s ≡ Ok ts →
     begins_with sign ts ≡ true
-last_sign sign s [] h here = let no : lacks (is_sign sign) (Ok []) ≡ false = ap (λ s. lacks (is_sign sign) s) (sym here) ∙ h in
+last_sign sign s [] h here = let no : lacks (is_sign sign) (Ok []) ≡ false = ap (λ s. lacks (is_sign sign) s) (sym here)
+    ∙ h in
     absurd (cc)
 last_sign sign s (t ∷ ts) h here =
     unflipped (is_sign sign t) (ap (λ s. lacks (is_sign sign) s) (sym here) ∙ h)
 
 pub last_argument : (s : Standing) (ts : List Token) → lacks ends_arguments s ≡ false → s ≡ Ok ts →
     at_end_of_arguments ts ≡ true
-last_argument s [] h here = let no : lacks ends_arguments (Ok []) ≡ false = ap (λ s. lacks ends_arguments s) (sym here) ∙ h in
+last_argument s [] h here = let no : lacks ends_arguments (Ok []) ≡ false = ap (λ s. lacks ends_arguments s) (sym here)
+    ∙ h in
     absurd (cc)
 last_argument s (t ∷ ts) h here = unflipped (ends_arguments t) (ap (λ s. lacks ends_arguments s) (sym here) ∙ h)
 

@@ -85,14 +85,16 @@ group_begin room d start q =
 module _ (room : ℕ) (d : Bool) (start so_far next : Items) {q r s : Reader} (g : GroupGo room d start q r so_far)
     (more : lacks (is_sign CloseCurly) (standing r) ≡ true)
     (read : Reads (λ e ts. statement_of e (below_statements e room) d so_far ts) r s next) where
-  abbrev statement_here : Turn (statement_of q.end (below_statements q.end room) d so_far) (standing r) (standing s) next
+  abbrev statement_here : Turn (statement_of q.end (below_statements q.end room) d so_far) (standing r)
+      (standing s) next
   statement_here = subst (λ e. Turn (statement_of e (below_statements e room) d so_far) (standing r) (standing s) next)
       g.ends read.turn
 
   pub group_next : GroupGo room d start q s next
   group_next = record {
     ends = read.ends ∙ g.ends;
-    going = going_next (group_at q.end room d) start so_far next (statement_of q.end (below_statements q.end room) d so_far)
+    going = going_next (group_at q.end room d) start so_far next
+        (statement_of q.end (below_statements q.end room) d so_far)
         (standing q) (standing r) (standing s) g.going statement_here
         (λ ts0 ts us here is h. group_goes q.end room d (group_at q.end room d (length ts0) start ts0) so_far ts
         (more_sign CloseCurly (standing r) ts more here) h us next is)
@@ -111,6 +113,7 @@ group_ended room d start so_far {q} {r} {s} g last ends now = record {
   ends = ends ∙ g.ends;
   turn = going_ends (group_at q.end room d) start so_far (λ ts. Ok (so_far, behind ts)) (standing q) (standing r)
       (standing s) so_far g.going
-      (subst (λ s. Turn (λ ts. Ok (so_far, behind ts)) (standing r) s so_far) (sym now) (turn_passed (standing r) so_far))
+      (subst (λ s. Turn (λ ts. Ok (so_far, behind ts)) (standing r) s so_far) (sym now)
+      (turn_passed (standing r) so_far))
       (λ ts0 ts here h. group_ends q.end room d _ so_far ts (last_sign CloseCurly (standing r) ts last here) h);
 }

@@ -19,7 +19,8 @@ use Rattle.scad_parse.specs.Reading.{below, rules_at, behind, comma_or, no_value
 use Rattle.scad_parse.specs.ReadingStatements.{parameter_of, parameter_by, default_of}
 use Rattle.scad_parse.specs.declared.reader.Reader.{Reader}
 use Rattle.scad_parse.specs.Standing.{Reads, Turn, standing, made, lacks, passed}
-use Rattle.scad_parse.proofs.loops.Going.{Going, going_begins, going_on, going_ends, fewer_to_come, more_sign, last_sign}
+use Rattle.scad_parse.proofs.loops.Going.{Going, going_begins, going_on, going_ends, fewer_to_come, more_sign}
+use Rattle.scad_parse.proofs.loops.Going.{last_sign}
 use Rattle.scad_parse.proofs.loops.Going.{turn_passed}
 use Rattle.scad_parse.proofs.loops.Turns.{Goes, less, goes_on, stops, leaves, comma_leaves, fewer, to_come}
 
@@ -167,7 +168,8 @@ module _ (room : ℕ) {q r r1 r2 r3 : Reader} (all after : List Param) (x : Para
     (push : Reads (made (all ++ (x ∷ []))) r1 r2 after)
     (comma : Reads (λ e ts. comma_or (is_sign CloseRound) e no_value ts) r2 r3 no_value) where
   abbrev read_here : Turn (parameter_of q.end (below q.end room)) (standing r) (standing r1) (parameter x)
-  read_here = subst (λ e. Turn (parameter_of e (below e room)) (standing r) (standing r1) (parameter x)) g.ends read.turn
+  read_here = subst (λ e. Turn (parameter_of e (below e room)) (standing r) (standing r1) (parameter x)) g.ends
+      read.turn
 
   abbrev comma_here : Turn (comma_or (is_sign CloseRound) q.end no_value) (standing r2) (standing r3) no_value
   comma_here = subst (λ e. Turn (comma_or (is_sign CloseRound) e no_value) (standing r2) (standing r3) no_value)
@@ -177,13 +179,15 @@ module _ (room : ℕ) {q r r1 r2 r3 : Reader} (all after : List Param) (x : Para
   parameters_go = record {
     ends = comma.ends ∙ (push.ends ∙ (read.ends ∙ g.ends));
     going = going_on (params_at q.end room) [] (map parameter) (parameter_of q.end (below q.end room))
-        (comma_or (is_sign CloseRound) q.end no_value) all (all ++ (x ∷ [])) after (parameter x) (standing q) (standing r)
+        (comma_or (is_sign CloseRound) q.end no_value) all (all ++ (x ∷ [])) after (parameter x) (standing q)
+        (standing r)
         (standing r1) (standing r2) (standing r3) g.going read_here push.turn comma_here
         (λ ts0 ts us ws here there is end h. subst (λ xs. Goes (params_at q.end room)
         (params_at q.end room (length ts0) [] ts0) xs ws) (sym (parameters_push all x))
         (params_go q.end room (params_at q.end room (length ts0) [] ts0) (map parameter all) ts
         (more_sign CloseRound (standing r) ts more here) h us ws (parameter x) is end))
-        (λ ts0 ts fault here is h. params_stop q.end room (params_at q.end room (length ts0) [] ts0) (map parameter all) ts
+        (λ ts0 ts fault here is h. params_stop q.end room (params_at q.end room (length ts0) [] ts0)
+        (map parameter all) ts
         (more_sign CloseRound (standing r) ts more here) h fault is)
         (λ ts0 ts us fault here there is end h. params_stop_behind q.end room (params_at q.end room (length ts0) [] ts0)
         (map parameter all) ts (more_sign CloseRound (standing r) ts more here) h us (parameter x) fault is end);

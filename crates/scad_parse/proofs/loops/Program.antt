@@ -101,9 +101,11 @@ program_less end so_far next (Ok (u ∷ us)) (Ok vs) more x =
 module _ (ts : List Token) (end : Place) (so_far next : Items) {r s : Reader} (g : ProgramGo ts end r so_far)
     (more : more_to_come (standing r) ≡ true)
     (read : Reads (λ e ts. statement_of e (below_statements e most_open) true so_far ts) r s next) where
-  abbrev statement_here : Turn (statement_of end (below_statements end most_open) true so_far) (standing r) (standing s) next
+  abbrev statement_here : Turn (statement_of end (below_statements end most_open) true so_far) (standing r)
+      (standing s) next
   statement_here =
-      subst (λ e. Turn (statement_of e (below_statements e most_open) true so_far) (standing r) (standing s) next) g.ends
+      subst (λ e. Turn (statement_of e (below_statements e most_open) true so_far) (standing r) (standing s) next)
+      g.ends
       read.turn
 
   pub program_next : ProgramGo ts end s next

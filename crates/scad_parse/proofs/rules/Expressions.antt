@@ -9,7 +9,8 @@ use Rattle.scad_lex.specs.declared.token.Sign.TheVariants.{Colon, Bang, Plus, Mi
 use Rattle.scad_lex.specs.declared.token.Key.TheVariants.{Function, If, Else, For, Let, Assert, Echo, Each}
 use Rattle.scad_ast.specs.declared.operator.UnOp.TheVariants.{Not, Plus as UnaryPlus, Minus as UnaryMinus}
 use Rattle.scad_ast.specs.declared.operator.BinOp.{BinOp}
-use Rattle.scad_ast.specs.Tree.{Expression, name, call, choose, index, member, range, stepped, binary, Element, item, each, Elements}
+use Rattle.scad_ast.specs.Tree.{Expression, name, call, choose, index, member, range, stepped, binary, Element, item}
+use Rattle.scad_ast.specs.Tree.{each, Elements}
 use Rattle.scad_ast.specs.Tree.{if_element, if_else, Arguments}
 use Rattle.scad_grammar.specs.Tokens.{is_sign, is_key, word_of, operator}
 use Rattle.scad_grammar.specs.Lists.{let_of}
@@ -17,16 +18,20 @@ use Rattle.scad_grammar.specs.Behind.{letting, asserting, echoing}
 use Rattle.scad_grammar.specs.Steps.{literal, range_start}
 use Rattle.scad_grammar.specs.Grammar.{begins_named}
 use Rattle.scad_grammar.specs.Machine.{syntax_at, left_out_at}
-use Rattle.scad_grammar.specs.Rules.{Read, Rules, then_read, behind_sign, deeper, expr_of, operand_of, unary_of, prim_of}
+use Rattle.scad_grammar.specs.Rules.{Read, Rules, then_read, behind_sign, deeper, expr_of, operand_of, unary_of}
+use Rattle.scad_grammar.specs.Rules.{prim_of}
 use Rattle.scad_grammar.specs.Rules.{posts_of, links_of, link_of, choice_of, expr_to, word_rule, call_or_name}
 use Rattle.scad_grammar.specs.Rules.{literal_rule, member_by, member_of}
-use Rattle.scad_grammar.specs.Rules.{elem_of, else_of, range_by, range_end, head_end, Head, for_all, for_steps, args_closed_of}
+use Rattle.scad_grammar.specs.Rules.{elem_of, else_of, range_by, range_end, head_end, Head, for_all, for_steps}
+use Rattle.scad_grammar.specs.Rules.{args_closed_of}
 use Rattle.scad_parse.specs.declared.fault.Form.TheVariants.{Function as FunctionForm, Power}
-use Rattle.scad_parse.specs.Reading.{below, rules_at, bound_by, prefixed_by, prim_at, name_at, no_value, behind, place_of}
+use Rattle.scad_parse.specs.Reading.{below, rules_at, bound_by, prefixed_by, prim_at, name_at, no_value, behind}
+use Rattle.scad_parse.specs.Reading.{place_of}
 use Rattle.scad_parse.specs.Reading.{range_at, name_before, first_word, argument_of}
 use Rattle.scad_parse.specs.declared.reader.Reader.{Reader}
 use Rattle.scad_parse.specs.declared.reader.Open.{Open}
-use Rattle.scad_parse.specs.Standing.{Standing, Turn, Reads, Opens, standing, passed, operator_at, left_out, literal_here, literal_by, word_here, word_by, took}
+use Rattle.scad_parse.specs.Standing.{Standing, Turn, Reads, Opens, standing, passed, operator_at, left_out}
+use Rattle.scad_parse.specs.Standing.{literal_here, literal_by, word_here, word_by, took}
 use Rattle.scad_parse.proofs.rules.Steps.{opened_or, opens, passes, follows, turn_refused, out, by_taken, taken}
 
 pub no_rules : (e : Place) → below e 0 ≡ None
@@ -40,13 +45,15 @@ more_rules e n = refl
 module _ {B : Type 0} where
   pub opens_rule : (test : Token → Bool) (k : Place → Place → Rules → List Token → Read B)
       (rest : Place → List Token → Read B) {room : ℕ} {o : Open} {q r s : Reader} {b : B}
-      {found : Option Open} → found ≡ Some o → Opens test room q r found → Reads (λ e. k e o.at (rules_at e o.room)) r s b →
+      {found : Option Open} → found ≡ Some o → Opens test room q r found → Reads
+      (λ e. k e o.at (rules_at e o.room)) r s b →
       Reads (λ e. opened_or test (below e room) (k e) (rest e)) q s b
   opens_rule test k rest is x y = opens below rules_at no_rules more_rules test k rest is x y
 
   pub passes_rule : (test : Token → Bool) (k : Place → Place → Rules → List Token → Read B)
       (rest : Place → List Token → Read B) {room : ℕ} {q r s : Reader} {b : B} {found : Option Open} →
-      found ≡ None → Opens test room q r found → Reads rest r s b → Reads (λ e. opened_or test (below e room) (k e) (rest e)) q s b
+      found ≡ None → Opens test room q r found → Reads rest r s b → Reads
+      (λ e. opened_or test (below e room) (k e) (rest e)) q s b
   passes_rule test k rest is x y = passes below rules_at no_rules more_rules test k rest is x y
 
 -- ---- expressions
@@ -279,7 +286,8 @@ pub range_reads : (room : ℕ) (at : Place) (all : Elements) (first : Element) {
 range_reads room at all first {q} {r1} {r2} {s} {start} {second} {b} is ends now y z =
     let w = follows (λ e ts. expr_of e (below e room) ts) (λ e. range_end e (below e room) at start) y z in record {
       ends = w.ends ∙ ends;
-      turn = subst (λ o. Turn (λ ts. range_by q.end (below q.end room) at (place_of q.end ts) o (behind ts)) (standing q)
+      turn = subst (λ o. Turn (λ ts. range_by q.end (below q.end room) at (place_of q.end ts) o (behind ts))
+          (standing q)
           (standing s) b) (sym is) (range_turn room q.end at start (standing q) (standing r1) (standing s) b now
           (subst (λ e. Turn (behind_start room at start e) (standing r1) (standing s) b) ends w.turn));
     }

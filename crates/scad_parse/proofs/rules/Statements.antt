@@ -6,7 +6,8 @@ use Rattle.scad_fault.specs.declared.place.Place.{Place}
 use Rattle.scad_lex.specs.declared.token.Token.{Token}
 use Rattle.scad_lex.specs.declared.token.Sign.TheVariants.{Star, Percent, Hash, Bang, Semicolon, OpenCurly, Assign}
 use Rattle.scad_lex.specs.declared.token.Key.TheVariants.{Else, If, Include, Use, Module, Function}
-use Rattle.scad_ast.specs.Tree.{Expression, Parameter, Items, no_items, entry, choice, assignment, module_of, function_of}
+use Rattle.scad_ast.specs.Tree.{Expression, Parameter, Items, no_items, entry, choice, assignment, module_of}
+use Rattle.scad_ast.specs.Tree.{function_of}
 use Rattle.scad_ast.specs.Scope.{item_of, items}
 use Rattle.scad_ast.specs.declared.statement.Item.{Item}
 use Rattle.scad_grammar.specs.Tokens.{is_sign, is_key, word_of}
@@ -14,15 +15,19 @@ use Rattle.scad_grammar.specs.Lists.{with_item, with_statement, Marks, no_marks,
 use Rattle.scad_grammar.specs.StatementSteps.{callee}
 use Rattle.scad_grammar.specs.Machine.{left_out_at}
 use Rattle.scad_grammar.specs.Rules.{Read, then_read, behind_sign, deeper, expr_of, expr_to, in_round_of}
-use Rattle.scad_grammar.specs.StatementRules.{StatementRules, statement_of, start_of, definition_of, first_of, marked_first}
-use Rattle.scad_grammar.specs.StatementRules.{call_first, call_by, child_of, otherwise_of, heading_of, heading_by, marked_of}
+use Rattle.scad_grammar.specs.StatementRules.{StatementRules, statement_of, start_of, definition_of, first_of}
+use Rattle.scad_grammar.specs.StatementRules.{marked_first}
+use Rattle.scad_grammar.specs.StatementRules.{call_first, call_by, child_of, otherwise_of, heading_of, heading_by}
+use Rattle.scad_grammar.specs.StatementRules.{marked_of}
 use Rattle.scad_grammar.specs.StatementRules.{choice_behind_of}
 use Rattle.scad_parse.specs.declared.fault.Form.TheVariants.{Include as IncludeForm, Use as UseForm, Root}
 use Rattle.scad_parse.specs.declared.reader.Reader.{Reader}
 use Rattle.scad_parse.specs.declared.reader.Open.{Open}
 use Rattle.scad_parse.specs.Reading.{below, rules_at, behind}
-use Rattle.scad_parse.specs.ReadingStatements.{below_statements, statement_rules_at, heading_read, other_of, unmarked_of}
-use Rattle.scad_parse.specs.ReadingStatements.{begins_with_mark, with_first_mark, marks_here, first_at, definition_at, word_at}
+use Rattle.scad_parse.specs.ReadingStatements.{below_statements, statement_rules_at, heading_read, other_of}
+use Rattle.scad_parse.specs.ReadingStatements.{unmarked_of}
+use Rattle.scad_parse.specs.ReadingStatements.{begins_with_mark, with_first_mark, marks_here, first_at, definition_at}
+use Rattle.scad_parse.specs.ReadingStatements.{word_at}
 use Rattle.scad_parse.specs.ReadingStatements.{call_at, callee_here, default_of, parameter_of, parameter_by}
 use Rattle.scad_parse.specs.Standing.{Standing, Given, Turn, Reads, Opens, standing, stands_at, left_out, took, took_at}
 use Rattle.scad_parse.specs.Standing.{word_here, word_by, standing_of}
@@ -411,7 +416,8 @@ module_by room at all inside e ts =
 pub module_is : (room : ℕ) (at : Place) (all : Items) (inside : List Item) → inside ≡ [] → (e : Place)
     (ts : List Token) → (statement_rules_at e room).module_behind at all ts ≡ module_by room at all (items inside) e ts
 module_is room at all inside none e ts =
-    headed e (below_statements e room) (λ w params us. then_read (statement_of e (below_statements e room) true no_items us)
+    headed e (below_statements e room) (λ w params us. then_read
+    (statement_of e (below_statements e room) true no_items us)
     (λ body vs. Ok (with_item all (module_of at w params body), vs))) ts
     ∙ ap (λ xs. module_by room at all (items xs) e ts) (sym none)
 

@@ -14,7 +14,8 @@ use Rattle.scad_parse.specs.declared.fault.Form.{Form}
 use Rattle.scad_parse.specs.declared.reader.Reader.{Reader}
 use Rattle.scad_parse.specs.declared.reader.Open.{Open}
 use Rattle.scad_parse.specs.Reading.{no_value}
-use Rattle.scad_parse.specs.Standing.{Standing, standing, Given, Turn, Reads, Opens, Within, Kept, stands_at, opened, open_at}
+use Rattle.scad_parse.specs.Standing.{Standing, standing, Given, Turn, Reads, Opens, Within, Kept, stands_at, opened}
+use Rattle.scad_parse.specs.Standing.{open_at}
 use Rattle.scad_parse.specs.Standing.{within, room_in, made, failed, needed, left_out, form_name, took, took_at}
 
 -- ---- one rule behind another
@@ -160,8 +161,7 @@ abbrev pub opened_or : {R B : Type 0} → (Token → Bool) → Option R → (Pla
 opened_or test lower k rest [] = rest []
 opened_or test lower k rest (t ∷ ts) = if test t then deeper lower t.at (λ r. k t.at r ts) else rest (t ∷ ts)
 
--- "(" and what stands behind it
-pub round_is : {R B : Type 0} (e : Place) (lower : Option R) (f : R → List Token → Read B) (b : B) (ts : List Token) →
+round_is : {R B : Type 0} (e : Place) (lower : Option R) (f : R → List Token → Read B) (b : B) (ts : List Token) →
     in_round_of e lower f ts
     ≡ then_read (needed (is_sign OpenRound) e ts) (λ _. opened_or (λ t. true) lower (λ at. f) (λ us. Ok (b, us)))
 round_is e lower f b [] = refl
@@ -218,11 +218,13 @@ module _ {R : Type 0} (lower : Place → ℕ → Option R) (level : Place → �
 
   pub opens : {B : Type 0} (test : Token → Bool) (k : Place → Place → R → List Token → Read B)
       (rest : Place → List Token → Read B) {room : ℕ} {o : Open} {q r s : Reader} {b : B} →
-      {found : Option Open} → found ≡ Some o → Opens test room q r found → Reads (λ e. k e o.at (level e o.room)) r s b →
+      {found : Option Open} → found ≡ Some o → Opens test room q r found → Reads
+      (λ e. k e o.at (level e o.room)) r s b →
       Reads (λ e. opened_or test (lower e room) (k e) (rest e)) q s b
   opens test k rest {room} {o} {q} {r} {s} {b} is x y = record {
     ends = y.ends ∙ x.ends;
-    turn = opens_at test room q.end (k q.end) (rest q.end) (standing q) (standing r) (standing s) o b x.now (sym is ∙ x.is)
+    turn = opens_at test room q.end (k q.end) (rest q.end) (standing q) (standing r) (standing s) o b x.now
+        (sym is ∙ x.is)
         (subst (λ e. Turn (k e o.at (level e o.room)) (standing r) (standing s) b) x.ends y.turn);
   }
 
@@ -232,9 +234,36 @@ module _ {R : Type 0} (lower : Place → ℕ → Option R) (level : Place → �
       Reads (λ e. opened_or test (lower e room) (k e) (rest e)) q s b
   passes test k rest {room} {q} {r} {s} {b} is x y = record {
     ends = y.ends ∙ x.ends;
-    turn = closes_at test room q.end (k q.end) (rest q.end) (standing q) (standing r) (standing s) b x.now (sym is ∙ x.is)
+    turn = closes_at test room q.end (k q.end) (rest q.end) (standing q) (standing r) (standing s) b x.now
+        (sym is ∙ x.is)
         (subst (λ e. Turn (rest e) (standing r) (standing s) b) x.ends y.turn);
   }
+
+  -- "(" and what stands behind it
+  pub round_opens : {B : Type 0} (f : Place → R → List Token → Read B) {room : ℕ} {o : Open} {q r s t : Reader} {b : B}
+      {found : Option Open} → Reads (needed (is_sign OpenRound)) q r no_value → found ≡ Some o →
+      Opens (λ t. true) room r s found → Reads (λ e. f e (level e o.room)) s t b →
+      Reads (λ e ts. in_round_of e (lower e room) (f e) ts) q t b
+  round_opens f {room} {b = b} x is y z =
+      same_rule (λ e ts. in_round_of e (lower e room) (f e) ts)
+      (λ e ts. then_read (needed (is_sign OpenRound) e ts)
+      (λ _. opened_or (λ t. true) (lower e room) (λ at. f e) (λ us. Ok (b, us))))
+      (λ e ts. round_is e (lower e room) (f e) b ts)
+      (follows (needed (is_sign OpenRound))
+      (λ e _. opened_or (λ t. true) (lower e room) (λ at. f e) (λ us. Ok (b, us))) x
+      (opens (λ t. true) (λ e at. f e) (λ e us. Ok (b, us)) is y z))
+
+  pub round_stops : {B : Type 0} (f : Place → R → List Token → Read B) {room : ℕ} {q r s : Reader} {b : B}
+      {found : Option Open} → Reads (needed (is_sign OpenRound)) q r no_value → found ≡ None →
+      Opens (λ t. true) room r s found → Reads (λ e ts. in_round_of e (lower e room) (f e) ts) q s b
+  round_stops f {room} {b = b} x is y =
+      same_rule (λ e ts. in_round_of e (lower e room) (f e) ts)
+      (λ e ts. then_read (needed (is_sign OpenRound) e ts)
+      (λ _. opened_or (λ t. true) (lower e room) (λ at. f e) (λ us. Ok (b, us))))
+      (λ e ts. round_is e (lower e room) (f e) b ts)
+      (follows (needed (is_sign OpenRound))
+      (λ e _. opened_or (λ t. true) (lower e room) (λ at. f e) (λ us. Ok (b, us))) x
+      (passes (λ t. true) (λ e at. f e) (λ e us. Ok (b, us)) is y stay))
 
   -- ---- a construct that begins at a place
   goes_at : {B : Type 0} (room n : ℕ) (at e : Place) (k : R → List Token → Read B) (r s t : Standing) (b : B) →
@@ -266,9 +295,11 @@ module _ {R : Type 0} (lower : Place → ℕ → Option R) (level : Place → �
   stops_at (suc m) at e k r s b now is = absurd (cc)
 
   pub no_room : {B : Type 0} (k : Place → R → List Token → Read B) {room : ℕ} {at : Place} {q r : Reader} {b : B}
-      {found : Option ℕ} → found ≡ None → Within room at q r found → Reads (λ e ts. deeper (lower e room) at (λ r. k e r ts)) q r b
+      {found : Option ℕ} → found ≡ None → Within room at q r found → Reads
+      (λ e ts. deeper (lower e room) at (λ r. k e r ts)) q r b
   no_room k {room} {at} {q} {r} {b} is x =
-      record { ends = x.ends; turn = stops_at room at q.end (k q.end) (standing q) (standing r) b x.now (sym is ∙ x.is) }
+      record { ends = x.ends; turn = stops_at room at q.end (k q.end) (standing q) (standing r) b x.now
+          (sym is ∙ x.is) }
 
 -- ---- a part in its box
 box_here : {T : Type 0} (found : Option T) (x : T) (s t : Standing) → found ≡ Some x →
@@ -283,7 +314,8 @@ pub boxed_some : {T B : Type 0} {found : Option T} {x : T} {q r : Reader} {a b :
     b ≡ a → Reads (made a) q r b
 boxed_some {found = found} {x} {q} {r} {a} {b} is k same = record {
   ends = k.ends;
-  turn = subst (λ t. Turn (λ ts. Ok (a, ts)) (standing q) t b) (sym (box_here found x (standing q) (standing r) is k.now))
+  turn = subst (λ t. Turn (λ ts. Ok (a, ts)) (standing q) t b)
+      (sym (box_here found x (standing q) (standing r) is k.now))
       (subst (λ b. Turn (λ ts. Ok (a, ts)) (standing q) (standing q) b) (sym same) (turn_stay (standing q) a));
 }
 

@@ -12,7 +12,8 @@ use Rattle.scad_parse.proofs.definition.function.Goals as goal
 
 pub returns : goal.returns
 returns c =
-    same_rule (λ e ts. (statement_rules_at e c.args.open.room).function_behind c.args.open.at (items c.args.scope.items) ts)
+    same_rule (λ e ts. (statement_rules_at e c.args.open.room).function_behind c.args.open.at
+    (items c.args.scope.items) ts)
     (function_by c.args.open.room c.args.open.at (items c.args.scope.items))
     (function_is c.args.open.room c.args.open.at (items c.args.scope.items))
     (follows (λ e ts. heading_read e (below_statements e c.args.open.room) ts)

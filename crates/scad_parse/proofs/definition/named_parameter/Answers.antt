@@ -9,7 +9,8 @@ use Rattle.scad_parse.proofs.definition.named_parameter.Goals as goal
 
 pub returns : goal.returns
 returns c =
-    same_rule (λ e ts. parameter_of e (below e c.args.room) ts) (parameter_by_word c.args.room) (parameter_is c.args.room)
+    same_rule (λ e ts. parameter_of e (below e c.args.room) ts) (parameter_by_word c.args.room)
+    (parameter_is c.args.room)
     (follows word_here (λ e w us. then_read (default_of e (below e c.args.room) us)
     (λ d vs. Ok (record { name = w.1; default = d }, vs))) c.word-word.ensures
     (follows (λ e ts. default_of e (below e c.args.room) ts)

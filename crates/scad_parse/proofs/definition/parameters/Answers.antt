@@ -4,12 +4,14 @@ use Rattle.scad_parse.proofs.definition.parameters.Goals as goal
 
 pub members-preserved : goal.members-preserved
 members-preserved c =
-    parameters_go c.args.room c.members.params.items c.push.new.all.items c.named_parameter-param.result c.members.invariant
+    parameters_go c.args.room c.members.params.items c.push.new.all.items c.named_parameter-param.result
+    c.members.invariant
     (sym c.lacks.ensures ∙ c.members-test.true) c.named_parameter-param.ensures c.push.ensures c.behind_member.ensures
 
 pub members-smaller : goal.members-smaller
 members-smaller c =
-    parameters_fewer c.args.room c.members.params.items c.push.new.all.items c.named_parameter-param.result c.members.invariant
+    parameters_fewer c.args.room c.members.params.items c.push.new.all.items c.named_parameter-param.result
+    c.members.invariant
     (sym c.lacks.ensures ∙ c.members-test.true) c.named_parameter-param.ensures c.push.ensures c.behind_member.ensures
 
 pub returns : goal.returns

@@ -15,7 +15,8 @@ marks-preserved c = (
 )
 
 pub marks-smaller : goal.marks-smaller
-marks-smaller c = rw c.behind-reader.ensures (mark_fewer c.marks.reader.left.now (sym c.is_mark.ensures ∙ c.marks-test.true))
+marks-smaller c = rw c.behind-reader.ensures (mark_fewer c.marks.reader.left.now
+    (sym c.is_mark.ensures ∙ c.marks-test.true))
 
 pub returns : goal.returns
 returns c = record {
