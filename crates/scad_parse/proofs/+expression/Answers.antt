@@ -95,8 +95,11 @@ expression::bound-returns t c =
     (λ e all us. then_read ((rules_at e c.args.open.room).expr us)
     (λ x vs. Ok (keyed_tree (keyed c.args.binder) c.args.open.at all x, vs))) c.round_arguments-args.ensures
     (follows (λ e ts. (rules_at e c.args.open.room).expr ts)
-    (λ e x vs. Ok (keyed_tree (keyed c.args.binder) c.args.open.at
-    (arguments_seen c.round_arguments-args.result) x, vs))
+    (λ e x vs. Ok (
+      keyed_tree (keyed c.args.binder) c.args.open.at
+          (arguments_seen c.round_arguments-args.result) x,
+      vs,
+    ))
     c.expression-body.ensures c.bound.ensures)
 
 pub expression::choice-returns-in_default : goal.expression::choice-returns-in_default

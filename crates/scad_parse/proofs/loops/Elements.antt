@@ -209,7 +209,7 @@ module _ (room : ℕ) (at : Place) {q r r1 : Reader} (items : List Elem) where
       Reads (λ e ts. elements_of e (below e room) (length ts) at no_elements ts) q s b
   elements_ranged {s} {b} x g more read colon range =
       let w = follows (λ e ts. elem_of e (below e room) ts)
-          (λ e el us. ranged e (below e room) at (elements items) el us)
+      (λ e el us. ranged e (below e room) at (elements items) el us)
       read range in record {
         ends = w.ends ∙ g.ends;
         turn = going_ends (elements_at q.end room at) no_elements (elements items)

@@ -298,8 +298,11 @@ module _ {R : Type 0} (lower : Place → ℕ → Option R) (level : Place → �
       {found : Option ℕ} → found ≡ None → Within room at q r found → Reads
       (λ e ts. deeper (lower e room) at (λ r. k e r ts)) q r b
   no_room k {room} {at} {q} {r} {b} is x =
-      record { ends = x.ends; turn = stops_at room at q.end (k q.end) (standing q) (standing r) b x.now
-          (sym is ∙ x.is) }
+      record {
+        ends = x.ends;
+        turn = stops_at room at q.end (k q.end) (standing q) (standing r) b x.now
+            (sym is ∙ x.is);
+      }
 
 -- ---- a part in its box
 box_here : {T : Type 0} (found : Option T) (x : T) (s t : Standing) → found ≡ Some x →
