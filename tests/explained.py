@@ -6,6 +6,7 @@ check, or nothing.
 """
 
 import os
+import re
 import shlex
 import shutil
 import signal
@@ -317,14 +318,15 @@ class WordsOfCases:
 
 
 class Workshop:
-    """A small repository of the launcher, its crates without code, and an `rt` that notes what it is asked for."""
+    """A small repository of the launcher, its crates without code, and a kit whose `rattle` notes what it is asked for."""
 
-    RT = """#!/bin/sh
+    RT = "#!/bin/sh\n[ \"$*\" = doc ] && echo {room}/kit/page\n"
+    RATTLE = """#!/bin/sh
 echo "$(basename "$PWD") $*" >>{room}/asked
-[ "$1" = run ] || exit 0
-mkdir -p out && cp {program} out/scad_tool
-echo 'usage: scadslice COMMAND'
+for made; do :; done
+[ "$(basename "$PWD")" = scad_tool ] && cp {program} "$made" || mkdir "$made"
 """
+    LINK = "#!/bin/sh\nwhile [ \"$1\" != -o ]; do shift; done\ncp \"$3\" \"$2\"\n"
 
     def __init__(self, launcher):
         self.top = os.path.dirname(launcher)
@@ -340,11 +342,15 @@ echo 'usage: scadslice COMMAND'
         place(f"{room}/scadslice", content(f"{self.top}/scadslice"))
         for name in ("crates.txt", "docs/architecture.md"):
             shutil.copy(f"{self.top}/{name}", f"{room}/{name}")
-        shutil.copytree(f"{self.top}/explain", f"{room}/explain", ignore=shutil.ignore_patterns("__pycache__"))
+        for name in ("explain", "building"):
+            shutil.copytree(f"{self.top}/{name}", f"{room}/{name}", ignore=shutil.ignore_patterns("__pycache__"))
         with open(f"{room}/crates.txt", encoding="utf-8") as file:
             for crate in (line.split(":")[0].split()[0] for line in file if line[0].islower()):
                 os.makedirs(f"{room}/crates/{crate}/src")
-        place(f"{room}/bin/rt", self.RT.format(room=shlex.quote(room), program=shlex.quote(program)).encode())
+        os.makedirs(f"{room}/kit/bin")
+        place(f"{room}/kit/KIT-ID", b"a kit\n")
+        for path, script in (("bin/rt", self.RT), ("kit/bin/rattle", self.RATTLE), ("kit/bin/rattle-link", self.LINK)):
+            place(f"{room}/{path}", script.format(room=shlex.quote(room), program=shlex.quote(program)).encode())
         return {"cwd": room, "stdin": subprocess.DEVNULL, "env": {"PATH": f"{room}/bin:{PATH}", "LANG": "C.UTF-8"}}
 
 
@@ -366,7 +372,7 @@ class WithoutProgram(Workshop):
 
 
 class Building(Workshop):
-    """A first build tells its share and the time left, and works by few jobs."""
+    """A first build tells its share and the time left, and proves each crate behind its libraries."""
 
     name = "explained_first_build"
 
@@ -376,7 +382,7 @@ class Building(Workshop):
                 file.write(CUBE)
             ended = self.run(room, program, ["check", "m.scad"])
             with open(f"{room}/asked", encoding="utf-8") as file:
-                asked = file.read().split("\n")
+                asked = [line.split() for line in file]
         lines = ended.stderr.decode().splitlines()
         shares = [int(line.split()[1]) for line in lines if " % done, " in line]
         told = (ended.returncode, ended.stdout) == (0, b"ok: 1 leaves, 12 triangles, 5 layers\n")
@@ -385,9 +391,11 @@ class Building(Workshop):
         is_weighed = any(after - before > 4 for before, after in zip(shares, shares[1:]))
         found += ["no crate takes longer than the others"] * (not is_weighed)
         found += ["no time is told"] * (" minutes left" not in lines[0])
-        found += [f"rt was asked for {asked[0]}"] * (asked[0][:len("scad_base lib --jobs ")] != "scad_base lib --jobs ")
-        found += [f"rt was asked at last for {asked[-2]}"] * (asked[-2][:len("scad_tool run ")] != "scad_tool run ")
-        return found
+        found += [f"rattle was asked at last for {asked[-1]}"] * (asked[-1][:2] != ["scad_tool", "build"])
+        libraries = {words[0]: set(re.findall(r"(\w+)=\S*/out/libraries/", " ".join(words))) for words in asked}
+        found += [f"{crate} is proved before its libraries" for at, crate in enumerate(libraries)
+                  if not libraries[crate] - {"dependency"} <= set(list(libraries)[:at])]
+        return found + ["a crate is asked for twice"] * (len(libraries) != len(asked))
 
 
 class Builders(Workshop):
@@ -408,18 +416,28 @@ class Builders(Workshop):
 
 
 class NotBuilt(Workshop):
-    """Where a crate can't be proved, the launcher says what `rt` said and ends with the status 70."""
+    """Where a crate can't be proved, the launcher says what `rattle` said and ends with the status 70; the next one goes on there."""
 
     name = "explained_a_build_that_fails"
-    RT = """#!/bin/sh
-if [ "$(basename "$PWD")" = scad_cos ]; then echo an open goal; exit 1; fi
-"""
+    RATTLE = Workshop.RATTLE.replace("\nfor", """
+if [ -e open ]; then echo an open goal; exit 1; fi
+for""")
 
     def tried(self, program):
         with tempfile.TemporaryDirectory(prefix="scadslice-") as room:
-            ended = self.run(room, program, ["check", "m.scad"])
-        is_told = b"an open goal" in ended.stderr and b"not built" in ended.stderr
-        return [f"it ended with {ended}"] * ((ended.returncode, ended.stdout, is_told) != (70, b"", True))
+            how = {**self.made(room, program), "timeout": TIME_LIMIT, "capture_output": True}
+            place(f"{room}/crates/scad_cos/open", b"")
+            ended = subprocess.run([f"{room}/scadslice", "check", "m.scad"], **how)
+            os.remove(f"{room}/crates/scad_cos/open")
+            with open(f"{room}/m.scad", "wb") as file:
+                file.write(CUBE)
+            again = subprocess.run([f"{room}/scadslice", "check", "m.scad"], **how)
+            asked = content(f"{room}/asked").split(b"\n")
+        is_told = b"scad_cos is not proved:\nan open goal" in ended.stderr and b"not built" in ended.stderr
+        found = [f"it ended with {ended}"] * ((ended.returncode, ended.stdout, is_told) != (70, b"", True))
+        found += [f"the next one ended with {again}"] * (again.returncode != 0)
+        twice = {line.split()[0] for line in asked if line and asked.count(line) > 1}
+        return found + [f"{twice} are asked for twice"] * (twice != {b"scad_cos"})
 
 
 class Signals(Workshop):
