@@ -18,16 +18,18 @@ pub fn model_of_source(alloc: Global, source: &[u8]) -> Result<Model, ModelEnd>
     ensures { Makes (source_means source.now) result }
 {
     match lex(alloc, source) {
-        Ok(tokens) => model_of_tokens(alloc, &tokens),
+        Ok(tokens) => model_of_tokens(alloc, tokens),
         Err(fault) => Err(nothing_made(alloc, text_fault(alloc, fault))),
     }
 }
 
-/// What tokens make.
-fn model_of_tokens(alloc: Global, tokens: &Tokens) -> Result<Model, ModelEnd>
-    ensures { Makes (tokens_mean (Ok (tokens.now.list.items, tokens.now.end))) result }
+/// What tokens make. They are given up before the program is evaluated.
+fn model_of_tokens(alloc: Global, tokens: Tokens) -> Result<Model, ModelEnd>
+    ensures { Makes (tokens_mean (Ok (tokens.list.items, tokens.end))) result }
 {
-    match parse(alloc, tokens) {
+    let read = parse(alloc, &tokens);
+    drop(tokens);
+    match read {
         Ok(program) => model(alloc, &program),
         Err(fault) => Err(nothing_made(alloc, tokens_fault(alloc, fault))),
     }

@@ -7,12 +7,12 @@ use Rattle.scad_run.proofs.meaning.model_of_tokens.Goals as goal
 
 pub returns-in-Ok : goal.returns-in-Ok
 returns-in-Ok c =
-    subst (λ (m : Outcome Solid). Makes m c.model.result) (program_read c.args.tokens.now.list.items
-    c.args.tokens.now.end _ c.in-Ok.ensures)
+    subst (λ (m : Outcome Solid). Makes m c.model.result) (program_read c.args.tokens.list.items
+    c.args.tokens.end _ c.in-Ok.ensures)
     c.model.ensures
 
 pub returns-in-Err : goal.returns-in-Err
 returns-in-Err c =
-    made_nothing c.args.tokens.now.list.items c.args.tokens.now.end c.in-Err.fault c.nothing_made.result
+    made_nothing c.args.tokens.list.items c.args.tokens.end c.in-Err.fault c.nothing_made.result
     c.in-Err.ensures
     (c.nothing_made.ensures.fault ∙ c.tokens_fault.ensures) c.nothing_made.ensures.echoes
