@@ -5,6 +5,7 @@ keep what is proved of each function for a next check, which takes a sixth more 
 crates below from others meanwhile. Standard error tells how far it is; the status is 0 where the program is built.
 """
 
+import contextlib
 import hashlib
 import os
 import re
@@ -120,11 +121,11 @@ class Prover:
             self.sums[it] = hashlib.sha256(repr(parts).encode()).hexdigest()
 
     def is_proved(self, library):
-        try:
-            with open(f"{self.libraries}/{library.name}.sum", encoding="utf-8") as file:
-                return file.read() == self.sums[library]
-        except FileNotFoundError:
+        made = f"{self.libraries}/{library.name}"
+        if not os.path.isdir(f"{made}.rlib") or not os.path.isfile(f"{made}.sum"):
             return False
+        with open(f"{made}.sum", encoding="utf-8") as file:
+            return file.read() == self.sums[library]
 
     def prove(self, crate):
         if crate is self.program:
@@ -135,7 +136,8 @@ class Prover:
     def make_library(self, crate):
         made = f"{self.libraries}/{crate.name}"
         os.makedirs(self.libraries, exist_ok=True)
-        shutil.rmtree(f"{made}.rlib", ignore_errors=True)
+        with contextlib.suppress(FileNotFoundError):
+            os.remove(f"{made}.sum")
         self.run(crate, *self.build(crate, "src/lib.rt"), "--statements", "-o", f"{made}.rlib")
         if crate.sum_of_files() != self.files[crate]:
             raise Failure(f"{crate.name} was changed while it was proved: try again\n")
