@@ -166,6 +166,8 @@ class Prover:
     def run(self, crate, *words):
         how = {"stdin": subprocess.DEVNULL, "stdout": subprocess.PIPE, "stderr": subprocess.STDOUT, "text": True}
         ran = subprocess.run([*self.start, *words], cwd=crate.folder, errors="replace", check=False, **how)
+        if ran.returncode < 0:
+            raise Failure(f"{crate.name} is not proved: signal {-ran.returncode} ended its check, which may want memory\n")
         if ran.returncode:
             raise Failure(f"{crate.name} is not proved:\n{ran.stdout}")
 
