@@ -61,8 +61,8 @@ def crates_of_program(top):
 def seconds_of(crates, top):
     """What the proof of each crate takes by the table of docs/architecture.md. One without a time there takes as long
     for a line as the others."""
-    lines, timed = {}, {}
-    with open(f"{top}/docs/architecture.md", encoding="utf-8") as file:
+    lines, timed, rows = {}, {}, []
+    with contextlib.suppress(FileNotFoundError), open(f"{top}/docs/architecture.md", encoding="utf-8") as file:
         rows = [[cell.strip() for cell in row.split("|")] for row in file if row.startswith("| ")]
     for row in rows:
         if len(row) == 11 and row[2].isdigit():
@@ -107,17 +107,17 @@ class Prover:
     """Proves crates, and has their libraries in a folder of the program's own."""
 
     def __init__(self, crates):
-        self.program, self.kit = crates[-1], kit()
+        self.crates, self.program, self.kit = crates, crates[-1], kit()
         self.out = f"{self.program.folder}/out"
         self.libraries = f"{self.out}/libraries"
         # A check ends with whoever waits for it.
         self.start = ["setpriv", "--pdeathsig", "KILL", "--"] if shutil.which("setpriv") else []
         with open(f"{self.kit}/KIT-ID", "rb") as file:
-            known = file.read()
+            kit_id = file.read()
         # Of each crate a sum of its files, and one of all that its library is made of.
         self.files, self.sums = {it: it.sum_of_files() for it in crates}, {}
         for it in crates:
-            parts = known, self.files[it], it.of_kit, [self.sums[library] for library in it.own]
+            parts = kit_id, self.files[it], it.of_kit, [self.sums[library] for library in it.own]
             self.sums[it] = hashlib.sha256(repr(parts).encode()).hexdigest()
 
     def is_proved(self, library):
@@ -138,21 +138,28 @@ class Prover:
         os.makedirs(self.libraries, exist_ok=True)
         with contextlib.suppress(FileNotFoundError):
             os.remove(f"{made}.sum")
-        self.run(crate, *self.build(crate, "src/lib.rt"), "--statements", "-o", f"{made}.rlib")
-        if crate.sum_of_files() != self.files[crate]:
-            raise Failure(f"{crate.name} was changed while it was proved: try again\n")
+        shutil.rmtree(f"{made}.rlib", ignore_errors=True)
+        self.run(crate, *self.words_of(crate, "src/lib.rt"), "--statements", "-o", f"{made}.rlib")
+        self.stop_on_change(crate)
         with open(f"{made}.sum", "w", encoding="utf-8") as file:
             file.write(self.sums[crate])
 
     def make_program(self):
         made, tools = f"{self.out}/{PROGRAM}", ["--toolchain", f"{self.kit}/toolchain"]
-        self.run(self.program, *self.build(self.program, "src/main.rt"), *tools, "-o", f"{made}.o")
+        self.run(self.program, *self.words_of(self.program, "src/main.rt"), *tools, "-o", f"{made}.o")
         link = [f"{self.kit}/bin/rattle-link", "--target", TARGET, *tools, "-o", f"{made}.new", f"{made}.o"]
         # What the kit's own libraries call of C.
         self.run(self.program, *link, *(f"{self.kit}/c/{it}" for it in ("libos_c.a", "liblibc_c.a")))
+        # (a program is taken as that of all sources that are older than it)
+        self.stop_on_change(*self.crates)
         os.replace(f"{made}.new", made)
 
-    def build(self, crate, root):
+    def stop_on_change(self, *crates):
+        for crate in crates:
+            if crate.sum_of_files() != self.files[crate]:
+                raise Failure(f"{crate.name} was changed while the program was built: try again\n")
+
+    def words_of(self, crate, root):
         yield from (f"{self.kit}/bin/rattle", "build", "--crate-name", crate.name, root)
         for name in crate.of_kit:
             yield from ("--extern", f"{name}={self.kit}/rlibs/{name}.rlib")
@@ -173,7 +180,8 @@ class Prover:
 
 
 def build(top):
-    """Proves each crate as soon as its libraries are proved, and tells at each what is done and what time is left."""
+    """Proves each crate as soon as its libraries are proved, and tells at each what is done and what time is left. What
+    is begun is ended after a failure too, and kept. Returns whether there was none."""
     crates, jobs, started = crates_of_program(top), jobs_of_machine(), time.monotonic()
     seconds, prover, number = seconds_of(crates, top), Prover(crates), len(crates)
     proved = {it for it in crates[:-1] if prover.is_proved(it)}
@@ -187,25 +195,32 @@ def build(top):
                 running[pool.submit(prover.prove, crate)] = crate
                 share = 100 - 100 * left / sum(seconds.values())
                 rate = (SECONDS_BELIEVED / jobs + time.monotonic() - started) / (SECONDS_BELIEVED + done)
-                tell(f"{int(share)} % done, {in_words(left * rate)} left; proving crate {number - len(waiting)} of {number},",
-                     f"{crate.name} ({jobs} at once)")
+                tell(f"{int(share)} % done, {in_words(left * rate)} left;",
+                     f"proving crate {number - len(waiting)} of {number}, {crate.name} ({jobs} at once)")
             for task in wait(running, return_when=FIRST_COMPLETED).done:
                 crate = running.pop(task)
-                task.result()
-                proved.add(crate)
+                try:
+                    task.result()
+                except Failure as failure:
+                    print(failure, end="", file=sys.stderr, flush=True)
+                    # (nothing more is begun)
+                    waiting = []
+                else:
+                    proved.add(crate)
                 left, done = left - seconds[crate], done + seconds[crate]
-    tell(f"the program is built, after {int(time.monotonic() - started)} seconds")
+    if crates[-1] in proved:
+        tell(f"the program is built, after {int(time.monotonic() - started)} seconds")
+    return crates[-1] in proved
 
 
 def main(top):
     try:
-        build(top)
-    except Failure as failure:
-        print(failure, end="", file=sys.stderr)
+        return 0 if build(top) else 1
+    except (OSError, subprocess.CalledProcessError) as error:
+        tell(error)
         return 1
     except KeyboardInterrupt:
         return 130
-    return 0
 
 
 if __name__ == "__main__":

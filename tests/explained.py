@@ -67,7 +67,7 @@ class Explained:
 def explained_checks(launcher):
     told = lambda name, status, wanted, words, **more: Explained(name, status, wanted, words, launcher, **more)
     checks = [usage, faults, budgets, refused_settings, unread, unwritten, warned, outside, bad_outlines, bad_programs]
-    workshops = [WithoutProgram, Building, Builders, NotBuilt, Signals]
+    workshops = [WithoutProgram, Building, Rebuilding, Builders, NotBuilt, Signals]
     others = [WordsOfCases(), *(workshop(launcher) for workshop in workshops)]
     return [it for of in checks for it in of(told)] + others
 
@@ -323,7 +323,7 @@ class Workshop:
     RT = "#!/bin/sh\n[ \"$*\" = doc ] && echo {room}/kit/page\n"
     RATTLE = """#!/bin/sh
 echo "$(basename "$PWD") $*" >>{room}/asked
-for made; do :; done
+for made; do case "$made" in *=*/out/libraries/*.rlib) [ -d "${{made#*=}}" ] || exit 1; esac; done
 [ "$(basename "$PWD")" = scad_tool ] && cp {program} "$made" || mkdir "$made"
 """
     LINK = "#!/bin/sh\nwhile [ \"$1\" != -o ]; do shift; done\ncp \"$3\" \"$2\"\n"
@@ -390,12 +390,46 @@ class Building(Workshop):
         found += ["the shares don't rise from 0"] * (shares != sorted(shares) or shares[0] != 0 or shares[-1] < 80)
         is_weighed = any(after - before > 4 for before, after in zip(shares, shares[1:]))
         found += ["no crate takes longer than the others"] * (not is_weighed)
-        found += ["no time is told"] * (" minutes left" not in lines[0])
+        found += ["no time is told"] * (" left; proving crate 1 of " not in lines[0])
         found += [f"rattle was asked at last for {asked[-1]}"] * (asked[-1][:2] != ["scad_tool", "build"])
         libraries = {words[0]: set(re.findall(r"(\w+)=\S*/out/libraries/", " ".join(words))) for words in asked}
         found += [f"{crate} is proved before its libraries" for at, crate in enumerate(libraries)
-                  if not libraries[crate] - {"dependency"} <= set(list(libraries)[:at])]
+                  if not libraries[crate] <= set(list(libraries)[:at])]
         return found + ["a crate is asked for twice"] * (len(libraries) != len(asked))
+
+
+class Rebuilding(Workshop):
+    """After a change of one crate it and those above it are proved again, and no other."""
+
+    name = "explained_build_after_a_change"
+    CHANGED = "scad_hull"
+
+    def tried(self, program):
+        with tempfile.TemporaryDirectory(prefix="scadslice-") as room:
+            how = {**self.made(room, program), "timeout": TIME_LIMIT, "capture_output": True}
+            with open(f"{room}/m.scad", "wb") as file:
+                file.write(CUBE)
+            first, asked = self.asked(room, how)
+            place(f"{room}/crates/{self.CHANGED}/src/lib.rt", b"// another text\n")
+            second, again = self.asked(room, how)
+            third, nothing = self.asked(room, how)
+        above = {self.CHANGED}
+        for crate, libraries in asked.items():
+            above |= {crate} if libraries & above else set()
+        found = [f"it ended with {it}" for it in (first, second, third) if it.returncode != 0]
+        found += [f"{again.keys()} are proved again"] * (again.keys() != above)
+        return found + ["what is built is built again"] * bool(nothing)
+
+    @staticmethod
+    def asked(room, how):
+        """How the launcher ended, and each crate that it had proved, with the crates that it uses."""
+        ended = subprocess.run([f"{room}/scadslice", "check", "m.scad"], **how)
+        if not os.path.exists(f"{room}/asked"):
+            return ended, {}
+        with open(f"{room}/asked", encoding="utf-8") as file:
+            found = {line.split()[0]: set(re.findall(r"(\w+)=\S*/out/libraries/", line)) for line in file}
+        os.remove(f"{room}/asked")
+        return ended, found
 
 
 class Builders(Workshop):
@@ -456,7 +490,7 @@ class Signals(Workshop):
             started = subprocess.Popen([f"{room}/scadslice", "check", "m.scad"], stderr=subprocess.DEVNULL, **how)
             pid = int(awaited(lambda: os.path.exists(f"{room}/pid") and content(f"{room}/pid")) or 0)
             started.terminate()
-            is_gone = started.wait(TIME_LIMIT) == -signal.SIGTERM and awaited(lambda: has_ended(pid))
+            is_gone = started.wait(TIME_LIMIT) == -signal.SIGTERM and pid > 0 and awaited(lambda: has_ended(pid))
         return [f"a program that a signal ended: {ended}"] * (not told) + ["it outlives its launcher"] * (not is_gone)
 
     @staticmethod
