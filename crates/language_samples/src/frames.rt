@@ -22,24 +22,25 @@ fn names_of(alloc: Global, words: &[&[u8]]) -> Result<Names, AllocError> {
     Ok(names)
 }
 
-/// The names of a call of the function, those of the module, and those of the program, where a further one is never set.
+/// The names of a call of the function, those of the program, where a further one is never set, and those of the module.
 fn listed(alloc: Global) -> Result<[Names; 3], AllocError> {
     let call: &[&[u8]] = &[b"x", b"x"];
     let program: &[&[u8]] = &[b"f", b"g"];
     Ok([
         names_of(alloc, call)?,
-        names_of(alloc, &[])?,
         names_of(alloc, program)?,
+        names_of(alloc, &[])?,
     ])
 }
 
-/// The frame of the program, where f is 2, in it that of the module, and in it that of the call, where x is 2.
+/// The frame of the program, where f is 2, that of the module, and that of the call, where x is 2. Both stand in the
+/// program's, where the module and the function are defined.
 fn called<'p>(alloc: Global, names: &'p [Names; 3]) -> Result<Frames<'p>, AllocError> {
     let mut frames = Frames::new(alloc);
-    let program = frames.push_names(None, None, None, &names[2])?;
+    let program = frames.push_names(None, None, None, &names[1])?;
     frames.set(b"f", number(2))?;
-    let module = frames.push_names(Some(program), None, None, &names[1])?;
-    frames.push_names(Some(module), None, None, &names[0])?;
+    frames.push_names(Some(program), None, None, &names[2])?;
+    frames.push_names(Some(program), None, None, &names[0])?;
     frames.set(b"x", number(2))?;
     Ok(frames)
 }
@@ -61,15 +62,15 @@ fn has(
     name: &[u8],
     wanted: Option<i64>,
 ) -> bool {
-    match resolve(alloc, names, name) {
+    match resolve(alloc, &names[..2], name) {
         Ok(slots) => are_both(frames.at(2, &slots), frames.get(2, name), wanted),
         Err(_) => false,
     }
 }
 
-/// Whether the name has one slot, so many frames outwards, at this place.
+/// Whether the name has one slot from the call, so many frames outwards, at this place.
 fn has_slot(alloc: Global, names: &[Names; 3], name: &[u8], up: usize, place: usize) -> bool {
-    match resolve(alloc, names, name) {
+    match resolve(alloc, &names[..2], name) {
         Ok(slots) => {
             let list = slots.as_slice();
             list.len() == 1 && list[0].up == up && list[0].place == place
@@ -87,13 +88,13 @@ fn lists(frames: &Frames, at: u32, name: &[u8], place: usize) -> bool {
 }
 
 #[test]
-fn a_variable_is_found_by_its_slot_through_a_module_and_a_call(rt: HostRuntime) {
+fn a_variable_is_found_by_its_slot_in_a_call_within_a_module(rt: HostRuntime) {
     let alloc = rt.alloc();
     let names = listed(alloc).expect(&rt, "names");
     let mut frames = called(alloc, &names).expect(&rt, "frames");
     expect(
         &rt,
-        has_slot(alloc, &names, b"f", 2, 0) && has_slot(alloc, &names, b"x", 0, 0),
+        has_slot(alloc, &names, b"f", 1, 0) && has_slot(alloc, &names, b"x", 0, 0),
         "the slots of f and x",
     );
     expect(&rt, has(alloc, &frames, &names, b"f", Some(2)), "f is 2");
