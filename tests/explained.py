@@ -67,7 +67,7 @@ class Explained:
 def explained_checks(launcher):
     told = lambda name, status, wanted, words, **more: Explained(name, status, wanted, words, launcher, **more)
     checks = [usage, faults, budgets, refused_settings, unread, unwritten, warned, outside, bad_outlines, bad_programs]
-    workshops = [WithoutProgram, Building, Rebuilding, Builders, NotBuilt, Signals]
+    workshops = [WithoutProgram, Building, Rebuilding, Builders, NotBuilt, KilledCheck, Signals]
     others = [WordsOfCases(), *(workshop(launcher) for workshop in workshops)]
     return [it for of in checks for it in of(told)] + others
 
@@ -472,6 +472,19 @@ for""")
         found += [f"the next one ended with {again}"] * (again.returncode != 0)
         twice = {line.split()[0] for line in asked if line and asked.count(line) > 1}
         return found + [f"{twice} are asked for twice"] * (twice != {b"scad_cos"})
+
+
+class KilledCheck(Workshop):
+    """Where a signal ends a check, as where memory is wanting, the launcher says so."""
+
+    name = "explained_a_check_that_a_signal_ends"
+    RATTLE = Workshop.RATTLE.replace("\nfor", "\n[ \"$(basename \"$PWD\")\" = scad_cos ] && kill -KILL $$\nfor")
+
+    def tried(self, program):
+        with tempfile.TemporaryDirectory(prefix="scadslice-") as room:
+            ended = self.run(room, program, ["check", "m.scad"])
+        is_told = b"scad_cos is not proved: signal 9 ended its check" in ended.stderr
+        return [f"it ended with {ended}"] * ((ended.returncode, ended.stdout, is_told) != (70, b"", True))
 
 
 class Signals(Workshop):
