@@ -120,7 +120,7 @@ class Prover:
             parts = kit_id, self.files[it], it.of_kit, [self.sums[library] for library in it.own]
             self.sums[it] = hashlib.sha256(repr(parts).encode()).hexdigest()
 
-    def is_proved(self, library):
+    def has(self, library):
         made = f"{self.libraries}/{library.name}"
         if not os.path.isdir(f"{made}.rlib") or not os.path.isfile(f"{made}.sum"):
             return False
@@ -179,12 +179,22 @@ class Prover:
             raise Failure(f"{crate.name} is not proved:\n{ran.stdout}")
 
 
+def is_proved(task):
+    """Whether the crate of a task that has ended is proved; else it's told why not."""
+    try:
+        task.result()
+    except Failure as failure:
+        print(failure, end="", file=sys.stderr, flush=True)
+        return False
+    return True
+
+
 def build(top):
     """Proves each crate as soon as its libraries are proved, and tells at each what is done and what time is left. What
     is begun is ended after a failure too, and kept. Returns whether there was none."""
     crates, jobs, started = crates_of_program(top), jobs_of_machine(), time.monotonic()
     seconds, prover, number = seconds_of(crates, top), Prover(crates), len(crates)
-    proved = {it for it in crates[:-1] if prover.is_proved(it)}
+    proved = {it for it in crates[:-1] if prover.has(it)}
     waiting = [it for it in by_longest_chain(crates, seconds) if it not in proved]
     left, done, running = sum(map(seconds.get, waiting)), 0, {}
     with ThreadPoolExecutor(jobs) as pool:
@@ -199,15 +209,12 @@ def build(top):
                      f"proving crate {number - len(waiting)} of {number}, {crate.name} ({jobs} at once)")
             for task in wait(running, return_when=FIRST_COMPLETED).done:
                 crate = running.pop(task)
-                try:
-                    task.result()
-                except Failure as failure:
-                    print(failure, end="", file=sys.stderr, flush=True)
+                left, done = left - seconds[crate], done + seconds[crate]
+                if is_proved(task):
+                    proved.add(crate)
+                else:
                     # (nothing more is begun)
                     waiting = []
-                else:
-                    proved.add(crate)
-                left, done = left - seconds[crate], done + seconds[crate]
     if crates[-1] in proved:
         tell(f"the program is built, after {int(time.monotonic() - started)} seconds")
     return crates[-1] in proved

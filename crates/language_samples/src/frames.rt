@@ -1,4 +1,5 @@
-//! The frames of `f=2; function f(x)=x+1; module f(){cube(f(f));} f();` while the function is called, by names and by slots.
+//! The frames of `f=2; function f(x)=x+1; module f(){cube(f(f));} f();` while the function is called, by names
+//! and by slots.
 
 use crate::cases::expect;
 use scad_num::Num;
@@ -22,7 +23,8 @@ fn names_of(alloc: Global, words: &[&[u8]]) -> Result<Names, AllocError> {
     Ok(names)
 }
 
-/// The names of a call of the function, those of the program, where a further one is never set, and those of the module.
+/// The names of a call of the function, those of the program, where a further one is never set, and those of the
+/// module.
 fn listed(alloc: Global) -> Result<[Names; 3], AllocError> {
     let call: &[&[u8]] = &[b"x", b"x"];
     let program: &[&[u8]] = &[b"f", b"g"];
@@ -88,7 +90,7 @@ fn lists(frames: &Frames, at: u32, name: &[u8], place: usize) -> bool {
 }
 
 #[test]
-fn a_variable_is_found_by_its_slot_in_a_call_within_a_module(rt: HostRuntime) {
+fn a_variable_is_found_by_its_slot_in_a_call_from_a_module(rt: HostRuntime) {
     let alloc = rt.alloc();
     let names = listed(alloc).expect(&rt, "names");
     let mut frames = called(alloc, &names).expect(&rt, "frames");
