@@ -2,3 +2,4 @@ pub mod Scope
 pub mod Tree
 pub mod View
 pub mod Text
+pub mod Printing

@@ -4,10 +4,12 @@ ghost use Rattle.scad_ast.specs.Text.{items_text};
 ghost use Rattle.scad_ast.specs.Scope.{program_of};
 
 mod expression;
+mod printer;
 mod statement;
 mod token;
 
 use crate::statement::Program;
+use printer::Printer;
 use scad_fault::Text;
 use statement::write_items;
 use std::alloc::{AllocError, Global};
@@ -17,7 +19,7 @@ use std::alloc::{AllocError, Global};
 pub fn print(alloc: Global, program: &Program) -> Result<Text, AllocError>
     ensures { IfOk result (λ t. t ≡ items_text (program_of program.now)) }
 {
-    let mut out = Vec::new(alloc);
-    write_items(&mut out, program.scope.as_slice())?;
-    Ok(Text::from_vec(out))
+    let mut out = Printer::new(alloc);
+    write_items(&mut out, &program.scope);
+    out.finish()
 }

@@ -1,80 +1,70 @@
 //! Tokens, each with the blank behind it.
-ghost use Rattle.std.specs.Prelude.{◌≡◌, ◌++◌, ◌∷◌, [], OnOk, codes, encode_utf8};
+ghost use Rattle.std.specs.Prelude.{◌≡◌};
 ghost use Rattle.std.specs.List.{flat_map};
 ghost use Rattle.scad_num.specs.Text.{number_text};
-ghost use Rattle.scad_ast.specs.Text.{spaced, quote, character_text, string_text, boolean_text, prefix_text, operator_text, separator, marks_text};
+ghost use Rattle.scad_ast.specs.Text.{spaced, character_text, string_text, boolean_text, prefix_text, operator_text, separator, marks_text};
+ghost use Rattle.scad_ast.specs.Printing.{Adds};
 
+use super::printer::Printer;
 use crate::operator::{BinOp, UnOp};
+use scad_fault::Chars;
 use scad_num::Num;
-use std::alloc::AllocError;
-
-/// Appends a token and a blank.
-pub fn write_token(out: &mut Vec<u8>, token: &[u8]) -> Result<(), AllocError>
-    ensures { OnOk result (out.new.items ≡ out.old.items ++ spaced token.now) }
-{
-    out.extend_from_slice(token)?;
-    out.push(b' ')?;
-    Ok(())
-}
 
 /// Appends a number and a blank.
-pub fn write_number(out: &mut Vec<u8>, number: Num) -> Result<(), AllocError>
-    ensures { OnOk result (out.new.items ≡ out.old.items ++ spaced (number_text number)) }
+pub fn write_number(out: &mut Printer, number: Num)
+    ensures { Adds (spaced (number_text number)) out.old out.new }
 {
-    number.write_to(out)?;
-    out.push(b' ')?;
-    Ok(())
+    out.token(number.text().as_slice());
 }
 
 /// Appends `true` or `false` and a blank.
-pub fn write_boolean(out: &mut Vec<u8>, b: bool) -> Result<(), AllocError>
-    ensures { OnOk result (out.new.items ≡ out.old.items ++ spaced (boolean_text b)) }
+pub fn write_boolean(out: &mut Printer, b: bool)
+    ensures { Adds (spaced (boolean_text b)) out.old out.new }
 {
     if b {
-        out.extend_from_slice(b"true ")
+        out.token(b"true");
     } else {
-        out.extend_from_slice(b"false ")
+        out.token(b"false");
     }
 }
 
 /// Appends a string in quotes and a blank.
-pub fn write_string(out: &mut Vec<u8>, chars: &[char]) -> Result<(), AllocError>
-    ensures { OnOk result (out.new.items ≡ out.old.items ++ spaced (string_text chars.now)) }
+pub fn write_string(out: &mut Printer, chars: &Chars)
+    ensures { Adds (spaced (string_text chars.now)) out.old out.new }
 {
-    out.push(b'"')?;
-    write_characters(out, chars)?;
-    out.extend_from_slice(b"\" ")
+    out.put(b"\"");
+    write_characters(out, chars.as_slice());
+    out.token(b"\"");
 }
 
-fn write_characters(out: &mut Vec<u8>, chars: &[char]) -> Result<(), AllocError>
-    ensures { OnOk result (out.new.items ≡ out.old.items ++ flat_map character_text chars.now) }
+fn write_characters(out: &mut Printer, chars: &[char])
+    ensures { Adds (flat_map character_text chars.now) out.old out.new }
 {
     'characters: for c in chars {
-        write_character(out, *c)?;
+        write_character(out, *c);
     }
-    Ok(())
 }
 
-fn write_character(out: &mut Vec<u8>, c: char) -> Result<(), AllocError>
-    ensures { OnOk result (out.new.items ≡ out.old.items ++ character_text c) }
+fn write_character(out: &mut Printer, c: char)
+    ensures { Adds (character_text c) out.old out.new }
 {
     if c == '"' {
-        out.extend_from_slice(b"\\\"")
+        out.put(b"\\\"");
     } else if c == '\\' {
-        out.extend_from_slice(b"\\\\")
+        out.put(b"\\\\");
     } else {
-        out.extend_from_slice(c.encode_utf8(&mut [0; 4]).as_bytes())
+        out.put(c.encode_utf8(&mut [0; 4]).as_bytes());
     }
 }
 
 /// Appends an operator of one operand.
-pub fn write_prefix(out: &mut Vec<u8>, op: UnOp) -> Result<(), AllocError>
-    ensures { OnOk result (out.new.items ≡ out.old.items ++ spaced (prefix_text op)) }
+pub fn write_prefix(out: &mut Printer, op: UnOp)
+    ensures { Adds (spaced (prefix_text op)) out.old out.new }
 {
     match op {
-        UnOp::Not => write_token(out, b"!"),
-        UnOp::Plus => write_token(out, b"+"),
-        UnOp::Minus => write_token(out, b"-"),
+        UnOp::Not => out.token(b"!"),
+        UnOp::Plus => out.token(b"+"),
+        UnOp::Minus => out.token(b"-"),
     }
 }
 
@@ -99,33 +89,29 @@ fn operator_word(op: BinOp) -> &'static [u8]
 }
 
 /// Appends an operator of two operands.
-pub fn write_operator(out: &mut Vec<u8>, op: BinOp) -> Result<(), AllocError>
-    ensures { OnOk result (out.new.items ≡ out.old.items ++ spaced (operator_text op)) }
+pub fn write_operator(out: &mut Printer, op: BinOp)
+    ensures { Adds (spaced (operator_text op)) out.old out.new }
 {
-    write_token(out, operator_word(op))
+    out.token(operator_word(op));
 }
 
-// A comma before each member of a list but the first.
-/// Appends a comma, but before the first.
-pub fn write_separator(out: &mut Vec<u8>, first: bool) -> Result<(), AllocError>
-    ensures { OnOk result (out.new.items ≡ out.old.items ++ separator first) }
+/// Appends a comma before each member of a list but the first.
+pub fn write_separator(out: &mut Printer, first: bool)
+    ensures { Adds (separator first) out.old out.new }
 {
-    if first {
-        Ok(())
-    } else {
-        out.extend_from_slice(b", ")
+    if !first {
+        out.token(b",");
     }
 }
 
 /// Appends the marks `%` and `#` of a statement.
-pub fn write_marks(out: &mut Vec<u8>, percent: bool, hash: bool) -> Result<(), AllocError>
-    ensures { OnOk result (out.new.items ≡ out.old.items ++ marks_text percent hash) }
+pub fn write_marks(out: &mut Printer, percent: bool, hash: bool)
+    ensures { Adds (marks_text percent hash) out.old out.new }
 {
     if percent {
-        out.extend_from_slice(b"% ")?;
+        out.token(b"%");
     }
     if hash {
-        out.extend_from_slice(b"# ")?;
+        out.token(b"#");
     }
-    Ok(())
 }

@@ -1,112 +1,168 @@
--- An expression's text from those of its parts, which code sees as slices.
-use Rattle.std.proofs.Common.{◌≡◌, ◌++◌, codes, true, ap, sym, ◌∙◌, arith, ℕ, List}
-use Rattle.std.proofs.lemmas.Grind.{common_steps}
-use Rattle.std.proofs.lemmas.Result.{on_ok_weaker}
-use Rattle.scad_ast.specs.Text.{spaced, expression_text, in_parentheses, arguments_text, elements_text, element_text}
-use Rattle.scad_ast.specs.View.{expression_of, expression_at, arguments, elements, element_of}
-use Rattle.scad_ast.proofs.Pieces.{four}
-use Rattle.scad_ast.proofs.Rows.{vector_view, call_view, let_view, assert_view, echo_view, for_view, loop_view, let_element_view}
+-- Each form is printed part by part.
+use Rattle.std.proofs.Common.{codes, ap, ◌∙◌}
+use Rattle.scad_ast.specs.declared.expression.Node.{Range}
+use Rattle.scad_ast.specs.declared.expression.Elem.{If}
+use Rattle.scad_ast.specs.Text.{expression_text, arguments_text, elements_text}
+use Rattle.scad_ast.specs.View.{expression_of, arguments, elements}
+use Rattle.scad_ast.proofs.Printed.{none, two, three, four, behind_three, that, next, last}
+use Rattle.scad_ast.proofs.Nodes.{expression_is, element_is}
+use Rattle.scad_ast.proofs.Operands.{unary_view, binary_view, choose_view, index_view, member_view}
+use Rattle.scad_ast.proofs.Operands.{range_view, stepped_view, if_view, if_else_view}
+use Rattle.scad_ast.proofs.Rows.{vector_view, call_view, let_view, assert_view, echo_view}
+use Rattle.scad_ast.proofs.Rows.{for_view, loop_view, let_element_view}
 use Rattle.scad_ast.proofs.printing.expression.+expressions.Goals as goal
 
+-- ---- expressions
 pub write_expression-returns-in-List : goal.write_expression-returns-in-List
 write_expression-returns-in-List t c =
-    let text : expression_text (expression_of c.args.e.now) ≡ codes "[ " ++ elements_text true
-    (elements c.in-List.elems.items) ++ codes "] " =
-    ap (λ n. expression_text (expression_at c.args.e.now.at n)) c.in-List.is ∙ ap expression_text
-    (vector_view c.args.e.now.at c.in-List.elems) in
-    rw text (rw (← c.deref.ensures.value) c.write_vector.ensures)
+    expression_is c.args.e.now c.in-List.is (vector_view _ c.in-List.elems)
+    (three c.token-in-List.ensures c.write_elements.ensures c.token-in-List-2.ensures)
+
+pub write_expression-returns-in-None : goal.write_expression-returns-in-None
+write_expression-returns-in-None t c =
+    let arm = c.in-Range in
+    expression_is c.args.e.now (arm.is ∙ ap (λ step. Range arm.start step arm.end) c.in-None.is)
+    (range_view _ arm.start arm.end)
+    (three (rw c.deref.ensures at c.write_within.ensures) (rw c.deref-in-None.ensures at c.write_expression.ensures)
+    c.token-in-None.ensures)
+
+pub write_expression-returns-in-Some : goal.write_expression-returns-in-Some
+write_expression-returns-in-Some t c =
+    let arm = c.in-Range in
+    expression_is c.args.e.now (arm.is ∙ ap (λ step. Range arm.start step arm.end) c.in-Some.is)
+    (stepped_view _ arm.start c.in-Some.step arm.end)
+    (behind_three (codes ": ") (expression_text (expression_of arm.end.value)) (codes "] ")
+    (two (rw c.deref.ensures at c.write_within.ensures)
+    (rw c.deref-in-Some.ensures at c.write_expression-in-Some.ensures))
+    (rw c.deref-in-Some-2.ensures at c.write_within-in-Some.ensures))
+
+pub write_expression-returns-in-Unary : goal.write_expression-returns-in-Unary
+write_expression-returns-in-Unary t c =
+    expression_is c.args.e.now c.in-Unary.is (unary_view _ _ c.in-Unary.operand)
+    (two c.write_prefix.ensures (rw c.deref-in-Unary.ensures at c.write_operand.ensures))
+
+pub write_expression-returns-in-Binary : goal.write_expression-returns-in-Binary
+write_expression-returns-in-Binary t c =
+    expression_is c.args.e.now c.in-Binary.is (binary_view _ _ c.in-Binary.left c.in-Binary.right)
+    (three (rw c.deref-in-Binary.ensures at c.write_operand-in-Binary.ensures) c.write_operator.ensures
+    (rw c.deref-in-Binary-2.ensures at c.write_operand-in-Binary-2.ensures))
+
+pub write_expression-returns-in-Choose : goal.write_expression-returns-in-Choose
+write_expression-returns-in-Choose t c =
+    expression_is c.args.e.now c.in-Choose.is (choose_view _ c.in-Choose.test c.in-Choose.chosen c.in-Choose.other)
+    (two (behind_three (codes "? ") (expression_text (expression_of c.in-Choose.chosen.value)) (codes ": ")
+    (rw c.deref-in-Choose.ensures at c.write_operand-in-Choose.ensures)
+    (rw c.deref-in-Choose-2.ensures at c.write_within-in-Choose.ensures))
+    (rw c.deref-in-Choose-3.ensures at c.write_expression-in-Choose.ensures))
+
+pub write_expression-returns-in-Index : goal.write_expression-returns-in-Index
+write_expression-returns-in-Index t c =
+    expression_is c.args.e.now c.in-Index.is (index_view _ c.in-Index.base c.in-Index.index)
+    (behind_three (codes "[ ") (expression_text (expression_of c.in-Index.index.value)) (codes "] ")
+    (rw c.deref-in-Index.ensures at c.write_operand-in-Index.ensures)
+    (rw c.deref-in-Index-2.ensures at c.write_within-in-Index.ensures))
+
+pub write_expression-returns-in-Member : goal.write_expression-returns-in-Member
+write_expression-returns-in-Member t c =
+    expression_is c.args.e.now c.in-Member.is (member_view _ c.in-Member.base c.in-Member.word)
+    (three (rw c.deref-in-Member.ensures at c.write_operand-in-Member.ensures) c.token-in-Member.ensures
+    c.word-in-Member.ensures)
 
 pub write_expression-returns-in-Call : goal.write_expression-returns-in-Call
 write_expression-returns-in-Call t c =
-    let text : expression_text (expression_of c.args.e.now) ≡ spaced c.as_slice-in-Call.result.now ++ in_parentheses
-    (arguments_text true (arguments c.deref-in-Call.result.now)) =
-    ap (λ n. expression_text (expression_at c.args.e.now.at n)) c.in-Call.is ∙ ap expression_text
-    (call_view c.args.e.now.at c.in-Call.word c.in-Call.args)
-    ∙ ap (λ w. spaced w ++ in_parentheses (arguments_text true (arguments c.in-Call.args.items)))
-    (sym c.as_slice-in-Call.ensures)
-    ∙ ap (λ all. spaced c.as_slice-in-Call.result.now ++ in_parentheses (arguments_text true (arguments all)))
-    (sym c.deref-in-Call.ensures.value) in
-    rw text (grind (arith, common_steps))
+    expression_is c.args.e.now c.in-Call.is (call_view _ c.in-Call.word c.in-Call.args)
+    (rw c.as_slice.ensures at c.write_call.ensures)
 
-pub write_expression-returns-in_ok-write_call-in-Let :
-    goal.write_expression-returns-in_ok-write_call-in-Let
-write_expression-returns-in_ok-write_call-in-Let t c =
-    let text : expression_text (expression_of c.args.e.now)
-    ≡ codes "let " ++ in_parentheses (arguments_text true (arguments c.deref-in-Let.result.now)) ++ expression_text (expression_of c.deref-in-Let-2.result.now) =
-    ap (λ n. expression_text (expression_at c.args.e.now.at n)) c.in-Let.is ∙ ap expression_text
-    (let_view c.args.e.now.at c.in-Let.args c.in-Let.body)
-    ∙ ap (λ all. codes "let " ++ in_parentheses (arguments_text true (arguments all)) ++ expression_text (expression_of c.in-Let.body.value)) (sym c.deref-in-Let.ensures.value)
-    ∙ ap (λ e. codes "let " ++ in_parentheses (arguments_text true (arguments c.deref-in-Let.result.now)) ++ expression_text (expression_of e)) (sym c.deref-in-Let-2.ensures) in
-    rw text (grind (arith, common_steps))
+pub write_expression-returns-in-Let : goal.write_expression-returns-in-Let
+write_expression-returns-in-Let t c =
+    expression_is c.args.e.now c.in-Let.is (let_view _ c.in-Let.args c.in-Let.body)
+    (two c.write_call-in-Let.ensures (rw c.deref-in-Let.ensures at c.write_expression-in-Let.ensures))
 
-pub write_expression-returns-in_ok-write_call-in-Assert :
-    goal.write_expression-returns-in_ok-write_call-in-Assert
-write_expression-returns-in_ok-write_call-in-Assert t c =
-    let text : expression_text (expression_of c.args.e.now)
-    ≡ codes "assert " ++ in_parentheses (arguments_text true (arguments c.deref-in-Assert.result.now)) ++
-    expression_text (expression_of c.deref-in-Assert-2.result.now) =
-    ap (λ n. expression_text (expression_at c.args.e.now.at n)) c.in-Assert.is ∙ ap expression_text
-    (assert_view c.args.e.now.at c.in-Assert.args c.in-Assert.body)
-    ∙ ap (λ all. codes "assert " ++ in_parentheses (arguments_text true (arguments all)) ++ expression_text
-    (expression_of c.in-Assert.body.value)) (sym c.deref-in-Assert.ensures.value)
-    ∙ ap (λ e. codes "assert " ++ in_parentheses (arguments_text true (arguments c.deref-in-Assert.result.now)) ++
-    expression_text (expression_of e)) (sym c.deref-in-Assert-2.ensures) in
-    rw text (grind (arith, common_steps))
+pub write_expression-returns-in-Assert : goal.write_expression-returns-in-Assert
+write_expression-returns-in-Assert t c =
+    expression_is c.args.e.now c.in-Assert.is (assert_view _ c.in-Assert.args c.in-Assert.body)
+    (two c.write_call-in-Assert.ensures (rw c.deref-in-Assert.ensures at c.write_expression-in-Assert.ensures))
 
-pub write_expression-returns-in_ok-write_call-in-Echo :
-    goal.write_expression-returns-in_ok-write_call-in-Echo
-write_expression-returns-in_ok-write_call-in-Echo t c =
-    let text : expression_text (expression_of c.args.e.now)
-    ≡ codes "echo " ++ in_parentheses (arguments_text true (arguments c.deref-in-Echo.result.now)) ++ expression_text
-    (expression_of c.deref-in-Echo-2.result.now) =
-    ap (λ n. expression_text (expression_at c.args.e.now.at n)) c.in-Echo.is ∙ ap expression_text
-    (echo_view c.args.e.now.at c.in-Echo.args c.in-Echo.body)
-    ∙ ap (λ all. codes "echo " ++ in_parentheses (arguments_text true (arguments all)) ++ expression_text
-    (expression_of c.in-Echo.body.value)) (sym c.deref-in-Echo.ensures.value)
-    ∙ ap (λ e. codes "echo " ++ in_parentheses (arguments_text true (arguments c.deref-in-Echo.result.now)) ++
-    expression_text (expression_of e)) (sym c.deref-in-Echo-2.ensures) in
-    rw text (grind (arith, common_steps))
+pub write_expression-returns-in-Echo : goal.write_expression-returns-in-Echo
+write_expression-returns-in-Echo t c =
+    expression_is c.args.e.now c.in-Echo.is (echo_view _ c.in-Echo.args c.in-Echo.body)
+    (two c.write_call-in-Echo.ensures (rw c.deref-in-Echo.ensures at c.write_expression-in-Echo.ensures))
 
-pub write_element-returns-in_ok-write_call-in-Let :
-    goal.write_element-returns-in_ok-write_call-in-Let
-write_element-returns-in_ok-write_call-in-Let t c =
-    let text : element_text (element_of c.args.elem.now)
-    ≡ codes "let " ++ in_parentheses (arguments_text true (arguments c.deref-in-Let.result.now)) ++ element_text (element_of c.deref-in-Let-2.result.now) =
-    ap (λ e. element_text (element_of e)) c.in-Let.is ∙ ap element_text (let_element_view c.in-Let.args c.in-Let.elem
-    c.in-Let.field-2)
-    ∙ ap (λ all. codes "let " ++ in_parentheses (arguments_text true (arguments all)) ++ element_text (element_of c.in-Let.elem.value)) (sym c.deref-in-Let.ensures.value)
-    ∙ ap (λ e. codes "let " ++ in_parentheses (arguments_text true (arguments c.deref-in-Let.result.now)) ++ element_text (element_of e)) (sym c.deref-in-Let-2.ensures) in
-    rw text (grind (arith, common_steps))
+pub write_within-returns : goal.write_within-returns
+write_within-returns t c = three c.token.ensures c.write_expression.ensures c.token-2.ensures
 
-pub write_element-returns-in_ok-write_call-in-For :
-    goal.write_element-returns-in_ok-write_call-in-For
-write_element-returns-in_ok-write_call-in-For t c =
-    let text : element_text (element_of c.args.elem.now)
-    ≡ codes "for " ++ in_parentheses (arguments_text true (arguments c.deref-in-For.result.now)) ++ element_text
-    (element_of c.deref-in-For-2.result.now) =
-    ap (λ e. element_text (element_of e)) c.in-For.is ∙ ap element_text (for_view c.in-For.args c.in-For.elem
-    c.in-For.field-2)
-    ∙ ap (λ all. codes "for " ++ in_parentheses (arguments_text true (arguments all)) ++ element_text
-    (element_of c.in-For.elem.value)) (sym c.deref-in-For.ensures.value)
-    ∙ ap (λ e. codes "for " ++ in_parentheses (arguments_text true (arguments c.deref-in-For.result.now)) ++
-    element_text (element_of e)) (sym c.deref-in-For-2.ensures) in
-    rw text (grind (arith, common_steps))
+pub write_call-returns : goal.write_call-returns
+write_call-returns t c = two c.token.ensures (three c.token-2.ensures c.write_arguments.ensures c.token-3.ensures)
 
-pub write_element-returns-in_ok-write_loop_steps-in-Loop : goal.write_element-returns-in_ok-write_loop_steps-in-Loop
-write_element-returns-in_ok-write_loop_steps-in-Loop t c =
-    let text : element_text (element_of c.args.elem.now)
-    ≡ (codes "for ( " ++ arguments_text true (arguments c.in-Loop.starts.items) ++ codes "; ")
-    ++ (expression_text (expression_of c.in-Loop.test) ++ codes "; ")
-    ++ (arguments_text true (arguments c.in-Loop.steps.items) ++ codes ") ") ++ element_text
-    (element_of c.in-Loop.elem.value) =
-    ap (λ e. element_text (element_of e)) c.in-Loop.is
-    ∙ ap element_text (loop_view c.in-Loop.starts c.in-Loop.test c.in-Loop.steps c.in-Loop.elem c.in-Loop.field-4) in
-    let starts : List ℕ = codes "for ( " ++ arguments_text true (arguments c.deref-in-Loop.result.now) ++ codes "; " in
-    let test : List ℕ = expression_text (expression_of c.in-Loop.test) ++ codes "; " in
-    let steps : List ℕ = arguments_text true (arguments c.deref-in-Loop-2.result.now) ++ codes ") " in
-    let elem : List ℕ = element_text (element_of c.deref-in-Loop-3.result.now) in
-    rw text (rw (← c.deref-in-Loop.ensures.value, ← c.deref-in-Loop-2.ensures.value, ← c.deref-in-Loop-3.ensures)
-    (on_ok_weaker c.write_element-in-Loop.result
-    (λ last. four c.args.out.now.items starts test steps elem c.in_ok-write_loop_start-in-Loop.ensures
-    c.in_ok-write_loop_test-in-Loop.ensures c.in_ok-write_loop_steps-in-Loop.ensures last)
-    c.write_element-in-Loop.ensures))
+pub write_test-returns : goal.write_test-returns
+write_test-returns t c = two c.token.ensures c.write_within.ensures
+
+-- ---- lists
+pub write_arguments-arguments-init : goal.write_arguments-arguments-init
+write_arguments-arguments-init t c = λ end rest. rest
+
+pub write_arguments-arguments-preserved : goal.write_arguments-arguments-preserved
+write_arguments-arguments-preserved t c = λ end rest.
+    c.arguments.invariant end
+    (that (next (λ all. arguments_text c.arguments.first (arguments all)) c.deref-arg-items.ensures.value
+    c.arguments-test.true c.arg-item.is)
+    (four c.write_separator.ensures c.write_argument_name.ensures c.write_expression.ensures rest))
+
+pub write_arguments-returns : goal.write_arguments-returns
+write_arguments-returns t c =
+    c.arguments.invariant _
+    (that (last (λ all. arguments_text c.arguments.first (arguments all)) c.deref-arg-items.ensures.value
+    c.arguments-test.false)
+    (none c.arguments.out))
+
+pub write_elements-elements-init : goal.write_elements-elements-init
+write_elements-elements-init t c = λ end rest. rest
+
+pub write_elements-elements-preserved : goal.write_elements-elements-preserved
+write_elements-elements-preserved t c = λ end rest.
+    c.elements.invariant end
+    (that (next (λ all. elements_text c.elements.first (elements all)) c.deref-elem-items.ensures.value
+    c.elements-test.true c.elem-item.is)
+    (three c.write_separator.ensures c.write_element.ensures rest))
+
+pub write_elements-returns : goal.write_elements-returns
+write_elements-returns t c =
+    c.elements.invariant _
+    (that (last (λ all. elements_text c.elements.first (elements all)) c.deref-elem-items.ensures.value
+    c.elements-test.false)
+    (none c.elements.out))
+
+-- ---- elements
+pub write_element-returns-in-For : goal.write_element-returns-in-For
+write_element-returns-in-For t c =
+    element_is c.in-For.is (for_view c.in-For.args c.in-For.elem c.in-For.field-2)
+    (two c.write_call.ensures (rw c.deref-in-For.ensures at c.write_element-in-For.ensures))
+
+pub write_element-returns-in-Let : goal.write_element-returns-in-Let
+write_element-returns-in-Let t c =
+    element_is c.in-Let.is (let_element_view c.in-Let.args c.in-Let.elem c.in-Let.field-2)
+    (two c.write_call-in-Let.ensures (rw c.deref-in-Let.ensures at c.write_element-in-Let.ensures))
+
+pub write_element-returns-in-Loop : goal.write_element-returns-in-Loop
+write_element-returns-in-Loop t c =
+    element_is c.in-Loop.is
+    (loop_view c.in-Loop.starts c.in-Loop.test c.in-Loop.steps c.in-Loop.elem c.in-Loop.field-4)
+    (four (three c.put.ensures c.write_arguments.ensures c.token-in-Loop.ensures)
+    (two c.write_expression-in-Loop.ensures c.token-in-Loop-2.ensures)
+    (two c.write_arguments-in-Loop.ensures c.token-in-Loop-3.ensures)
+    (rw c.deref-in-Loop.ensures at c.write_element-in-Loop.ensures))
+
+pub write_element-returns-in-None : goal.write_element-returns-in-None
+write_element-returns-in-None t c =
+    let arm = c.in-If in
+    element_is (arm.is ∙ ap (λ other. If arm.test arm.held other arm.field-3) c.in-None.is)
+    (if_view arm.test arm.held arm.field-3)
+    (two c.write_test.ensures (rw c.deref-in-If.ensures at c.write_element-in-If.ensures))
+
+pub write_element-returns-in-Some : goal.write_element-returns-in-Some
+write_element-returns-in-Some t c =
+    let arm = c.in-If in
+    element_is (arm.is ∙ ap (λ other. If arm.test arm.held other arm.field-3) c.in-Some.is)
+    (if_else_view arm.test arm.held c.in-Some.other arm.field-3)
+    (four c.write_test.ensures (rw c.deref-in-If.ensures at c.write_element-in-If.ensures) c.token-in-Some.ensures
+    (rw c.deref-in-Some.ensures at c.write_element-in-Some.ensures))
