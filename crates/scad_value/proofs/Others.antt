@@ -1,9 +1,10 @@
 -- A value is of one of six kinds.
-use Rattle.std.proofs.Common.{◌≢◌, ℕ, ℤ, List, Global, refl}
+use Rattle.std.proofs.Common.{◌≡◌, ◌≢◌, false, ℕ, ℤ, List, Global, refl}
 use Rattle.std.proofs.Common.{Bool as Boolean}
 use Rattle.std.specs.declared.rc.Rc.{Rc}
 use Rattle.scad_value.specs.declared.value.Value.{Value, Undef, Bool, Number, Str, List', Range}
 use Rattle.scad_value.specs.Datum.{Datum, undef, boolean, number, string, vector, range, Elements}
+use Rattle.scad_value.specs.Kinds.{is_number}
 use Rattle.scad_value.specs.View.{datum_of}
 
 -- what holds of each other kind holds of a value that isn't `undef`
@@ -56,3 +57,13 @@ but-range P u b n cs es (Number x) isnt = n x
 but-range P u b n cs es (Str x) isnt = cs x.value
 but-range P u b n cs es (List' block shape all) isnt = es _
 but-range P u b n cs es (Range s t e) isnt = absurd (isnt s t e refl)
+
+-- what holds of each other kind holds of a datum that is no number
+pub not-number : (P : Datum → Type 0) → P undef → ((b : Boolean) → P (boolean b)) → ((cs : List ℕ) → P (string cs))
+    → ((es : Elements) → P (vector es)) → ((s t e : ℤ) → P (range s t e)) → (d : Datum) → is_number d ≡ false → P d
+not-number P u b cs es r undef isnt = u
+not-number P u b cs es r (boolean x) isnt = b x
+not-number P u b cs es r (number x) isnt = absurd (cc)
+not-number P u b cs es r (string x) isnt = cs x
+not-number P u b cs es r (vector x) isnt = es x
+not-number P u b cs es r (range s t e) isnt = r s t e

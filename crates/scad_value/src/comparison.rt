@@ -4,7 +4,7 @@ ghost use Rattle.std.specs.Prelude.{◌≡◌};
 ghost use Rattle.scad_value.specs.Comparison.{equal, equal_all, order};
 ghost use Rattle.scad_value.specs.View.{datum_of, elements};
 
-use crate::kind::elements_of;
+use crate::kind::{elements_of, number_of};
 use crate::value::Value;
 use std::cmp::Ordering;
 
@@ -22,9 +22,9 @@ pub fn equal(a: &Value, b: &Value) -> bool
             Value::Bool(y) => *x == *y,
             _ => false,
         },
-        Value::Number(x) => match b {
-            Value::Number(y) => *x == *y,
-            _ => false,
+        Value::Number(x) => match number_of(b) {
+            Some(y) => *x == y,
+            None => false,
         },
         Value::Str(x) => match b {
             Value::Str(y) => x.as_slice() == y.as_slice(),
@@ -61,9 +61,9 @@ pub(crate) fn order(a: &Value, b: &Value) -> Option<Ordering>
     ensures { result ≡ order (datum_of a.now) (datum_of b.now) }
 {
     match a {
-        Value::Number(x) => match b {
-            Value::Number(y) => Some(x.cmp(y)),
-            _ => None,
+        Value::Number(x) => match number_of(b) {
+            Some(y) => Some(x.cmp(&y)),
+            None => None,
         },
         Value::Str(x) => match b {
             Value::Str(y) => Some(x.as_slice().cmp(&y.as_slice())),

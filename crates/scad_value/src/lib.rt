@@ -13,6 +13,7 @@ mod measures;
 mod negative;
 mod operator;
 mod pairs;
+mod printer;
 mod product;
 mod text;
 mod value;

@@ -9,7 +9,7 @@ ghost use Rattle.scad_value.specs.View.{datum_of, elements};
 
 use crate::elementwise::as_number;
 use crate::fault::ValueFault;
-use crate::kind::elements_of;
+use crate::kind::{elements_of, number_of};
 use crate::value::{Value, Values};
 use scad_num::{Num, NumFault};
 use std::alloc::Global;
@@ -48,9 +48,9 @@ pub(crate) fn by_pairs(
         (begins_list (by_pairs (pairing operation) (datum_of a.now) (datum_of b.now))) result }
 {
     match a {
-        Value::Number(x) => match b {
-            Value::Number(y) => as_number(operation.at(*x, *y)),
-            _ => Ok(Value::Undef),
+        Value::Number(x) => match number_of(b) {
+            Some(y) => as_number(operation.at(*x, y)),
+            None => Ok(Value::Undef),
         },
         Value::List(xs) => match elements_of(b) {
             Some(ys) => match by_pairs_of(alloc, operation, xs.as_slice(), ys) {

@@ -3,81 +3,69 @@
 ghost use Rattle.std.specs.Prelude.{◌≡◌, true, ◌∷◌, ◌++◌, IfOk, OnOk, OnErr, encode_utf8_all};
 ghost use Rattle.scad_base.specs.Characters.{open_square};
 ghost use Rattle.scad_num.specs.Text.{number_text};
+ghost use Rattle.scad_ast.specs.Printing.{Adds};
 ghost use Rattle.scad_ast.specs.Text.{boolean_text, separator};
 ghost use Rattle.scad_value.specs.Texts.{quoted_text, range_text, text, elements_text};
 ghost use Rattle.scad_value.specs.View.{datum_of, elements};
 
+use crate::printer::Printer;
 use crate::value::Value;
 use scad_fault::Text;
 use scad_num::Num;
 use std::alloc::{AllocError, Global};
 
-/// Appends ASCII text.
-fn push_ascii(out: &mut Vec<char>, bytes: &[u8]) -> Result<(), AllocError>
-    ensures { OnOk result (out.new.items ≡ out.old.items ++ bytes.now) }
-{
-    'bytes: for b in bytes {
-        out.push(*b as char)?;
-    }
-    Ok(())
-}
-
 /// Appends a number.
-fn push_number(out: &mut Vec<char>, n: Num) -> Result<(), AllocError>
-    ensures { OnOk result (out.new.items ≡ out.old.items ++ number_text n) }
+fn push_number(out: &mut Printer, n: Num)
+    ensures { Adds (number_text n) out.old out.new }
 {
-    push_ascii(out, n.text().as_slice())
+    out.ascii(n.text().as_slice());
 }
 
-fn push_boolean(out: &mut Vec<char>, b: bool) -> Result<(), AllocError>
-    ensures { OnOk result (out.new.items ≡ out.old.items ++ boolean_text b) }
+fn push_boolean(out: &mut Printer, b: bool)
+    ensures { Adds (boolean_text b) out.old out.new }
 {
     if b {
-        push_ascii(out, b"true")
+        out.ascii(b"true");
     } else {
-        push_ascii(out, b"false")
+        out.ascii(b"false");
     }
 }
 
-fn push_quoted(out: &mut Vec<char>, chars: &[char]) -> Result<(), AllocError>
-    ensures { OnOk result (out.new.items ≡ out.old.items ++ quoted_text chars.now) }
+fn push_quoted(out: &mut Printer, chars: &[char])
+    ensures { Adds (quoted_text chars.now) out.old out.new }
 {
-    out.push('"')?;
-    out.extend_from_slice(chars)?;
-    out.push('"')?;
-    Ok(())
+    out.put('"');
+    out.chars(chars);
+    out.put('"');
 }
 
-fn push_range(out: &mut Vec<char>, start: Num, step: Num, end: Num) -> Result<(), AllocError>
-    ensures { OnOk result (out.new.items ≡ out.old.items ++ range_text start step end) }
+fn push_range(out: &mut Printer, start: Num, step: Num, end: Num)
+    ensures { Adds (range_text start step end) out.old out.new }
 {
-    out.push('[')?;
-    push_number(out, start)?;
-    push_ascii(out, b" : ")?;
-    push_number(out, step)?;
-    push_ascii(out, b" : ")?;
-    push_number(out, end)?;
-    out.push(']')?;
-    Ok(())
+    out.put('[');
+    push_number(out, start);
+    out.ascii(b" : ");
+    push_number(out, step);
+    out.ascii(b" : ");
+    push_number(out, end);
+    out.put(']');
 }
 
 /// Appends what stands before an element.
-fn push_separator(out: &mut Vec<char>, first: bool) -> Result<(), AllocError>
-    ensures { OnOk result (out.new.items ≡ out.old.items ++ separator first) }
+fn push_separator(out: &mut Printer, first: bool)
+    ensures { Adds (separator first) out.old out.new }
 {
-    if first {
-        Ok(())
-    } else {
-        push_ascii(out, b", ")
+    if !first {
+        out.ascii(b", ");
     }
 }
 
 #[cycle(text)]
-fn push_value(out: &mut Vec<char>, a: &Value) -> Result<(), AllocError>
-    ensures { OnOk result (out.new.items ≡ out.old.items ++ text (datum_of a.now)) }
+fn push_value(out: &mut Printer, a: &Value)
+    ensures { Adds (text (datum_of a.now)) out.old out.new }
 {
     match a {
-        Value::Undef => push_ascii(out, b"undef"),
+        Value::Undef => out.ascii(b"undef"),
         Value::Bool(b) => push_boolean(out, *b),
         Value::Number(n) => push_number(out, *n),
         Value::Str(chars) => push_quoted(out, chars.as_slice()),
@@ -87,18 +75,26 @@ fn push_value(out: &mut Vec<char>, a: &Value) -> Result<(), AllocError>
 }
 
 #[cycle(text)]
-fn push_vector(out: &mut Vec<char>, all: &[Value]) -> Result<(), AllocError>
-    ensures { OnOk result (out.new.items ≡ out.old.items ++ open_square ∷ elements_text true (elements all.now)) }
+fn push_vector(out: &mut Printer, all: &[Value])
+    ensures { Adds (open_square ∷ elements_text true (elements all.now)) out.old out.new }
 {
-    out.push('[')?;
+    out.put('[');
     let mut first = true;
     'elements: for v in all {
-        push_separator(out, first)?;
-        push_value(out, v)?;
+        push_separator(out, first);
+        push_value(out, v);
         first = false;
     }
-    out.push(']')?;
-    Ok(())
+    out.put(']');
+}
+
+/// The code points that are printed for the value, a string between quotes.
+fn printed(alloc: Global, a: &Value) -> Result<Vec<char>, AllocError>
+    ensures { IfOk result (λ chars. chars.items ≡ text (datum_of a.now)) }
+{
+    let mut out = Printer::new(alloc);
+    push_value(&mut out, a);
+    out.finish()
 }
 
 /// Appends the code points that are printed for the value, a string between quotes. They are made apart
@@ -107,8 +103,7 @@ pub fn push_text(out: &mut Vec<char>, a: &Value) -> Result<(), AllocError>
     ensures ok { OnOk result (out.new.items ≡ out.old.items ++ text (datum_of a.now)) }
     ensures err { OnErr result (out.new.items ≡ out.old.items) }
 {
-    let mut chars = Vec::new(*out.allocator());
-    push_value(&mut chars, a)?;
+    let chars = printed(*out.allocator(), a)?;
     out.extend_from_slice(chars.as_slice())
 }
 
@@ -127,7 +122,6 @@ pub fn encoded(alloc: Global, chars: &[char]) -> Result<Text, AllocError>
 pub fn text_of(alloc: Global, a: &Value) -> Result<Text, AllocError>
     ensures { IfOk result (λ t. t ≡ encode_utf8_all (text (datum_of a.now))) }
 {
-    let mut chars = Vec::new(alloc);
-    push_value(&mut chars, a)?;
+    let chars = printed(alloc, a)?;
     encoded(alloc, chars.as_slice())
 }

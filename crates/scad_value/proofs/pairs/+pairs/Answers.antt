@@ -9,17 +9,17 @@ use Rattle.scad_value.specs.Faults.{Refuses}
 use Rattle.scad_value.specs.View.{datum_of, elements}
 use Rattle.scad_value.proofs.Memory.{takes-none, takes-vector}
 use Rattle.scad_value.proofs.Operands.{pairs-none, pairs-other}
-use Rattle.scad_value.proofs.Others.{but-number}
+use Rattle.scad_value.proofs.Others.{not-number}
 use Rattle.scad_value.proofs.Rows.{at_vector, elements-drop, elements-drop_all, items_in}
 use Rattle.scad_value.proofs.Steps.{all_made, onto_none, step_made, step_refused, through, refused_vector, vector_made}
 use Rattle.scad_value.proofs.pairs.+pairs.Goals as goal
 
-pub by_pairs-returns-in-Number-b : goal.by_pairs-returns-in-Number-b
-by_pairs-returns-in-Number-b t c =
+pub by_pairs-returns-in-Some : goal.by_pairs-returns-in-Some
+by_pairs-returns-in-Some t c =
     let f = pairing c.args.operation in
     let same : as_number c.at.result ≡ by_pairs f (datum_of c.args.a.now) (datum_of c.args.b.now) =
     ap as_number c.at.ensures
-    ∙ ap₂ (λ v w. by_pairs f (datum_of v) (datum_of w)) (sym c.in-Number.is) (sym c.in-Number-b.is) in
+    ∙ ap₂ (by_pairs f) (sym (ap datum_of c.in-Number.is)) (sym c.in-Some.ensures.number) in
     record {
       found = subst (λ p. IfOk c.as_number.result (λ v. p ≡ Ok (datum_of v))) same c.as_number.ensures.found;
       refused = subst (λ p. IfErr c.as_number.result (Refuses p)) same c.as_number.ensures.refused;
@@ -31,8 +31,8 @@ by_pairs-returns-in_ok-vector-in-Ok t c =
     let f = pairing c.args.operation in
     record {
       found = through (λ d. by_pairs f d (datum_of c.args.b.now))
-          (λ es. by_pairs_of f es (elements c.in-Some.ys.now))
-          (λ es. ap (by_pairs f (vector es)) c.in-Some.ensures.vector) _ c.in-List.xs _ c.in-List.is
+          (λ es. by_pairs_of f es (elements c.in-Some-elements_of.ys.now))
+          (λ es. ap (by_pairs f (vector es)) c.in-Some-elements_of.ensures.vector) _ c.in-List.xs _ c.in-List.is
           (items_in _ _ _ c.deref.ensures c.as_slice.ensures.value) ∙ vector_made _ c.in-Ok.made.items
           c.in_ok-vector-in-Ok.field-0 c.in-Ok.ensures.found c.in_ok-vector-in-Ok.ensures;
       refused = tt;
@@ -43,7 +43,8 @@ pub by_pairs-returns-in_err-vector-in-Ok-clause-memory : goal.by_pairs-returns-i
 by_pairs-returns-in_err-vector-in-Ok-clause-memory t c =
     let f = pairing c.args.operation in
     takes-vector _ _ c.from_residual.result (through (λ d. by_pairs f d (datum_of c.args.b.now))
-    (λ es. by_pairs_of f es (elements c.in-Some.ys.now)) (λ es. ap (by_pairs f (vector es)) c.in-Some.ensures.vector) _
+    (λ es. by_pairs_of f es (elements c.in-Some-elements_of.ys.now))
+    (λ es. ap (by_pairs f (vector es)) c.in-Some-elements_of.ensures.vector) _
     c.in-List.xs _ c.in-List.is (items_in _ _ _ c.deref.ensures c.as_slice.ensures.value))
 
 pub by_pairs-returns-in-Err : goal.by_pairs-returns-in-Err
@@ -53,20 +54,21 @@ by_pairs-returns-in-Err t c =
     record {
       found = tt;
       refused = refused_vector (λ d. by_pairs f d (datum_of c.args.b.now))
-          (λ es. by_pairs_of f es (elements c.in-Some.ys.now))
-          (λ es. ap (by_pairs f (vector es)) c.in-Some.ensures.vector) _ c.in-List.xs _ c.in-Err.fault c.in-List.is lent
+          (λ es. by_pairs_of f es (elements c.in-Some-elements_of.ys.now))
+          (λ es. ap (by_pairs f (vector es)) c.in-Some-elements_of.ensures.vector) _
+          c.in-List.xs _ c.in-Err.fault c.in-List.is lent
           c.in-Err.ensures.refused;
       memory = takes-vector {A = Value} _ _ (Err c.in-Err.fault) (through
-          (λ d. by_pairs f d (datum_of c.args.b.now)) (λ es. by_pairs_of f es (elements c.in-Some.ys.now))
-          (λ es. ap (by_pairs f (vector es)) c.in-Some.ensures.vector) _ c.in-List.xs _ c.in-List.is lent);
+          (λ d. by_pairs f d (datum_of c.args.b.now)) (λ es. by_pairs_of f es (elements c.in-Some-elements_of.ys.now))
+          (λ es. ap (by_pairs f (vector es)) c.in-Some-elements_of.ensures.vector) _ c.in-List.xs _ c.in-List.is lent);
     }
 
-pub by_pairs-returns-in-None : goal.by_pairs-returns-in-None
-by_pairs-returns-in-None t c =
+pub by_pairs-returns-in-None-elements_of : goal.by_pairs-returns-in-None-elements_of
+by_pairs-returns-in-None-elements_of t c =
     let f = pairing c.args.operation in
     record {
       found = ap (λ d. by_pairs f d (datum_of c.args.b.now)) (at_vector _ c.in-List.xs c.in-List.is)
-          ∙ pairs-other f _ _ c.in-None.ensures.other;
+          ∙ pairs-other f _ _ c.in-None-elements_of.ensures.other;
       refused = tt;
       memory = tt;
     }
@@ -114,13 +116,13 @@ by_pairs_of-returns-in-Err-clause-refused t c =
     c.index-xs-i.is) (elements-drop c.args.ys.now c.pairs.i c.index-ys-i.result c.if-i-ys.false c.index-ys-i.is))
     c.in-Err.ensures.refused c.pairs.invariant
 
-pub by_pairs-returns-in_default-b : goal.by_pairs-returns-in_default-b
-by_pairs-returns-in_default-b t c =
+pub by_pairs-returns-in-None : goal.by_pairs-returns-in-None
+by_pairs-returns-in-None t c =
     let f = pairing c.args.operation in
     record {
       found = subst (λ d. by_pairs f d (datum_of c.args.b.now) ≡ Ok undef) (sym (ap datum_of c.in-Number.is))
-          (but-number (λ d. by_pairs f (number c.in-Number.x) d ≡ Ok undef) refl (λ x. refl) (λ x. refl) (λ x. refl)
-          (λ s t e. refl) _ c.in_default-b.not-Number);
+          (not-number (λ d. by_pairs f (number c.in-Number.x) d ≡ Ok undef) refl (λ x. refl) (λ x. refl) (λ x. refl)
+          (λ s t e. refl) _ c.in-None.ensures.other);
       refused = tt;
       memory = tt;
     }

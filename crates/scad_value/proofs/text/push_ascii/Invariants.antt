@@ -1,5 +1,0 @@
-use Rattle.std.proofs.Common.{◌≡◌, ◌++◌, drop}
-use Rattle.scad_value.proofs.text.push_ascii.Given as goal
-
-abbrev pub invariant-bytes : goal.invariant-bytes
-invariant-bytes l = l.out.items ++ drop l.b-index l.bytes ≡ l.fn.out.items ++ l.bytes
