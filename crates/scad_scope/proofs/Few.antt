@@ -1,8 +1,9 @@
 -- Where a name stands among the few of a frame, and what it is to set it and to seek it there.
-use Rattle.std.proofs.Common.{◌≡◌, ℕ, ◌+◌, ◌<◌, ◌≤◌, suc, Bool, true, false, List, [], ◌∷◌, ◌++◌, map, length, drop, get_or, set, Some, None, if◌then◌else◌, Vec, Global, refl, sym, ap, ◌∙◌, arith}
+use Rattle.std.proofs.Common.{◌≡◌, ℕ, ◌+◌, ◌<◌, ◌≤◌, suc, Bool, true, false, List, [], ◌∷◌, ◌++◌, map, length, drop, get_or, set, Some, None, if◌then◌else◌, refl, sym, ap, ◌∙◌, arith}
 use Rattle.std.proofs.lemmas.List.{map-append, map-set, get_or-map, length-map, append-nil, drop_more, drop_all}
 use Rattle.scad_value.specs.Datum.{Datum}
 use Rattle.scad_value.specs.declared.value.Value.{Value}
+use Rattle.scad_scope.specs.declared.word.Word.{Word}
 use Rattle.scad_value.specs.View.{datum_of}
 use Rattle.scad_scope.specs.Names.{Names, is_same_name, place_in, value_of_name, with_name}
 use Rattle.scad_scope.specs.FrameNames.{named}
@@ -82,50 +83,50 @@ module _ {A : Type 0} (view : A → List ℕ × Datum) where
       ∙ value-placed name (map view all) more (view e) (omega (arith, many, at, low))
 
 -- one goes behind them
-pub few-push : (key : Vec ℕ Global) (v : Value) (all : List (Vec ℕ Global × Value)) (more : Names)
-    → length (map named all) ≤ place_in key.items (map named all) → more ≡ []
-    → map named (all ++ (key, v) ∷ []) ++ more ≡ with_name key.items (datum_of v) (map named all ++ more)
-few-push key v all more past none =
-    ap (λ m. map named (all ++ (key, v) ∷ []) ++ m) none
-    ∙ append-nil (map named (all ++ (key, v) ∷ [])) ∙ map-append named all ((key, v) ∷ [])
-    ∙ set-unplaced key.items (datum_of v) (map named all) [] past
-    ∙ ap (λ m. with_name key.items (datum_of v) (map named all ++ m)) (sym none)
+pub few-push : (name : List ℕ) (v : Value) (all : List (Word × Value)) (more : Names)
+    → length (map named all) ≤ place_in name (map named all) → more ≡ []
+    → map named (all ++ (name, v) ∷ []) ++ more ≡ with_name name (datum_of v) (map named all ++ more)
+few-push name v all more past none =
+    ap (λ m. map named (all ++ (name, v) ∷ []) ++ m) none
+    ∙ append-nil (map named (all ++ (name, v) ∷ [])) ∙ map-append named all ((name, v) ∷ [])
+    ∙ set-unplaced name (datum_of v) (map named all) [] past
+    ∙ ap (λ m. with_name name (datum_of v) (map named all ++ m)) (sym none)
 
 -- ---- those behind the first ones, whose places are in a table
-abbrev pub word_of : Vec ℕ Global × Value → List ℕ
-word_of e = e.0.items
+abbrev pub word_of : Word × Value → List ℕ
+word_of e = e.0
 
-pub before-named : (name : List ℕ) (es : List (Vec ℕ Global × Value))
+pub before-named : (name : List ℕ) (es : List (Word × Value))
     → before word_of name es ≡ place_in name (map named es)
 before-named name [] = refl
-before-named name (e ∷ es) = ap (λ n. if is_same_name name e.0.items then 0 else suc n) (before-named name es)
+before-named name (e ∷ es) = ap (λ n. if is_same_name name e.0 then 0 else suc n) (before-named name es)
 
-pub further-set : (name : List ℕ) (v : Value) (es : List (Vec ℕ Global × Value)) (i : ℕ)
-    (old : Vec ℕ Global × Value) → i ≡ before word_of name es → i < length es → old ≡ get_or es i old
+pub further-set : (name : List ℕ) (v : Value) (es : List (Word × Value)) (i : ℕ)
+    (old : Word × Value) → i ≡ before word_of name es → i < length es → old ≡ get_or es i old
     → map named (set es i (old.0, v)) ≡ with_name name (datum_of v) (map named es)
 further-set name v es i old at low is =
     sym (append-nil (map named (set es i (old.0, v))))
     ∙ few-set named name (datum_of v) es [] i old (old.0, v) refl (at ∙ before-named name es) low is
     ∙ ap (with_name name (datum_of v)) (append-nil (map named es))
 
-pub further-push : (key : Vec ℕ Global) (v : Value) (es : List (Vec ℕ Global × Value))
-    → before word_of key.items es ≡ length es
-    → map named (es ++ (key, v) ∷ []) ≡ with_name key.items (datum_of v) (map named es)
-further-push key v es none =
+pub further-push : (name : List ℕ) (v : Value) (es : List (Word × Value))
+    → before word_of name es ≡ length es
+    → map named (es ++ (name, v) ∷ []) ≡ with_name name (datum_of v) (map named es)
+further-push name v es none =
     let many = length-map es named in
-    let at = before-named key.items es in
-    sym (append-nil (map named (es ++ (key, v) ∷ [])))
-    ∙ few-push key v es [] (omega (arith, none, many, at)) refl
-    ∙ ap (with_name key.items (datum_of v)) (append-nil (map named es))
+    let at = before-named name es in
+    sym (append-nil (map named (es ++ (name, v) ∷ [])))
+    ∙ few-push name v es [] (omega (arith, none, many, at)) refl
+    ∙ ap (with_name name (datum_of v)) (append-nil (map named es))
 
-pub further-value : (name : List ℕ) (es : List (Vec ℕ Global × Value)) (i : ℕ) (e : Vec ℕ Global × Value)
+pub further-value : (name : List ℕ) (es : List (Word × Value)) (i : ℕ) (e : Word × Value)
     → i ≡ before word_of name es → i < length es → e ≡ get_or es i e
     → Some (datum_of e.1) ≡ value_of_name name (map named es)
 further-value name es i e at low is =
     few-value named name es [] i e (at ∙ before-named name es) low is
     ∙ ap (value_of_name name) (append-nil (map named es))
 
-pub further-none : (name : List ℕ) (es : List (Vec ℕ Global × Value))
+pub further-none : (name : List ℕ) (es : List (Word × Value))
     → before word_of name es ≡ length es → None ≡ value_of_name name (map named es)
 further-none name es none =
     let many = length-map es named in
@@ -134,28 +135,28 @@ further-none name es none =
     ∙ ap (value_of_name name) (append-nil (map named es))
 
 -- ---- the search
-next : (name : List ℕ) (all : List (Vec ℕ Global × Value)) (i : ℕ) (e : Vec ℕ Global × Value)
+next : (name : List ℕ) (all : List (Word × Value)) (i : ℕ) (e : Word × Value)
     → i < length all → e ≡ get_or all i e → place_in name (map named (drop i all))
-    ≡ (if is_same_name name e.0.items then 0 else suc (place_in name (map named (drop (i + 1) all))))
+    ≡ (if is_same_name name e.0 then 0 else suc (place_in name (map named (drop (i + 1) all))))
 next name all i e below is =
     ap (λ l. place_in name (map named l)) (drop_more all i e below)
     ∙ ap (λ p. place_in name (named p ∷ map named (drop (i + 1) all))) (sym is)
 
-pub place-here : (name : List ℕ) (all : List (Vec ℕ Global × Value)) (i : ℕ) (e : Vec ℕ Global × Value)
-    → i < length all → e ≡ get_or all i e → is_same_name name e.0.items ≡ true
+pub place-here : (name : List ℕ) (all : List (Word × Value)) (i : ℕ) (e : Word × Value)
+    → i < length all → e ≡ get_or all i e → is_same_name name e.0 ≡ true
     → place_in name (map named (drop i all)) ≡ 0
 place-here name all i e below is same =
     next name all i e below is
     ∙ ap (λ b. if b then 0 else suc (place_in name (map named (drop (i + 1) all)))) same
 
-pub place-past : (name : List ℕ) (all : List (Vec ℕ Global × Value)) (i : ℕ) (e : Vec ℕ Global × Value)
-    → i < length all → e ≡ get_or all i e → is_same_name name e.0.items ≡ false
+pub place-past : (name : List ℕ) (all : List (Word × Value)) (i : ℕ) (e : Word × Value)
+    → i < length all → e ≡ get_or all i e → is_same_name name e.0 ≡ false
     → place_in name (map named (drop i all)) ≡ suc (place_in name (map named (drop (i + 1) all)))
 place-past name all i e below is other =
     next name all i e below is
     ∙ ap (λ b. if b then 0 else suc (place_in name (map named (drop (i + 1) all)))) other
 
-pub place-none : (name : List ℕ) (all : List (Vec ℕ Global × Value)) (i : ℕ) → length all ≤ i
+pub place-none : (name : List ℕ) (all : List (Word × Value)) (i : ℕ) → length all ≤ i
     → place_in name (map named (drop i all)) ≡ 0
 place-none name all i past = ap (λ l. place_in name (map named l)) (drop_all i all past)
 

@@ -1,18 +1,18 @@
 -- The names with their values that a frame holds in memory: some at the places of listed names, the others by name.
-use Rattle.std.specs.Prelude.{ℕ, List, [], ◌∷◌, ◌++◌, Bool, true, false, Option, Some, None, map, option_map, Vec}
-use Rattle.std.specs.Global.{Global}
+use Rattle.std.specs.Prelude.{ℕ, List, [], ◌∷◌, ◌++◌, Bool, true, false, Option, Some, None, map, option_map}
 use Rattle.scad_value.specs.Datum.{Datum}
 use Rattle.scad_value.specs.View.{datum_of}
 use Rattle.scad_value.specs.declared.value.Value.{Value}
 use Rattle.scad_scope.specs.declared.named_values.NamedValues.{NamedValues}
 use Rattle.scad_scope.specs.declared.placed_values.PlacedValues.{PlacedValues}
+use Rattle.scad_scope.specs.declared.word.Word.{Word}
 use Rattle.scad_scope.specs.Listing.{Listing}
 use Rattle.scad_scope.specs.Names.{Names}
 use Rattle.scad_scope.specs.ListedValues.{or_unlisted, name_placed}
 
 -- a name with its value
-abbrev pub named : Vec ℕ Global × Value → List ℕ × Datum
-named p = (p.0.items, datum_of p.1)
+abbrev pub named : Word × Value → List ℕ × Datum
+named p = (p.0, datum_of p.1)
 
 -- the first of those by name
 abbrev pub few_in : NamedValues → Names

@@ -10,3 +10,4 @@ pub mod Slots
 pub mod FrameStore
 pub mod Tables
 pub mod View
+pub mod Words

@@ -88,8 +88,7 @@ impl<'p> FrameNames<'p> {
         ensures refused { OnErr result (names_in self.new ≡ names_in self.old) }
         ensures names { option_map (λ n. n.now) self.new.placed.names ≡ option_map (λ n. n.now) self.old.placed.names }
     {
-        let key = Vec::from_slice(alloc, name)?;
-        self.named.set(alloc, key, value)
+        self.named.set(alloc, name, value)
     }
 
     /// The value of a name.

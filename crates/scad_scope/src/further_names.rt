@@ -1,5 +1,6 @@
 //! The names of a frame behind its first ones, with their values.
 
+use crate::word::Word;
 use scad_value::Value;
 use std::alloc::{AllocError, Global};
 use std::collections::HashMap;
@@ -8,25 +9,24 @@ use std::marker::Model;
 /// Names with their values, in the order in which they were first set. Where a name stands is found by its hash.
 #[derive(Drop)]
 pub struct FurtherNames {
-    entries: Vec<(Vec<u8>, Value)>,
+    entries: Vec<(Word, Value)>,
     places: HashMap<Vec<u8>, usize>,
 }
 
 impl Model for FurtherNames {
-    ghost use Rattle.std.specs.Prelude.{ℕ, List, Vec};
-    ghost use Rattle.std.specs.Global.{Global};
+    ghost use Rattle.std.specs.Prelude.{ℕ, List};
     ghost use Rattle.scad_value.specs.declared.value.Value.{Value as Held};
     ghost use Rattle.scad_value.specs.contracts.value.Value as held;
     ghost use Rattle.std.specs.Coded.{codes};
     ghost use Rattle.scad_bindings.specs.NamePlaces.{HasPlaces};
 
-    ghost Value = { List (Vec ℕ Global × Held) };
+    ghost Value = { List (List ℕ × Held) };
 
     ghost coded = { Prim.hlevel (codes, held.the_row.coded) };
 
     ghost view = { λ n. n.entries.items };
 
-    ghost invariant = { λ n. HasPlaces (λ e. e.0.items) (λ k. k.items) n.entries.items n.places };
+    ghost invariant = { λ n. HasPlaces (λ e. e.0) (λ k. k.items) n.entries.items n.places };
 }
 
 impl FurtherNames {
@@ -46,20 +46,21 @@ impl FurtherNames {
     }
 
     /// Sets a name.
-    pub fn set(&mut self, alloc: Global, name: Vec<u8>, value: Value) -> Result<(), AllocError>
+    pub fn set(&mut self, alloc: Global, name: &[u8], value: Value) -> Result<(), AllocError>
         ensures named { OnOk result (map named self.new
-            ≡ with_name name.items (datum_of value) (map named self.old)) }
+            ≡ with_name name.now (datum_of value) (map named self.old)) }
         ensures refused { OnErr result (self.new ≡ self.old) }
     {
-        if let Some(place) = self.places.get(name.as_slice()) {
+        if let Some(place) = self.places.get(name) {
             let place = *place;
             self.entries[place].1 = value;
             return Ok(());
         }
-        let key = Vec::from_slice(alloc, name.as_slice())?;
         self.entries.reserve(1)?;
+        let key = Vec::from_slice(alloc, name)?;
+        let word = Word::of(alloc, name)?;
         self.places.insert(key, self.entries.len())?;
-        self.entries.push_reserved((name, value));
+        self.entries.push_reserved((word, value));
         Ok(())
     }
 

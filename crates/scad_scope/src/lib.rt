@@ -18,6 +18,7 @@ mod placed_values;
 mod resolution;
 mod slot;
 mod table;
+mod word;
 
 pub use child_statements::Kept;
 pub use frames::Frames;

@@ -1,10 +1,11 @@
 //! The names of a frame with their values.
 
-ghost use Rattle.std.specs.Prelude.{◌≡◌, map};
+ghost use Rattle.std.specs.Prelude.{◌≡◌, ◌<◌, map, vec_len, vec_capacity, OnOk};
 ghost use Rattle.scad_scope.specs.Names.{place_in};
 ghost use Rattle.scad_scope.specs.FrameNames.{named};
 
 use crate::further_names::FurtherNames;
+use crate::word::Word;
 use scad_value::Value;
 use std::alloc::{AllocError, Global};
 
@@ -16,12 +17,12 @@ const FEW_NAMES: usize = 8;
 /// further ones in a map.
 #[derive(Drop)]
 pub struct NamedValues {
-    few: Vec<(Vec<u8>, Value)>,
+    few: Vec<(Word, Value)>,
     more: Option<Box<FurtherNames>>,
 }
 
 /// How many names stand before a name in a list: all of them where it isn't there.
-fn place_of(all: &[(Vec<u8>, Value)], name: &[u8]) -> usize
+fn place_of(all: &[(Word, Value)], name: &[u8]) -> usize
     ensures { result ≡ place_in name.now (map named all.now) }
 {
     let mut i = 0;
@@ -35,8 +36,9 @@ fn place_of(all: &[(Vec<u8>, Value)], name: &[u8]) -> usize
 }
 
 /// Makes room for one more, for the first one no more than that: many frames have no other.
-fn make_room(all: &mut Vec<(Vec<u8>, Value)>) -> Result<(), AllocError>
-    ensures { all.new.items ≡ all.old.items }
+fn make_room(all: &mut Vec<(Word, Value)>) -> Result<(), AllocError>
+    ensures items { all.new.items ≡ all.old.items }
+    ensures room { OnOk result (vec_len all.new < vec_capacity all.new) }
 {
     if all.is_empty() {
         all.reserve_exact(1)
@@ -46,7 +48,7 @@ fn make_room(all: &mut Vec<(Vec<u8>, Value)>) -> Result<(), AllocError>
 }
 
 impl NamedValues {
-    ghost use Rattle.std.specs.Prelude.{◌≡◌, ◌≤◌, [], length, option_map, OnOk, OnErr};
+    ghost use Rattle.std.specs.Prelude.{◌≤◌, [], length, option_map, OnErr};
     ghost use Rattle.scad_value.specs.View.{datum_of};
     ghost use Rattle.scad_scope.specs.Names.{place_in, value_of_name, with_name};
     ghost use Rattle.scad_scope.specs.FrameNames.{few_in, is_nil, more_in, named_in};
@@ -64,12 +66,12 @@ impl NamedValues {
 
     /// Sets a name.
     #[tactic(auto, unfolding(crate::specs::FrameNames::named_in))]
-    pub fn set(&mut self, alloc: Global, name: Vec<u8>, value: Value) -> Result<(), AllocError>
+    pub fn set(&mut self, alloc: Global, name: &[u8], value: Value) -> Result<(), AllocError>
         ensures named { OnOk result (named_in self.new
-            ≡ with_name name.items (datum_of value) (named_in self.old)) }
+            ≡ with_name name.now (datum_of value) (named_in self.old)) }
         ensures refused { OnErr result (named_in self.new ≡ named_in self.old) }
     {
-        let place = place_of(self.few.as_slice(), name.as_slice());
+        let place = place_of(self.few.as_slice(), name);
         if place < self.few.len() {
             self.few[place].1 = value;
             return Ok(());
@@ -79,10 +81,10 @@ impl NamedValues {
 
     /// Sets a name that isn't among the few.
     #[tactic(auto, unfolding(crate::specs::FrameNames::named_in))]
-    fn add(&mut self, alloc: Global, name: Vec<u8>, value: Value) -> Result<(), AllocError>
-        requires { length (few_in self.old) ≤ place_in name.items (few_in self.old) }
+    fn add(&mut self, alloc: Global, name: &[u8], value: Value) -> Result<(), AllocError>
+        requires { length (few_in self.old) ≤ place_in name.now (few_in self.old) }
         ensures named { OnOk result (named_in self.new
-            ≡ with_name name.items (datum_of value) (named_in self.old)) }
+            ≡ with_name name.now (datum_of value) (named_in self.old)) }
         ensures refused { OnErr result (named_in self.new ≡ named_in self.old) }
     {
         if let Some(held) = &mut self.more {
@@ -90,7 +92,7 @@ impl NamedValues {
             return Ok(());
         }
         if self.few.len() < FEW_NAMES {
-            self.append(name, value)
+            self.append(alloc, name, value)
         } else {
             self.start(alloc, name, value)
         }
@@ -98,24 +100,25 @@ impl NamedValues {
 
     /// Puts a name behind the few.
     #[tactic(auto, unfolding(crate::specs::FrameNames::named_in))]
-    fn append(&mut self, name: Vec<u8>, value: Value) -> Result<(), AllocError>
-        requires absent { length (few_in self.old) ≤ place_in name.items (few_in self.old) }
+    fn append(&mut self, alloc: Global, name: &[u8], value: Value) -> Result<(), AllocError>
+        requires absent { length (few_in self.old) ≤ place_in name.now (few_in self.old) }
         requires last { more_in self.old ≡ [] }
         ensures named { OnOk result (named_in self.new
-            ≡ with_name name.items (datum_of value) (named_in self.old)) }
+            ≡ with_name name.now (datum_of value) (named_in self.old)) }
         ensures refused { OnErr result (named_in self.new ≡ named_in self.old) }
     {
         make_room(&mut self.few)?;
-        self.few.push((name, value))?;
+        let word = Word::of(alloc, name)?;
+        self.few.push_reserved((word, value));
         Ok(())
     }
 
     /// Begins the map with a name.
-    fn start(&mut self, alloc: Global, name: Vec<u8>, value: Value) -> Result<(), AllocError>
-        requires absent { length (few_in self.old) ≤ place_in name.items (few_in self.old) }
+    fn start(&mut self, alloc: Global, name: &[u8], value: Value) -> Result<(), AllocError>
+        requires absent { length (few_in self.old) ≤ place_in name.now (few_in self.old) }
         requires last { more_in self.old ≡ [] }
         ensures named { OnOk result (named_in self.new
-            ≡ with_name name.items (datum_of value) (named_in self.old)) }
+            ≡ with_name name.now (datum_of value) (named_in self.old)) }
         ensures refused { OnErr result (named_in self.new ≡ named_in self.old) }
     {
         let mut held = FurtherNames::new(alloc);

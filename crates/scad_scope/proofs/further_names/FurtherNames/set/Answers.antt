@@ -1,7 +1,6 @@
-use Rattle.std.proofs.Common.{[], ◌∷◌, ◌++◌, map, refl, sym, ap, ◌∙◌, arith}
+use Rattle.std.proofs.Common.{[], ◌∷◌, ◌++◌, map, refl, ap, ap₂, ◌∙◌, arith}
 use Rattle.scad_value.specs.View.{datum_of}
 use Rattle.scad_scope.specs.Names.{with_name}
-use Rattle.scad_bindings.specs.NamePlaces.{before}
 use Rattle.scad_scope.specs.FrameNames.{named}
 use Rattle.scad_bindings.proofs.NamePlaces.{word_in, place-told, place-untold, place-set, places-more}
 use Rattle.scad_scope.proofs.Few.{word_of, further-set, further-push}
@@ -9,8 +8,8 @@ use Rattle.scad_scope.proofs.further_names.FurtherNames.set.Goals as goal
 
 pub index_mut-requires : goal.index_mut-requires
 index_mut-requires c =
-    let told = place-told word_of c.as_slice.result.now c.self.inside.entries.items c.in-Some.place.now
-    (c.in-Some.ensures.value ∙ c.self.invariant c.as_slice.result.now) in
+    let told = place-told word_of c.args.name.now c.self.inside.entries.items c.in-Some.place.now
+    (c.in-Some.ensures.value ∙ c.self.invariant c.args.name.now) in
     omega (arith, told.0, told.1)
 
 pub invariant_of-self : goal.invariant_of-self
@@ -21,32 +20,28 @@ invariant_of-self c = λ name. c.self.invariant name
 pub returns-in-Some-clause-named : goal.returns-in-Some-clause-named
 returns-in-Some-clause-named c =
     let es = c.self.inside.entries.items in
-    let told = place-told word_of c.as_slice.result.now es c.in-Some.place.now
-    (c.in-Some.ensures.value ∙ c.self.invariant c.as_slice.result.now) in
-    further-set c.args.name.items c.args.value es c.in-Some.place.now c.index_mut.result.now
-    (told.0 ∙ ap (λ n. before word_of n es) c.as_slice.ensures.value) (omega (arith, told.0, told.1))
-    c.index_mut.ensures.value
-    ∙ ap (λ l. with_name c.args.name.items (datum_of c.args.value) (map named l)) c.self.view_is
+    let told = place-told word_of c.args.name.now es c.in-Some.place.now
+    (c.in-Some.ensures.value ∙ c.self.invariant c.args.name.now) in
+    further-set c.args.name.now c.args.value es c.in-Some.place.now c.index_mut.result.now
+    told.0 (omega (arith, told.0, told.1)) c.index_mut.ensures.value
+    ∙ ap (λ l. with_name c.args.name.now (datum_of c.args.value) (map named l)) c.self.view_is
 
 pub invariant_of-self-2 : goal.invariant_of-self-2
 invariant_of-self-2 c =
     let es = c.self.inside.entries.items in
-    places-more word_of word_in es c.push_reserved.new.self.items (c.args.name, c.args.value) c.self.inside.places
-    c.insert.new.self c.in_ok-key.key c.len.result (c.in_ok-key.ensures.items ∙ c.as_slice-2.ensures.value)
+    places-more word_of word_in es c.push_reserved.new.self.items (c.args.name.now, c.args.value) c.self.inside.places
+    c.insert.new.self c.in_ok-key.key c.len.result c.in_ok-key.ensures.items
     (c.len.ensures ∙ c.in_ok-reserve.ensures.len ∙ c.self.inside.entries.ok.0)
-    (ap (λ n. before word_of n es) (sym c.as_slice.ensures.value)
-    ∙ place-untold word_of c.as_slice.result.now es
-    (c.in_default.ensures.value ∙ c.self.invariant c.as_slice.result.now))
+    (place-untold word_of c.args.name.now es (c.in_default.ensures.value ∙ c.self.invariant c.args.name.now))
     (c.push_reserved.ensures.items
-    ∙ ap (λ l. l ++ (c.args.name, c.args.value) ∷ []) c.in_ok-reserve.ensures.items)
+    ∙ ap₂ (λ l w. l ++ (w, c.args.value) ∷ []) c.in_ok-reserve.ensures.items c.in_ok-word.ensures)
     c.self.invariant c.in_ok-insert.ensures.updates
 
 pub returns-clause-named : goal.returns-clause-named
 returns-clause-named c =
     let es = c.self.inside.entries.items in
     ap (map named) (c.push_reserved.ensures.items
-    ∙ ap (λ l. l ++ (c.args.name, c.args.value) ∷ []) c.in_ok-reserve.ensures.items)
-    ∙ further-push c.args.name c.args.value es (ap (λ n. before word_of n es) (sym c.as_slice.ensures.value)
-    ∙ place-untold word_of c.as_slice.result.now es
-    (c.in_default.ensures.value ∙ c.self.invariant c.as_slice.result.now))
-    ∙ ap (λ l. with_name c.args.name.items (datum_of c.args.value) (map named l)) c.self.view_is
+    ∙ ap₂ (λ l w. l ++ (w, c.args.value) ∷ []) c.in_ok-reserve.ensures.items c.in_ok-word.ensures)
+    ∙ further-push c.args.name.now c.args.value es (place-untold word_of c.args.name.now es
+    (c.in_default.ensures.value ∙ c.self.invariant c.args.name.now))
+    ∙ ap (λ l. with_name c.args.name.now (datum_of c.args.value) (map named l)) c.self.view_is

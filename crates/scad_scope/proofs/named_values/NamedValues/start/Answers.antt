@@ -10,7 +10,7 @@ unfolding named_in
 returns-clause-named c =
     ap (λ m. few_in c.args.self.now ++ map named m) c.in_ok-new.ensures.ok
     ∙ ap (λ ns. few_in c.args.self.now ++ ns) (c.in_ok-set.ensures.named
-    ∙ ap (λ es. with_name c.args.name.items (datum_of c.args.value) (map named es)) c.new-held.ensures)
-    ∙ set-unplaced c.args.name.items (datum_of c.args.value) (few_in c.args.self.now) [] c.requires.absent
-    ∙ ap (λ ns. with_name c.args.name.items (datum_of c.args.value) (few_in c.args.self.now ++ ns))
+    ∙ ap (λ es. with_name c.args.name.now (datum_of c.args.value) (map named es)) c.new-held.ensures)
+    ∙ set-unplaced c.args.name.now (datum_of c.args.value) (few_in c.args.self.now) [] c.requires.absent
+    ∙ ap (λ ns. with_name c.args.name.now (datum_of c.args.value) (few_in c.args.self.now ++ ns))
     (sym c.requires.last)
