@@ -67,13 +67,13 @@ impl<'p> Frames<'p> {
         if number >= u32::MAX as usize {
             return Err(AllocError);
         }
-        let names = FrameNames::new(self.alloc, names);
-        self.frames.push(Frame {
-            names,
+        self.frames.reserve(1)?;
+        self.frames.push_reserved(Frame {
+            names: FrameNames::new(self.alloc, names),
             parent,
             home: Home::of(scope),
             kept,
-        })?;
+        });
         Ok(number as u32)
     }
 

@@ -47,9 +47,9 @@ impl Names {
         if self.places.contains_key(name) {
             return Ok(());
         }
+        self.words.reserve(1)?;
         let word = Vec::from_slice(self.alloc, name)?;
         let key = Vec::from_slice(self.alloc, name)?;
-        self.words.reserve(1)?;
         self.places.insert(key, self.words.len())?;
         self.words.push_reserved(word);
         Ok(())

@@ -142,7 +142,8 @@ impl<'p> PlacedValues<'p> {
         ensures names { option_map (λ n. n.now) self.new.names ≡ option_map (λ n. n.now) self.old.names }
     {
         let in_order = self.goes_on(place);
-        self.entries.push((place, value))?;
+        self.entries.reserve(1)?;
+        self.entries.push_reserved((place, value));
         self.in_order = in_order;
         Ok(())
     }
