@@ -24,5 +24,3 @@ slots-drop name up all i l so_far below is =
 pub slots-end : (name : List ℕ) (up : ℕ) (all : List Listing) (i : ℕ) → length all ≤ i
     → slots_from name up (drop i all) ≡ []
 slots-end name up all i past = ap (slots_from name up) (drop_all i all past)
-
-pub ruleset resolves = (slots-drop, slots-end)

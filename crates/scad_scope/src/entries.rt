@@ -47,7 +47,6 @@ fn defining<'p>(
 }
 
 /// The last item of a scope that defines the name.
-#[tactic(auto, using(scad_bindings::proofs::Rows::rest))]
 pub fn last_item<'p>(kind: Kind, name: &[u8], scope: &'p Scope) -> Option<&'p Item>
     ensures { option_map (λ i. item_of i.now) result
         ≡ last_item (word_of_kind kind) name.now None (items scope.now.items) }
@@ -77,7 +76,6 @@ fn note<'p>(
 }
 
 /// The names that a scope defines, each with the place of the item that defines it last.
-#[tactic(auto, using(scad_bindings::proofs::Rows::rest))]
 pub fn rows_of<'p>(
     alloc: Global,
     kind: Kind,

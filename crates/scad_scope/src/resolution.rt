@@ -19,7 +19,6 @@ fn note(list: &mut Vec<Slot>, up: usize, place: Option<usize>) -> Result<(), All
 
 /// The slots of a name in frames that can hold these names, of which the innermost is the first: one for each frame that
 /// lists it.
-#[tactic(auto, using(crate::proofs::FoundSlots::resolves))]
 pub fn resolve(alloc: Global, frames: &[Names], name: &[u8]) -> Result<Slots, AllocError>
     ensures { IfOk result (λ s. s ≡ slots_of name.now frames.now) }
 {

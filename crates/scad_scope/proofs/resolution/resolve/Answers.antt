@@ -1,6 +1,7 @@
-use Rattle.std.proofs.Common.{◌+◌, ◌++◌, [], drop, ap, ◌∙◌, arith}
+use Rattle.std.proofs.Common.{◌+◌, ◌++◌, [], drop, sym, ap, ◌∙◌, arith}
+use Rattle.std.proofs.lemmas.List.{append-nil}
 use Rattle.scad_scope.specs.Slots.{slot_onto, slots_from}
-use Rattle.scad_scope.proofs.FoundSlots.{slots-drop}
+use Rattle.scad_scope.proofs.FoundSlots.{slots-drop, slots-end}
 use Rattle.scad_scope.proofs.resolution.resolve.Goals as goal
 
 pub frames-preserved : goal.frames-preserved
@@ -16,3 +17,11 @@ frames-preserved c =
           ∙ slots-drop name up c.args.frames.now i c.names-item.result list c.frames-test.true c.names-item.is
           ∙ c.frames.invariant.noted;
     }
+
+pub returns : goal.returns
+returns c =
+    let list = c.frames.list.items in
+    c.from_vec.ensures
+    ∙ sym (ap (λ s. list ++ s) (slots-end c.args.name.now c.frames.up c.args.frames.now c.frames.names-index
+    (omega arith)) ∙ append-nil list)
+    ∙ c.frames.invariant.noted
