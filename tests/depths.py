@@ -47,16 +47,14 @@ def each_of(count, form):
 # Members of each list: each source is below 4 MiB, the limit of sources, and takes fewer than 500,000 steps.
 MANY = 100_000
 LAST = MANY - 1
-# Parameters that are all given by name are compared with one another, each with each, so they are fewer.
-NAMED = 2_000
-LAST_NAMED = NAMED - 1
 
 VARIABLES = each_of(MANY, "v{i} = {i}")
 TURNS = each_of(MANY, "v{i} = [0]")
 PLAIN = each_of(MANY, "{i}")
 PARAMETERS = each_of(MANY, "v{i}")
-BY_NAME = each_of(NAMED, "v{i} = {i}")
-FEW_PARAMETERS = each_of(NAMED, "v{i}")
+ASSIGNMENTS = "".join(f"v{i}={i};" for i in range(MANY))
+FUNCTIONS = "".join(f"function f{i}()={i};" for i in range(MANY))
+MODULES = "".join(f"module m{i}()echo({i});" for i in range(MANY))
 LAST_ECHOED = f"ECHO: {LAST}\n{NOTHING}"
 
 # name: (source, report)
@@ -73,13 +71,19 @@ LISTS = {
     "arguments_of_a_function": (f"function f({PARAMETERS}) = v{LAST}; echo(f({PLAIN}));", LAST_ECHOED),
     "arguments_of_a_module": (f"module m({PARAMETERS}) echo(v{LAST}); m({PLAIN});", LAST_ECHOED),
     "arguments_of_a_function_by_name":
-        (f"function f({FEW_PARAMETERS}) = v{LAST_NAMED}; echo(f({BY_NAME}));", f"ECHO: {LAST_NAMED}\n{NOTHING}"),
+        (f"function f({PARAMETERS}) = v{LAST}; echo(f({VARIABLES}));", LAST_ECHOED),
     "arguments_of_a_module_by_name":
-        (f"module m({FEW_PARAMETERS}) echo(v{LAST_NAMED}); m({BY_NAME});", f"ECHO: {LAST_NAMED}\n{NOTHING}"),
+        (f"module m({PARAMETERS}) echo(v{LAST}); m({VARIABLES});", LAST_ECHOED),
     "parameters": (f"function f({VARIABLES}) = v{LAST}; echo(f());", LAST_ECHOED),
     "parameters_of_a_module": (f"module m({VARIABLES}) echo(v{LAST}); m();", LAST_ECHOED),
     "elements": (f"echo(len([{PLAIN}]));", f"ECHO: {MANY}\n{NOTHING}"),
     "statements_without_shapes": ("union();" * MANY, NOTHING),
+    "assignments": (f"{ASSIGNMENTS} echo(v{LAST});", LAST_ECHOED),
+    "functions": (f"{FUNCTIONS} echo(f{LAST}());", LAST_ECHOED),
+    "modules": (f"{MODULES} m{LAST}();", LAST_ECHOED),
+    "children": (f"module m() children(); m() {{ {'union();' * LAST} echo({LAST}); }}", LAST_ECHOED),
+    "children_one_of_which_is_run":
+        (f"module m() children({LAST}); m() {{ {'echo();' * LAST} echo({LAST}); }}", LAST_ECHOED),
 }
 
 

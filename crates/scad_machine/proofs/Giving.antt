@@ -1,8 +1,9 @@
 -- Arguments that are given one by one.
-use Rattle.std.proofs.Common.{◌≡◌, ℕ, zero, suc, ◌+◌, ◌<◌, ◌≤◌, Bool, true, false, List, [], ◌∷◌, ◌++◌, map, length, get_or, set, drop, Option, Some, None, is_some, if◌then◌else◌, refl, sym, ap, ap₂, ◌∙◌, arith}
+use Rattle.std.proofs.Common.{◌≡◌, ℕ, zero, suc, ◌+◌, ◌<◌, ◌≤◌, ◌||◌, Bool, true, false, List, [], ◌∷◌, ◌++◌, map, length, get_or, set, drop, Option, Some, None, is_some, if◌then◌else◌, refl, sym, ap, ap₂, ◌∙◌, arith}
 use Rattle.std.proofs.lemmas.List.{drop_more, drop_all, length-map, map-append, append-nil}
 use Rattle.std.proofs.lemmas.Bool.{ltb-true, ltb-false, lt-ltb, false_from_ne_true}
 use Rattle.std.specs.Borrow.{Bor}
+use Rattle.std.specs.Cmp.Lexicographic.{bytes_decides}
 use Rattle.std.specs.Prelude.{nat_lt, slice_get}
 use Rattle.scad_ast.specs.declared.expression.Arg.{Arg}
 use Rattle.scad_ast.specs.declared.statement.Param.{Param}
@@ -16,7 +17,7 @@ use Rattle.scad_value.specs.declared.value.Value.{Value}
 use Rattle.scad_scope.specs.Names.{Names, is_same_name, place_in, value_of_name, with_name}
 use Rattle.scad_bindings.specs.NamePlaces.{put_in, value_in}
 use Rattle.scad_scope.proofs.Few.{few-set, set-unplaced}
-use Rattle.scad_machine.specs.Arguments.{given_from, is_given, is_statement, statements}
+use Rattle.scad_machine.specs.Arguments.{given_from, is_given, is_parameter, is_statement, statements}
 use Rattle.scad_machine.specs.Parameters.{parameter_names, shown, with_argument, unnamed_before_next}
 use Rattle.scad_machine.proofs.Homes.{items-drop, items-drop_all}
 use Rattle.scad_value.proofs.Lists.{arguments-drop, arguments-drop_all}
@@ -81,6 +82,59 @@ given_in name (e ∷ es) = by (given_in name es) (is_same_name name e.0.now)
         ≡ is_some (if b then Some (datum_of e.1) else value_of_name name (map shown es))
     by rest true = refl
     by rest false = rest
+
+or_false : (a : Bool) → (a || false) ≡ a
+or_false true = refl
+or_false false = refl
+
+or_assoc : (a b c : Bool) → ((a || b) || c) ≡ (a || (b || c))
+or_assoc true b c = refl
+or_assoc false b c = refl
+
+module _ {V : Type 0} where
+  put-has : (name : List ℕ) (key : Bor (List ℕ)) (v : V) (es : List (Bor (List ℕ) × V))
+      → is_some (value_in name (put_in es key v)) ≡ (is_some (value_in name es) || is_same_name name key.now)
+  put-has name key v [] = by (is_same_name name key.now)
+    where
+      by : (b : Bool) → is_some (if b then Some v else None) ≡ b
+      by true = refl
+      by false = refl
+  put-has name key v (e ∷ es) = by (put-has name key v es) (is_same_name key.now e.0.now) refl
+    where
+      here : (s : Bool) → is_some (if s then Some v else value_in name es)
+          ≡ (is_some (if s then Some e.1 else value_in name es) || s)
+      here true = refl
+      here false = sym (or_false (is_some (value_in name es)))
+
+      behind : is_some (value_in name (put_in es key v)) ≡ (is_some (value_in name es) || is_same_name name key.now)
+          → (s : Bool) → is_some (if s then Some e.1 else value_in name (put_in es key v))
+          ≡ (is_some (if s then Some e.1 else value_in name es) || is_same_name name key.now)
+      behind rest true = refl
+      behind rest false = rest
+
+      by : is_some (value_in name (put_in es key v)) ≡ (is_some (value_in name es) || is_same_name name key.now)
+          → (b : Bool) → is_same_name key.now e.0.now ≡ b
+          → is_some (value_in name (if b then (e.0, v) ∷ es else e ∷ put_in es key v))
+          ≡ (is_some (value_in name (e ∷ es)) || is_same_name name key.now)
+      by rest true same = here (is_same_name name e.0.now)
+          ∙ ap (λ k. is_some (value_in name (e ∷ es)) || is_same_name name k)
+          (sym ((bytes_decides key.now e.0.now).0 same))
+      by rest false other = behind rest (is_same_name name e.0.now)
+
+  -- a table with the names of the parameters before a place, and the names of those that are left
+  pub table-next : (all : List Param) (i : ℕ) (p : Param) (key : Bor (List ℕ)) (v : V)
+      (old new : List (Bor (List ℕ) × V)) (name : List ℕ) (has : Bool) → i < length all → p ≡ get_or all i p
+      → key.now ≡ p.name → new ≡ put_in old key v
+      → (is_some (value_in name old) || is_parameter name (parameter_names (drop i all))) ≡ has
+      → (is_some (value_in name new) || is_parameter name (parameter_names (drop (i + 1) all))) ≡ has
+  table-next all i p key v old new name has below is word put before =
+      let rest : Bool = is_parameter name (parameter_names (drop (i + 1) all)) in
+      ap (λ t. is_some (value_in name t) || rest) put
+      ∙ ap (λ b. b || rest) (put-has name key v old)
+      ∙ or_assoc (is_some (value_in name old)) (is_same_name name key.now) rest
+      ∙ ap (λ w. is_some (value_in name old) || (is_same_name name w || rest)) word
+      ∙ sym (ap (λ l. is_some (value_in name old) || is_parameter name l) (names-drop all i p below is))
+      ∙ before
 
 -- ---- names in a list
 next : (name : List ℕ) (all : List (Bor (List ℕ) × Value)) (i : ℕ) (e : Bor (List ℕ) × Value)
@@ -162,6 +216,11 @@ pub given-next : (names : List (List ℕ)) (i : ℕ) (all : List Arg) (at : ℕ)
 given-next names i all at a d values so_far below is =
     ap (λ args. given_from names i args (d ∷ values) so_far) (arguments-drop all at a below is)
     ∙ with-one-argument names i a.name (expression_of a.value) (arguments (drop (at + 1) all)) d values so_far
+
+pub one-more_at_most : (word : Option (List ℕ)) (i later at : ℕ) → later ≡ unnamed_before_next word i → i ≤ at
+    → later ≤ at + 1
+one-more_at_most None i later at is low = omega (arith, is, low)
+one-more_at_most (Some name) i later at is low = omega (arith, is, low)
 
 pub given-past : (names : List (List ℕ)) (i : ℕ) (all : List Arg) (at : ℕ) (values : List Datum) (so_far : Names)
     → length all ≤ at → given_from names i (arguments (drop at all)) values so_far ≡ so_far

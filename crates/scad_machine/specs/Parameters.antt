@@ -1,5 +1,5 @@
 -- Parameters as they lie in memory, and what one argument after another gives to them.
-use Rattle.std.specs.Prelude.{ℕ, ◌+◌, not, List, filter, map, slice_get, Option, Some, None}
+use Rattle.std.specs.Prelude.{◌≡◌, ℕ, ◌+◌, not, List, filter, map, slice_get, Option, Some, None, is_some}
 use Rattle.std.specs.Borrow.{Bor}
 use Rattle.scad_ast.specs.declared.statement.Param.{Param}
 use Rattle.scad_ast.specs.Tree.{Parameter}
@@ -7,11 +7,16 @@ use Rattle.scad_value.specs.Datum.{Datum}
 use Rattle.scad_value.specs.View.{datum_of}
 use Rattle.scad_value.specs.declared.value.Value.{Value}
 use Rattle.scad_scope.specs.Names.{Names}
-use Rattle.scad_machine.specs.Arguments.{to_parameter, to_name, is_given}
+use Rattle.scad_bindings.specs.NamePlaces.{value_in}
+use Rattle.scad_machine.specs.Arguments.{is_parameter, to_parameter, to_name, is_given}
 
 -- the names of parameters in memory
 abbrev pub parameter_names : List Param → List (List ℕ)
 parameter_names all = map (λ p. p.name) all
+
+-- a table has these names, and no other
+abbrev pub HasNames : {V : Type 0} → List (Bor (List ℕ) × V) → List (List ℕ) → Type 0
+HasNames table names = (name : List ℕ) → is_some (value_in name table) ≡ is_parameter name names
 
 -- a name in memory, with its value
 abbrev pub shown : Bor (List ℕ) × Value → List ℕ × Datum

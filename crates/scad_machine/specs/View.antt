@@ -1,5 +1,5 @@
 -- What lists in memory are to the definitions.
-use Rattle.std.specs.Prelude.{List, map}
+use Rattle.std.specs.Prelude.{ℕ, List, map}
 use Rattle.scad_ast.specs.declared.expression.Expr.{Expr}
 use Rattle.scad_ast.specs.declared.statement.Param.{Param}
 use Rattle.scad_ast.specs.Scope.{parameter, item_of}
@@ -9,11 +9,13 @@ use Rattle.scad_scope.specs.FrameStore.{env_at}
 use Rattle.scad_machine.specs.declared.functions.Defined.{Defined}
 use Rattle.scad_machine.specs.declared.functions.DefinedAt.{DefinedAt}
 use Rattle.scad_machine.specs.declared.lookup.ItemAt.{ItemAt}
+use Rattle.scad_machine.specs.declared.parameter_names.ParameterNames.{ParameterNames}
+use Rattle.scad_machine.specs.declared.parameter_names.ParameterNames.TheVariants.{Few as few_names, Many as many_names}
 use Rattle.scad_machine.specs.declared.parameter_values.ParameterValues.{ParameterValues}
 use Rattle.scad_machine.specs.declared.parameter_values.ParameterValues.TheVariants.{Few, Many}
 use Rattle.scad_machine.specs.Functions.{Function, Found}
 use Rattle.scad_machine.specs.Lookup.{FoundItem}
-use Rattle.scad_machine.specs.Parameters.{shown}
+use Rattle.scad_machine.specs.Parameters.{parameter_names, shown}
 use Rattle.scad_scope.specs.Names.{Names}
 
 -- a function that is defined by these parameters and this expression
@@ -36,3 +38,8 @@ item_found_at envs i = record { item = item_of i.item.now; home = env_at envs i.
 abbrev pub values_in : ParameterValues → Names
 values_in (Few all) = map shown all.items
 values_in (Many all) = map shown all
+
+-- the names of parameters
+abbrev pub names_in : ParameterNames → List (List ℕ)
+names_in (few_names all) = parameter_names all.now
+names_in (many_names tabled) = parameter_names tabled.params.now

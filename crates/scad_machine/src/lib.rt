@@ -13,6 +13,7 @@ mod lookup;
 mod machine;
 mod names;
 mod opening;
+mod parameter_names;
 mod parameter_values;
 mod parameters;
 mod refusals;

@@ -7,45 +7,32 @@ ghost use Rattle.scad_value.specs.View.{datum_of, data_in};
 ghost use Rattle.scad_machine.specs.Arguments.{is_parameter, given, is_statement, number_of_children};
 ghost use Rattle.scad_machine.specs.Parameters.{parameter_names, unnamed_before_next, missing, with_argument};
 ghost use Rattle.scad_machine.specs.Variables.{is_dollar};
-ghost use Rattle.scad_machine.specs.View.{values_in};
+ghost use Rattle.scad_machine.specs.View.{names_in, values_in};
 
 use crate::names::is_dollar;
+use crate::parameter_names::ParameterNames;
 use crate::parameter_values::ParameterValues;
 use scad_ast::{Arg, Item, Param, Scope};
 use scad_num::Num;
 use scad_value::Value;
 use std::alloc::{AllocError, Global};
 
-/// Whether a parameter has the name.
-#[tactic(auto, using(crate::proofs::Giving::names))]
-fn is_parameter(params: &[Param], name: &[u8]) -> bool
-    ensures { result ≡ is_parameter name.now (parameter_names params.now) }
-{
-    'parameters: for p in params {
-        if name == p.name.as_slice() {
-            return true;
-        }
-    }
-    false
-}
-
 /// Whether a call takes an argument of the name.
-fn takes(params: &[Param], name: &[u8]) -> bool
-    ensures { result ≡ is_parameter name.now (parameter_names params.now) || is_dollar name.now }
+fn takes(params: &ParameterNames, name: &[u8]) -> bool
+    ensures { result ≡ is_parameter name.now (names_in params.now) || is_dollar name.now }
 {
-    is_parameter(params, name) || is_dollar(name)
+    params.has(name) || is_dollar(name)
 }
 
 /// The value of an argument goes to its parameter, where so many unnamed ones stand before.
-#[tactic(auto, using(crate::proofs::Giving::names))]
 fn give<'p>(
-    params: &'p [Param],
+    params: &ParameterNames<'p>,
     arg: &'p Arg,
     i: usize,
     value: Value,
     got: &mut ParameterValues<'p>,
 ) -> Result<(), AllocError>
-    ensures { OnOk result (values_in got.new ≡ with_argument (parameter_names params.now) i
+    ensures { OnOk result (values_in got.new ≡ with_argument (names_in params.now) i
         arg.now.name (datum_of value) (values_in got.old)) }
 {
     match &arg.name {
@@ -56,13 +43,10 @@ fn give<'p>(
                 Ok(())
             }
         }
-        None => {
-            if i < params.len() {
-                got.put(params[i].name.as_slice(), value)
-            } else {
-                Ok(())
-            }
-        }
+        None => match params.name(i) {
+            Some(name) => got.put(name, value),
+            None => Ok(()),
+        },
     }
 }
 
@@ -88,6 +72,7 @@ pub(crate) fn given<'p>(
     ensures { IfOk result (λ got. values_in got
         ≡ given (parameter_names params.now) (arguments args.now) (data_in values)) }
 {
+    let names = ParameterNames::of(alloc, params, args.len())?;
     let mut got = ParameterValues::new(alloc, args.len());
     let mut unnamed = 0;
     let mut at = 0;
@@ -95,8 +80,9 @@ pub(crate) fn given<'p>(
         if at >= args.len() {
             return Ok(got);
         }
-        give(params, &args[at], unnamed, value, &mut got)?;
-        unnamed = unnamed_before_next(&args[at], unnamed);
+        let arg = &args[at];
+        give(&names, arg, unnamed, value, &mut got)?;
+        unnamed = unnamed_before_next(arg, unnamed);
         at += 1;
     }
     Ok(got)
