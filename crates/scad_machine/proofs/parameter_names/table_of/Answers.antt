@@ -1,4 +1,4 @@
-use Rattle.std.proofs.Common.{◌≡◌, ℕ, ◌+◌, ap}
+use Rattle.std.proofs.Common.{◌+◌, ap}
 use Rattle.scad_machine.specs.Arguments.{is_parameter}
 use Rattle.scad_machine.specs.Parameters.{parameter_names}
 use Rattle.scad_machine.proofs.Giving.{table-next}
