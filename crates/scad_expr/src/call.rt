@@ -15,7 +15,7 @@ ghost use Rattle.scad_machine.specs.Variables.{within};
 
 use crate::run::eval_at;
 use scad_ast::{Arg, Args, Param};
-use scad_machine::{Call, Callee, EvalFault, Invocation, Machine};
+use scad_machine::{CallFrames, Callee, EvalFault, Invocation, Machine};
 use scad_scope::Kept;
 use scad_value::Value;
 use std::alloc::Global;
@@ -104,7 +104,7 @@ fn bind_at<'p>(
         ≡ within (along_in (held m.old)) (bound_in (held m.new)).dollars) }
     ensures back { IfOk result (λ back. left back (held m.new) ≡ held m.old) }
 {
-    let Call {
+    let CallFrames {
         missing,
         inner,
         back,

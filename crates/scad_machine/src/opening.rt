@@ -28,7 +28,7 @@ use std::alloc::Global;
 /// The frames of a call before its defaults: the parameters that take one, the number of its frame, and
 /// of that from which names were sought before.
 #[derive(Drop)]
-pub struct Call<'p> {
+pub struct CallFrames<'p> {
     pub missing: Vec<&'p Param>,
     pub inner: u32,
     pub back: u32,
@@ -116,7 +116,7 @@ impl<'p> Machine<'p> {
         alloc: Global,
         call: Invocation<'p>,
         found: Vec<Value>,
-    ) -> Result<Call<'p>, EvalFault>
+    ) -> Result<CallFrames<'p>, EvalFault>
         ensures does { Does nothing (done_at (state_of self.old)) result (state_of self.new) }
         ensures steps { OnOk result (self.new.steps_left ≡ self.old.steps_left) }
         ensures held { OnOk result (held self.new ≡ opened (option_map children_stored call.entry.kept)
@@ -134,7 +134,7 @@ impl<'p> Machine<'p> {
         let back = self.enter(home, call.kept)?;
         self.set_all(got)?;
         let inner = self.go(home);
-        Ok(Call {
+        Ok(CallFrames {
             missing,
             inner,
             back,

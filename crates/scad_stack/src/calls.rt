@@ -19,7 +19,7 @@ use crate::purpose::{Purpose, purpose_of};
 use crate::stack::Stack;
 use scad_ast::{Arg, Expr};
 use scad_fault::Place;
-use scad_machine::{Call, Callee, DefinedAt, EvalFault, Invocation, Machine};
+use scad_machine::{CallFrames, Callee, DefinedAt, EvalFault, Invocation, Machine};
 use scad_operations::{asserted, builtin_at, builtin_on};
 use scad_value::Value;
 use std::alloc::Global;
@@ -232,7 +232,7 @@ fn call_own<'p>(
         args,
         kept: None,
     };
-    let Call {
+    let CallFrames {
         missing,
         inner,
         back,
