@@ -1,9 +1,11 @@
 -- What the answers of the descent say: what a rule of the grammar gives, where so many more constructs may open.
-use Rattle.std.specs.Prelude.{ℕ, zero, suc, Bool, List, [], ◌∷◌, Option, Some, None, Ok, Err}
-use Rattle.std.specs.Prelude.{if◌then◌else◌}
+use Rattle.std.specs.Prelude.{ℕ, zero, suc, Bool, false, List, [], ◌∷◌, Option, Some, None, Ok, Err}
+use Rattle.std.specs.Prelude.{if◌then◌else◌, is_some}
 use Rattle.std.specs.Global.{Vec}
 use Rattle.scad_fault.specs.declared.place.Place.{Place}
 use Rattle.scad_lex.specs.declared.token.Token.{Token}
+use Rattle.scad_lex.specs.declared.token.TokenKind.{TokenKind}
+use Rattle.scad_lex.specs.declared.token.TokenKind.TheVariants.{Sign}
 use Rattle.scad_lex.specs.declared.token.Sign.TheVariants.{Comma}
 use Rattle.scad_ast.specs.Tree.{Expression, Arguments, Elements, Element, unary}
 use Rattle.scad_ast.specs.declared.operator.UnOp.{UnOp}
@@ -14,10 +16,11 @@ use Rattle.scad_parse.specs.declared.fault.ParseFault.TheVariants.{Memory, Synta
 use Rattle.scad_parse.specs.declared.node.Binder.{Binder}
 use Rattle.scad_parse.specs.declared.node.Binder.TheVariants.{Let, Assert, Echo}
 use Rattle.scad_grammar.specs.Behind.{Keyed, letting, asserting, echoing, keyed_tree}
-use Rattle.scad_grammar.specs.Tokens.{word_of, is_sign}
+use Rattle.scad_grammar.specs.Tokens.{word_of, is_sign, operator_sign}
 use Rattle.scad_grammar.specs.Grammar.{begins_named}
 use Rattle.scad_grammar.specs.Machine.{Refusal, syntax_at, nesting_at, left_out_at}
 use Rattle.scad_grammar.specs.Rules.{Read, then_read, Rules, above, expr_of, prim_of, word_rule, range_by, in_round_of}
+use Rattle.scad_grammar.specs.Rules.{links_of}
 use Rattle.scad_grammar.specs.Rules.{Head}
 use Rattle.scad_grammar.specs.Steps.{range_start}
 
@@ -74,6 +77,19 @@ bound_by what at r ts = then_read (r.round_args ts)
 -- an operand behind a prefix operator
 abbrev pub prefixed_by : UnOp → Place → Rules → List Token → Read Expression
 prefixed_by op at r ts = then_read (r.unary_rule ts) (λ e us. Ok (unary at op e, us))
+
+-- the token is an operator of some line
+abbrev pub is_operator_kind : TokenKind → Bool
+is_operator_kind (Sign s) = is_some (operator_sign s)
+is_operator_kind _ = false
+
+abbrev pub is_operator : Token → Bool
+is_operator t = is_operator_kind t.kind
+
+-- (operator operand)* of the so many tightest lines one after the other, behind the first operand
+unfoldable pub chain_of : Option Rules → ℕ → Expression → List Token → Read Expression
+chain_of lower zero a ts = Ok (a, ts)
+chain_of lower (suc line) a ts = then_read (chain_of lower line a ts) (links_of lower line)
 
 -- the rules of an operand without operators, of which no token is given apart
 unfoldable pub prim_at : Place → Option Rules → List Token → Read Expression

@@ -3,13 +3,13 @@
 ghost use Rattle.std.specs.Prelude.{◌≡◌};
 ghost use Rattle.scad_ast.specs.View.{expression_of};
 ghost use Rattle.scad_grammar.specs.Rules.{operand_of, links_of, unary_of, posts_of};
-ghost use Rattle.scad_parse.specs.Reading.{below, rules_at, prefixed_by};
+ghost use Rattle.scad_parse.specs.Reading.{below, rules_at, prefixed_by, chain_of};
 ghost use Rattle.scad_parse.specs.Standing.{Reads};
 
 use crate::expression::closed;
 use crate::fault::Form;
 use crate::node;
-use crate::operator::opens_operator;
+use crate::operator::{begins_with_operator, opens_operator};
 use crate::primary::primary;
 use crate::reader::{Open, Reader};
 use scad_ast::{Expr, UnOp};
@@ -18,16 +18,29 @@ use scad_lex::Sign;
 // or = and ("||" and)*            and = eq ("&&" eq)*
 // eq = rel (("=="|"!=") rel)*     rel = add (("<"|"<="|">"|">=") add)*
 // add = mul (("+"|"-") mul)*      mul = unary (("*"|"/"|"%") unary)*
-// An operand of the so many tightest of these lines.
+// An operand of the so many tightest of these lines. Most stand alone, and no line is then gone through.
 #[cycle(expression)]
 pub(crate) fn operand(reader: &mut Reader<'_>, lines: u8, room: u32) -> Expr
     ensures { Reads (λ e ts. operand_of e (below e room) lines ts) reader.old reader.new (expression_of result) }
 {
+    let first = unary(reader, room);
+    if !begins_with_operator(reader) {
+        return first;
+    }
+    chain(reader, lines, first, room)
+}
+
+// (operator operand)* of the so many tightest lines one after the other, behind the first operand
+#[cycle(expression)]
+fn chain(reader: &mut Reader<'_>, lines: u8, first: Expr, room: u32) -> Expr
+    ensures { Reads (λ e ts. chain_of (below e room) lines (expression_of first) ts) reader.old reader.new
+        (expression_of result) }
+{
     if lines == 0 {
-        return unary(reader, room);
+        return first;
     }
     let line = lines - 1;
-    let left = operand(reader, line, room);
+    let left = chain(reader, line, first, room);
     links(reader, line, left, room)
 }
 

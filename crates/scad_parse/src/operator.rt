@@ -4,7 +4,8 @@ ghost use Rattle.std.specs.Prelude.{◌≡◌, ◌<◌, Some, None, option_map, 
 ghost use Rattle.scad_ast.specs.View.{expression_of};
 ghost use Rattle.scad_grammar.specs.Tokens.{operator_sign, on_line, line_of, operator_kind, operator};
 ghost use Rattle.scad_grammar.specs.Steps.{literal_kind, literal};
-ghost use Rattle.scad_parse.specs.Standing.{standing, Opens, operator_at};
+ghost use Rattle.scad_parse.specs.Reading.{is_operator_kind, is_operator};
+ghost use Rattle.scad_parse.specs.Standing.{standing, Opens, operator_at, stands_at};
 ghost use Rattle.scad_lex.specs.declared.token.TokenKind.TheVariants.{Key as KeyKind};
 
 use crate::node;
@@ -76,6 +77,25 @@ pub(crate) fn operator(line: u8, token: &Token) -> Option<BinOp>
     ensures { result ≡ operator line token.now }
 {
     operator_kind(line, &token.kind)
+}
+
+fn is_operator_kind(kind: &TokenKind) -> bool
+    ensures { result ≡ is_operator_kind kind.now }
+{
+    match kind {
+        TokenKind::Sign(sign) => operator_sign(*sign).is_some(),
+        TokenKind::Number(_) | TokenKind::Str(_) | TokenKind::Word(_) | TokenKind::Key(_) => false,
+    }
+}
+
+/// An operator of any line stands at the front.
+pub(crate) fn begins_with_operator(reader: &Reader<'_>) -> bool
+    ensures { result ≡ stands_at is_operator (standing reader.now) }
+{
+    match reader.front() {
+        Some(token) => is_operator_kind(&token.kind),
+        None => false,
+    }
 }
 
 /// An operator between operands, and the construct that it opens.

@@ -18,7 +18,7 @@ use Rattle.scad_grammar.specs.Rules.{head_end, for_all, for_steps, headed as gra
 use Rattle.scad_parse.specs.declared.fault.Form.TheVariants.{Function as FunctionForm, Power}
 use Rattle.scad_parse.specs.Heads.{head_of}
 use Rattle.scad_parse.specs.Reading.{below, rules_at, keyed, bound_by, prefixed_by, prim_at, name_at, name_before}
-use Rattle.scad_parse.specs.Reading.{argument_of, arguments_seen, round_head_of}
+use Rattle.scad_parse.specs.Reading.{argument_of, arguments_seen, round_head_of, chain_of}
 use Rattle.scad_parse.specs.Standing.{standing, operator_at, left_out, took, word_here, literal_here}
 use Rattle.scad_parse.proofs.loops.Arguments.{arguments_go, arguments_fewer, arguments_end}
 use Rattle.scad_parse.proofs.loops.Elements.{elements_go_on, elements_fewer_come, elements_ranged, elements_ended}
@@ -29,7 +29,8 @@ use Rattle.scad_parse.proofs.rules.Expressions.{no_rules, more_rules, opens_rule
 use Rattle.scad_parse.proofs.rules.Expressions.{expression_is}
 use Rattle.scad_parse.proofs.rules.Expressions.{not_function, not_assert, not_echo, unbound, chosen, choice_by}
 use Rattle.scad_parse.proofs.rules.Expressions.{choice_is}
-use Rattle.scad_parse.proofs.rules.Expressions.{operand_tightest, operand_looser, operand_by, one_less, links_by}
+use Rattle.scad_parse.proofs.rules.Expressions.{operand_is, operand_by, alone, chain_ends, chain_looser, chain_by}
+use Rattle.scad_parse.proofs.rules.Expressions.{one_less, links_by}
 use Rattle.scad_parse.proofs.rules.Expressions.{link_by}
 use Rattle.scad_parse.proofs.rules.Expressions.{links_are, linked, unary_by, unary_is, not_bang, not_plus, unprefixed}
 use Rattle.scad_parse.proofs.rules.Expressions.{posts_by, posts_is, index_by, not_square, member_by_word, not_dot}
@@ -192,17 +193,37 @@ argument::arguments-returns t c =
     arguments_end c.args.room c.members.args.items c.shrink_to_fit.new.self.items c.members.invariant
     (sym c.lacks_end_of_arguments.ensures ∙ c.members-test.false) c.shrink_to_fit.ensures.items
 
-pub operand::operand-returns-then-lines-eq0 : goal.operand::operand-returns-then-lines-eq0
-operand::operand-returns-then-lines-eq0 t c =
-    same_rule (λ e ts. operand_of e (below e c.args.room) c.args.lines ts) (λ e ts. unary_of e (below e c.args.room) ts)
-    (operand_tightest c.args.room c.args.lines c.if-lines-eq0.true) c.unary.ensures
+pub operand::operand-returns-then-not-begins_with_operator :
+    goal.operand::operand-returns-then-not-begins_with_operator
+operand::operand-returns-then-not-begins_with_operator t c =
+    same_rule (λ e ts. operand_of e (below e c.args.room) c.args.lines ts) (operand_by c.args.room c.args.lines)
+    (operand_is c.args.room c.args.lines)
+    (follows (λ e ts. unary_of e (below e c.args.room) ts) (λ e. chain_of (below e c.args.room) c.args.lines)
+    c.unary-first.ensures
+    (alone c.args.room c.args.lines (expression_of c.unary-first.result)
+    (sym c.begins_with_operator.ensures ∙ c.if-not-begins_with_operator.true)))
 
 pub operand::operand-returns : goal.operand::operand-returns
 operand::operand-returns t c =
-    same_rule (λ e ts. operand_of e (below e c.args.room) c.args.lines ts) (operand_by c.args.room (c.args.lines - 1))
-    (operand_looser c.args.room c.args.lines (c.args.lines - 1) (one_less c.args.lines c.if-lines-eq0.false))
-    (follows (λ e ts. operand_of e (below e c.args.room) (c.args.lines - 1) ts)
-    (λ e. links_of (below e c.args.room) (c.args.lines - 1)) c.operand-left.ensures c.links.ensures)
+    same_rule (λ e ts. operand_of e (below e c.args.room) c.args.lines ts) (operand_by c.args.room c.args.lines)
+    (operand_is c.args.room c.args.lines)
+    (follows (λ e ts. unary_of e (below e c.args.room) ts) (λ e. chain_of (below e c.args.room) c.args.lines)
+    c.unary-first.ensures c.chain.ensures)
+
+pub operand::chain-returns-then-lines-eq0 : goal.operand::chain-returns-then-lines-eq0
+operand::chain-returns-then-lines-eq0 t c =
+    same_rule (λ e ts. chain_of (below e c.args.room) c.args.lines (expression_of c.args.first) ts)
+    (λ e us. Ok (expression_of c.args.first, us))
+    (chain_ends c.args.room c.args.lines (expression_of c.args.first) c.if-lines-eq0.true) stay
+
+pub operand::chain-returns : goal.operand::chain-returns
+operand::chain-returns t c =
+    same_rule (λ e ts. chain_of (below e c.args.room) c.args.lines (expression_of c.args.first) ts)
+    (chain_by c.args.room (c.args.lines - 1) (expression_of c.args.first))
+    (chain_looser c.args.room c.args.lines (c.args.lines - 1) (expression_of c.args.first)
+    (one_less c.args.lines c.if-lines-eq0.false))
+    (follows (λ e ts. chain_of (below e c.args.room) (c.args.lines - 1) (expression_of c.args.first) ts)
+    (λ e. links_of (below e c.args.room) (c.args.lines - 1)) c.chain-left.ensures c.links.ensures)
 
 pub operand::links-returns-in_default : goal.operand::links-returns-in_default
 operand::links-returns-in_default t c =

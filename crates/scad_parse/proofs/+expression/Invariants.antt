@@ -80,6 +80,9 @@ decreases-vector::ranged l = 512 * l.open.room + 302
 abbrev pub decreases-operand::operand : goal.decreases-operand::operand
 decreases-operand::operand l = 512 * l.room + (3 + l.lines)
 
+abbrev pub decreases-operand::chain : goal.decreases-operand::chain
+decreases-operand::chain l = 512 * l.room + (1 + l.lines)
+
 abbrev pub decreases-argument::arguments-members : goal.decreases-argument::arguments-members
 decreases-argument::arguments-members l = to_come (standing l.reader)
 

@@ -4,6 +4,9 @@ use Rattle.std.proofs.Common.{refl, sym, ap, subst, ◌∙◌, ◌-◌, arith}
 use Rattle.std.specs.Prelude.{if◌then◌else◌, codes, is_some, ◌≢◌}
 use Rattle.scad_fault.specs.declared.place.Place.{Place}
 use Rattle.scad_lex.specs.declared.token.Token.{Token}
+use Rattle.scad_lex.specs.declared.token.TokenKind.{TokenKind}
+use Rattle.scad_lex.specs.declared.token.TokenKind.TheVariants.{Number as NumberKind, Str as StrKind}
+use Rattle.scad_lex.specs.declared.token.TokenKind.TheVariants.{Word as WordKind, Sign as SignKind, Key as KeyKind}
 use Rattle.scad_lex.specs.declared.token.Sign.TheVariants.{OpenRound, OpenSquare, CloseRound, CloseSquare, Question}
 use Rattle.scad_lex.specs.declared.token.Sign.TheVariants.{Colon, Bang, Plus, Minus, Dot, Caret, Semicolon}
 use Rattle.scad_lex.specs.declared.token.Key.TheVariants.{Function, If, Else, For, Let, Assert, Echo, Each}
@@ -12,7 +15,7 @@ use Rattle.scad_ast.specs.declared.operator.BinOp.{BinOp}
 use Rattle.scad_ast.specs.Tree.{Expression, name, call, choose, index, member, range, stepped, binary, Element, item}
 use Rattle.scad_ast.specs.Tree.{each, Elements}
 use Rattle.scad_ast.specs.Tree.{if_element, if_else, Arguments}
-use Rattle.scad_grammar.specs.Tokens.{is_sign, is_key, word_of, operator}
+use Rattle.scad_grammar.specs.Tokens.{is_sign, is_key, word_of, operator, operator_kind, operator_sign, on_line}
 use Rattle.scad_grammar.specs.Lists.{let_of}
 use Rattle.scad_grammar.specs.Behind.{letting, asserting, echoing}
 use Rattle.scad_grammar.specs.Steps.{literal, range_start}
@@ -26,11 +29,12 @@ use Rattle.scad_grammar.specs.Rules.{elem_of, else_of, range_by, range_end, head
 use Rattle.scad_grammar.specs.Rules.{args_closed_of}
 use Rattle.scad_parse.specs.declared.fault.Form.TheVariants.{Function as FunctionForm, Power}
 use Rattle.scad_parse.specs.Reading.{below, rules_at, bound_by, prefixed_by, prim_at, name_at, no_value, behind}
-use Rattle.scad_parse.specs.Reading.{place_of}
+use Rattle.scad_parse.specs.Reading.{place_of, is_operator, is_operator_kind, chain_of}
 use Rattle.scad_parse.specs.Reading.{range_at, name_before, first_word, argument_of}
 use Rattle.scad_parse.specs.declared.reader.Reader.{Reader}
 use Rattle.scad_parse.specs.declared.reader.Open.{Open}
 use Rattle.scad_parse.specs.Standing.{Standing, Turn, Reads, Opens, standing, passed, operator_at, left_out}
+use Rattle.scad_parse.specs.Standing.{stands_at}
 use Rattle.scad_parse.specs.Standing.{literal_here, literal_by, word_here, word_by, took}
 use Rattle.scad_parse.proofs.rules.Steps.{opened_or, opens, passes, follows, turn_refused, out, by_taken, taken}
 
@@ -92,23 +96,79 @@ choice_is room a e [] = refl
 choice_is room a e (t ∷ ts) = refl
 
 -- ---- operands
-pub operand_tightest : (room lines : ℕ) → lines ≡ 0 → (e : Place) (ts : List Token) →
-    operand_of e (below e room) lines ts ≡ unary_of e (below e room) ts
-unfolding operand_of
-operand_tightest room zero h e ts = refl
-operand_tightest room (suc line) h e ts = absurd (cc)
+one_after_another : {A B C : Type 0} (x : Read A) (f : A → List Token → Read B) (g : B → List Token → Read C) →
+    then_read (then_read x f) g ≡ then_read x (λ a ts. then_read (f a ts) g)
+one_after_another (Ok (a, ts)) f g = refl
+one_after_another (Err fault) f g = refl
+
+then_as_it_is : {A : Type 0} (x : Read A) → x ≡ then_read x (λ a ts. Ok (a, ts))
+then_as_it_is (Ok (a, ts)) = refl
+then_as_it_is (Err fault) = refl
+
+-- an operand of some lines is its first operand and their chain
+abbrev pub operand_by : ℕ → ℕ → Place → List Token → Read Expression
+operand_by room lines e ts = then_read (unary_of e (below e room) ts) (chain_of (below e room) lines)
+
+pub operand_is : (room lines : ℕ) (e : Place) (ts : List Token) →
+    operand_of e (below e room) lines ts ≡ operand_by room lines e ts
+unfolding operand_of chain_of
+operand_is room zero e ts = then_as_it_is (unary_of e (below e room) ts)
+operand_is room (suc line) e ts =
+    ap (λ x. then_read x (links_of (below e room) line)) (operand_is room line e ts)
+    ∙ one_after_another (unary_of e (below e room) ts) (chain_of (below e room) line) (links_of (below e room) line)
+
+-- and where no operator comes it is the first
+no_operator : (line : ℕ) (k : TokenKind) → is_operator_kind k ≡ false → operator_kind line k ≡ None
+no_operator line (SignKind s) h = by (operator_sign s) h
+  where
+    by : (op : Option BinOp) → is_some op ≡ false → on_line line op ≡ None
+    by None h = refl
+    by (Some op) h = absurd (cc)
+no_operator line (NumberKind n) h = refl
+no_operator line (StrKind chars) h = refl
+no_operator line (WordKind word) h = refl
+no_operator line (KeyKind key) h = refl
+
+no_link : (lower : Option Rules) (line : ℕ) (a : Expression) (ts : List Token) →
+    stands_at is_operator (Ok ts) ≡ false → links_of lower line a ts ≡ Ok (a, ts)
+unfolding links_of
+no_link lower line a [] h = refl
+no_link lower line a (t ∷ ts) h = ap (link_of lower line a t ts) (no_operator line t.kind h)
+
+no_chain : (lower : Option Rules) (lines : ℕ) (a : Expression) (ts : List Token) →
+    stands_at is_operator (Ok ts) ≡ false → chain_of lower lines a ts ≡ Ok (a, ts)
+unfolding chain_of
+no_chain lower zero a ts h = refl
+no_chain lower (suc line) a ts h =
+    ap (λ x. then_read x (links_of lower line)) (no_chain lower line a ts h) ∙ no_link lower line a ts h
+
+turn_alone : (lower : Option Rules) (lines : ℕ) (a : Expression) (s : Standing) → stands_at is_operator s ≡ false →
+    Turn (chain_of lower lines a) s s a
+turn_alone lower lines a (Ok ts) h = no_chain lower lines a ts h
+turn_alone lower lines a (Err fault) h = refl
+
+pub alone : (room lines : ℕ) (a : Expression) {r : Reader} → stands_at is_operator (standing r) ≡ false →
+    Reads (λ e ts. chain_of (below e room) lines a ts) r r a
+alone room lines a {r} h =
+    record { ends = refl; turn = turn_alone (below r.end room) lines a (standing r) h }
 
 pub one_less : (n : ℕ) → n ≢ 0 → n ≡ suc (n - 1)
 one_less zero h = absurd (h refl)
 one_less (suc n) h = omega arith
 
-abbrev pub operand_by : ℕ → ℕ → Place → List Token → Read Expression
-operand_by room line e ts = then_read (operand_of e (below e room) line ts) (links_of (below e room) line)
+pub chain_ends : (room lines : ℕ) (a : Expression) → lines ≡ 0 → (e : Place) (ts : List Token) →
+    chain_of (below e room) lines a ts ≡ Ok (a, ts)
+unfolding chain_of
+chain_ends room zero a h e ts = refl
+chain_ends room (suc line) a h e ts = absurd (cc)
 
-pub operand_looser : (room lines line : ℕ) → lines ≡ suc line → (e : Place) (ts : List Token) →
-    operand_of e (below e room) lines ts ≡ operand_by room line e ts
-unfolding operand_of
-operand_looser room lines line h e ts = ap (λ n. operand_of e (below e room) n ts) h
+abbrev pub chain_by : ℕ → ℕ → Expression → Place → List Token → Read Expression
+chain_by room line a e ts = then_read (chain_of (below e room) line a ts) (links_of (below e room) line)
+
+pub chain_looser : (room lines line : ℕ) (a : Expression) → lines ≡ suc line → (e : Place) (ts : List Token) →
+    chain_of (below e room) lines a ts ≡ chain_by room line a e ts
+unfolding chain_of
+chain_looser room lines line a h e ts = ap (λ n. chain_of (below e room) n a ts) h
 
 -- ---- links between operands
 abbrev pub link_by : ℕ → Expression → Option BinOp → Place → Rules → List Token → Read Expression
