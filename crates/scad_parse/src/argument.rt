@@ -43,7 +43,7 @@ pub(crate) fn arguments(reader: &mut Reader<'_>, room: u32) -> Args
     let mut args = Args::new(reader.alloc);
     'members: while reader.lacks_end_of_arguments() {
         let arg = argument(reader, room);
-        reader.push(&mut args, arg);
+        reader.push_lone(&mut args, arg);
         reader.behind_argument();
     }
     args.shrink_to_fit();

@@ -17,24 +17,12 @@ use scad_ast::{Expr, Item, Param, Params, Scope};
 use scad_fault::Text;
 use scad_lex::Sign;
 
-/// A scope of one item takes memory for that one alone, since most hold no more.
-fn with_room(reader: &mut Reader<'_>, scope: Scope) -> Scope
-    ensures { Reads (made scope.items) reader.old reader.new result.items }
-{
-    if !scope.is_empty() {
-        return scope;
-    }
-    let mut all = scope;
-    reader.reserve_one(&mut all);
-    all
-}
-
 /// The scope with one more item.
 pub(crate) fn pushed(reader: &mut Reader<'_>, scope: Scope, item: Item) -> Scope
     ensures { Reads (made (with_item (items scope.items) (item_of item))) reader.old reader.new (scope_seen result) }
 {
-    let mut all = with_room(reader, scope);
-    reader.push(&mut all, item);
+    let mut all = scope;
+    reader.push_lone(&mut all, item);
     all
 }
 
@@ -46,7 +34,8 @@ pub(crate) fn module(reader: &mut Reader<'_>, scope: Scope, open: Open) -> Scope
 {
     let head = heading(reader, open.room);
     let none = Scope::new(reader.alloc);
-    let body = statement(reader, true, none, open.room);
+    let mut body = statement(reader, true, none, open.room);
+    body.shrink_to_fit();
     pushed(
         reader,
         scope,
@@ -108,10 +97,11 @@ fn parameters(reader: &mut Reader<'_>, room: u32) -> Params
     let mut params = Params::new(reader.alloc);
     'members: while reader.lacks(Sign::CloseRound) {
         let param = named_parameter(reader, room);
-        reader.push(&mut params, param);
+        reader.push_lone(&mut params, param);
         reader.behind_member(Sign::CloseRound);
     }
     reader.pass();
+    params.shrink_to_fit();
     params
 }
 

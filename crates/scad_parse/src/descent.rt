@@ -68,7 +68,10 @@ pub fn parse(alloc: Global, tokens: &Tokens) -> Result<Program, ParseFault>
         scope = statement(&mut reader, true, scope, LIMIT);
     }
     match reader.fault {
-        None => Ok(Program { scope }),
+        None => {
+            scope.shrink_to_fit();
+            Ok(Program { scope })
+        }
         Some(fault) => Err(told(alloc, fault)),
     }
 }

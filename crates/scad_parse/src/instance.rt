@@ -189,7 +189,9 @@ fn child(reader: &mut Reader<'_>, room: u32) -> Scope
         return none;
     }
     if let Some(open) = reader.opens(Sign::OpenCurly, room) {
-        return group(reader, false, none, open.room);
+        let mut inside = group(reader, false, none, open.room);
+        inside.shrink_to_fit();
+        return inside;
     }
     first(reader, none, room)
 }

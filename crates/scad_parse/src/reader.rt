@@ -375,6 +375,16 @@ impl<'p> Reader<'p> {
         }
     }
 
+    /// One more member of a list that mostly has no other, so the first takes memory for itself alone.
+    pub(crate) fn push_lone<T: Drop>(&mut self, all: &mut Vec<T>, member: T)
+        ensures { Reads (made (all.old.items ++ (member ∷ []))) self.old self.new all.new.items }
+    {
+        if all.is_empty() {
+            self.reserve_one(all);
+        }
+        self.push(all, member);
+    }
+
     /// The tree in a box, where there is memory for it.
     pub(crate) fn boxed<T: Drop>(&mut self, tree: T) -> Option<Box<T>>
         ensures kept { Kept result self.old self.new }

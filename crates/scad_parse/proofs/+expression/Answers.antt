@@ -178,14 +178,14 @@ argument::argument-returns t c =
 
 pub argument::arguments-members-preserved : goal.argument::arguments-members-preserved
 argument::arguments-members-preserved t c =
-    arguments_go c.args.room c.members.args.items c.push.new.all.items c.argument-arg.result c.members.invariant
-    (sym c.lacks_end_of_arguments.ensures ∙ c.members-test.true) c.argument-arg.ensures c.push.ensures
+    arguments_go c.args.room c.members.args.items c.push_lone.new.all.items c.argument-arg.result c.members.invariant
+    (sym c.lacks_end_of_arguments.ensures ∙ c.members-test.true) c.argument-arg.ensures c.push_lone.ensures
     c.behind_argument.ensures
 
 pub argument::arguments-members-smaller : goal.argument::arguments-members-smaller
 argument::arguments-members-smaller t c =
-    arguments_fewer c.args.room c.members.args.items c.push.new.all.items c.argument-arg.result c.members.invariant
-    (sym c.lacks_end_of_arguments.ensures ∙ c.members-test.true) c.argument-arg.ensures c.push.ensures
+    arguments_fewer c.args.room c.members.args.items c.push_lone.new.all.items c.argument-arg.result c.members.invariant
+    (sym c.lacks_end_of_arguments.ensures ∙ c.members-test.true) c.argument-arg.ensures c.push_lone.ensures
     c.behind_argument.ensures
 
 pub argument::arguments-returns : goal.argument::arguments-returns

@@ -19,8 +19,7 @@ use Rattle.scad_parse.specs.ReadingStatements.{marks_here}
 use Rattle.scad_parse.specs.Standing.{left_out, took, took_at, word_here}
 use Rattle.scad_parse.proofs.loops.Groups.{group_next, group_fewer_come, group_ended}
 use Rattle.scad_parse.proofs.rules.Steps.{follows, same_rule, stay, made_as, made_same, taking, by_taken, by_place}
-use Rattle.scad_parse.proofs.rules.Steps.{goes_in}
-use Rattle.scad_parse.proofs.rules.Steps.{no_room}
+use Rattle.scad_parse.proofs.rules.Steps.{goes_in, no_room, given_as}
 use Rattle.scad_parse.proofs.rules.Statements.{no_statements, more_statements, opens_statement, passes_statement}
 use Rattle.scad_parse.proofs.rules.Statements.{by_marks}
 use Rattle.scad_parse.proofs.rules.Statements.{when_at, unless_at, is_word, statement_by, statement_is, not_semicolon}
@@ -430,7 +429,8 @@ instance::child-returns-in-Some t c =
     c.if-takes.false c.takes.ensures
     (opens_statement (is_sign OpenCurly) (λ e at r. r.group false (items c.new-none.result.items))
     (λ e. first_at e (below_statements e c.args.room) (items c.new-none.result.items))
-    c.in-Some.is c.opens.ensures.opens c.group.ensures))
+    c.in-Some.is c.opens.ensures.opens
+    (given_as (ap items c.shrink_to_fit.ensures.items) c.group-inside.ensures)))
 
 pub instance::child-returns : goal.instance::child-returns
 instance::child-returns t c =
@@ -461,6 +461,6 @@ definition::module-returns t c =
       with_item (items c.args.scope.items) (module_of c.args.open.at c.heading-head.result.name
           (parameters_seen c.heading-head.result.params) body),
       vs,
-    )) c.statement-body.ensures
+    )) (given_as (ap items c.shrink_to_fit.ensures.items) c.statement-body.ensures)
     (made_same (ap (with_item (items c.args.scope.items)) (module_view c.heading-head.result.name
-    c.heading-head.result.params c.statement-body.result c.args.open.at)) c.pushed.ensures)))
+    c.heading-head.result.params c.shrink_to_fit.new.self c.args.open.at)) c.pushed.ensures)))

@@ -66,7 +66,11 @@ pub taking : {A B : Type 0} (f : Place → List Token → Read A) (g : Place →
     Reads (λ e ts. then_read (f e ts) (g e)) q s b
 taking f g {q} {r} {s} {b = b} is x y = follows f g x (subst (λ a. Reads (λ e. g e a) r s b) (sym is) y)
 
--- ---- a rule in other words
+-- ---- what is given, and a rule, in other words
+pub given_as : {B : Type 0} {f : Place → List Token → Read B} {q r : Reader} {a b : B} → b ≡ a → Reads f q r a →
+    Reads f q r b
+given_as {f = f} {q} {r} same x = subst (λ b. Reads f q r b) (sym same) x
+
 turn_as : {B : Type 0} (f h : List Token → Read B) (s t : Standing) (b : B) →
     ((ts : List Token) → s ≡ Ok ts → h ts ≡ f ts) → Turn f s t b → Turn h s t b
 turn_as f h (Ok ts) t b same p = subst (λ x. Given x t b) (sym (same ts refl)) p

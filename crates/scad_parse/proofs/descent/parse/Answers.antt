@@ -1,5 +1,6 @@
-use Rattle.std.proofs.Common.{sym, ap, ◌∙◌, Err}
+use Rattle.std.proofs.Common.{sym, ap, subst, ◌∙◌, [], Ok, Err}
 use Rattle.scad_ast.specs.Scope.{items}
+use Rattle.scad_grammar.specs.Verdict.{Judged}
 use Rattle.scad_parse.proofs.loops.Program.{program_next, program_fewer, program_read, program_refused, judged_program}
 use Rattle.scad_parse.proofs.loops.Program.{judged_fault}
 use Rattle.scad_parse.proofs.descent.parse.Goals as goal
@@ -18,9 +19,11 @@ statements-smaller c =
 
 pub returns-in-None : goal.returns-in-None
 returns-in-None c =
-    judged_program (items c.statements.scope.items) c.args.tokens.now.list.items c.args.tokens.now.end (program_read
+    subst (λ all. Judged [] c.args.tokens.now.list.items c.args.tokens.now.end (Ok (items all)))
+    (sym c.shrink_to_fit.ensures.items)
+    (judged_program (items c.statements.scope.items) c.args.tokens.now.list.items c.args.tokens.now.end (program_read
     c.args.tokens.now.list.items c.args.tokens.now.end (items c.statements.scope.items) c.statements.reader
-    c.statements.invariant c.in-None.is (sym c.has_more.ensures ∙ c.statements-test.false))
+    c.statements.invariant c.in-None.is (sym c.has_more.ensures ∙ c.statements-test.false)))
 
 pub returns-in-Some : goal.returns-in-Some
 returns-in-Some c =
