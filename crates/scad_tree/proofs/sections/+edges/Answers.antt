@@ -96,3 +96,13 @@ push_members-returns-clause-balanced t c = c.loop-node.invariant.balanced
 pub push_members-returns-clause-next : goal.push_members-returns-clause-next
 push_members-returns-clause-next t c = numbered_end c.loop-node.leaf _ c.args.nodes.now c.loop-node.node-index
     c.loop-node-test.false c.loop-node.invariant.numbered
+
+pub push_node-returns-in_ok-after-in-Union-clause-balanced : goal.push_node-returns-in_ok-after-in-Union-clause-balanced
+push_node-returns-in_ok-after-in-Union-clause-balanced t c = c.in_ok-after-in-Union.ensures.balanced
+
+pub push_node-returns-in_ok-after-in-Inter-clause-balanced : goal.push_node-returns-in_ok-after-in-Inter-clause-balanced
+push_node-returns-in_ok-after-in-Inter-clause-balanced t c = c.in_ok-after-in-Inter.ensures.balanced
+
+pub push_node-returns-in_ok-after-in-Diff-clause-balanced : goal.push_node-returns-in_ok-after-in-Diff-clause-balanced
+push_node-returns-in_ok-after-in-Diff-clause-balanced t c = λ so_far.
+    c.in_ok-after-in-Diff.ensures.balanced (c.in_ok-leaf-in-Diff.ensures.balanced so_far)
