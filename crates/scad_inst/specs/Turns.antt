@@ -15,7 +15,7 @@ use Rattle.scad_members.specs.Stack.{Goes, goes_on, rest, made_in}
 
 -- after one turn, where a tree may be the last one
 abbrev pub Ends : Outcome Solid → Result Next EvalFault → Stack → Machine → Type 0
-Ends whole (Ok (More f)) stack m = whole ≡ goes_on f (rest stack) (held m) (made_in stack) (state_of m)
+Ends whole (Ok (More f)) stack m = whole ≡ goes_on f (rest stack) stack.stands (held m) (made_in stack) (state_of m)
 Ends whole (Ok (End t)) stack m = whole ≡ gives (solid_of t) (state_of m)
 Ends whole (Err e) stack m = e ≢ Memory → whole ≡ refuses e (state_of m)
 

@@ -10,7 +10,8 @@ ghost use Rattle.scad_value.specs.View.{data_of};
 ghost use Rattle.scad_expr.specs.Machine.{held, env_in, along_in, state_of};
 ghost use Rattle.scad_expr.specs.State.{Outcome};
 ghost use Rattle.scad_members.specs.Frames.{below_of};
-ghost use Rattle.scad_members.specs.Meaning.{built_in};
+ghost use Rattle.scad_leaves.specs.declared.operation.Operation.TheVariants.{Unite};
+ghost use Rattle.scad_members.specs.Meaning.{built_in, combined};
 ghost use Rattle.scad_members.specs.Stack.{Goes, onward};
 ghost use Rattle.scad_modules.specs.declared.module.Module.TheVariants.{Extrusion as IsExtrusion, Transform as IsTransform, Hull as IsHull, Echo as IsEcho, Assert as IsAssert};
 ghost use Rattle.scad_modules.specs.declared.module.Extrusion.TheVariants.{Linear as IsLinear, Rotate as IsRotate};
@@ -30,32 +31,45 @@ pub(crate) fn built_in<'p>(
     known: Module,
     call: Call<'p>,
     found: &[Value],
-    w: &Where,
     stack: &mut Stack<'p>,
     m: &mut Machine<'p>,
 ) -> Result<Focus<'p>, EvalFault>
     ensures { (o : Outcome Solid) → o ≡ onward (built_in (below_of (held m.old)) known call.entry.at
-        call.entry.name.now w.now (env_in (held m.old)) (along_in (held m.old)) (arguments
+        call.entry.name.now stack.old.stands (env_in (held m.old)) (along_in (held m.old)) (arguments
         call.entry.args.now.items) (data_of found.now) (items call.entry.all.now.items) (state_of
         m.old)) stack.old m.old → Goes o result stack.new m.new }
 {
     let alloc = stack.alloc;
     match known {
-        Module::Shape(shape) => at_work(primitive(alloc, shape, call, found, w, m)),
-        Module::Flat(flat) => at_work(flat_shape(alloc, flat, call, found, w, m)),
-        Module::Extrusion(Extrusion::Linear) => linear_extrude(call, found, w, stack, m),
-        Module::Extrusion(Extrusion::Rotate) => rotate_extrude(call, found, w, stack, m),
-        Module::Transform(transform) => transformed(transform, call, found, w, stack, m),
-        Module::Union => combined(Operation::Unite, call.at, call.all, w, stack, m),
-        Module::Difference => combined(Operation::Subtract, call.at, call.all, w, stack, m),
-        Module::Intersection => combined(Operation::Intersect, call.at, call.all, w, stack, m),
-        Module::Hull => hull(call, w, stack, m),
-        Module::Children => {
-            children(call.at, taken(Some(0), b"i", call.args, found), w, stack, m)
-        }
-        Module::Echo => echo(call, found, w, stack, m),
-        Module::Assert => assert(call, found, w, stack, m),
+        Module::Shape(shape) => at_work(primitive(alloc, shape, call, found, &stack.stands, m)),
+        Module::Flat(flat) => at_work(flat_shape(alloc, flat, call, found, &stack.stands, m)),
+        Module::Extrusion(Extrusion::Linear) => linear_extrude(call, found, stack, m),
+        Module::Extrusion(Extrusion::Rotate) => rotate_extrude(call, found, stack, m),
+        Module::Transform(transform) => transformed(transform, call, found, stack, m),
+        Module::Union => combined(Operation::Unite, call.at, call.all, stack, m),
+        Module::Difference => combined(Operation::Subtract, call.at, call.all, stack, m),
+        Module::Intersection => combined(Operation::Intersect, call.at, call.all, stack, m),
+        Module::Hull => hull(call, stack, m),
+        Module::Children => { children(call.at, taken(Some(0), b"i", call.args, found), stack, m) }
+        Module::Echo => echo(call, found, stack, m),
+        Module::Assert => assert(call, found, stack, m),
     }
+}
+
+/// The children of a call, united, where they stand at another place.
+#[tactic(auto, using(crate::proofs::Onward::nodes))]
+fn placed<'p>(
+    inner: Where,
+    call: Call<'p>,
+    stack: &mut Stack<'p>,
+    m: &mut Machine<'p>,
+) -> Result<Focus<'p>, EvalFault>
+    ensures { (o : Outcome Solid) → o ≡ onward (combined (below_of (held m.old)) Unite call.entry.at inner
+        (items call.entry.all.now.items) (env_in (held m.old)) (along_in (held m.old)) (state_of m.old)) stack.old m.old
+        → Goes o result stack.new m.new }
+{
+    stack.enter(inner)?;
+    combined(Operation::Unite, call.at, call.all, stack, m)
 }
 
 /// `linear_extrude`.
@@ -63,19 +77,18 @@ pub(crate) fn built_in<'p>(
 fn linear_extrude<'p>(
     call: Call<'p>,
     found: &[Value],
-    w: &Where,
     stack: &mut Stack<'p>,
     m: &mut Machine<'p>,
 ) -> Result<Focus<'p>, EvalFault>
     ensures { (o : Outcome Solid) → o ≡ onward (built_in (below_of (held m.old)) (IsExtrusion
-        IsLinear) call.entry.at call.entry.name.now w.now (env_in (held m.old)) (along_in (held
+        IsLinear) call.entry.at call.entry.name.now stack.old.stands (env_in (held m.old)) (along_in (held
         m.old)) (arguments call.entry.args.now.items) (data_of found.now) (items
         call.entry.all.now.items) (state_of m.old)) stack.old m.old → Goes o result stack.new m.new }
 {
-    judge_solid(stack.alloc, call.at, w.space)?;
+    judge_solid(stack.alloc, call.at, stack.stands.space)?;
     let height = argued(stack.alloc, call.at, call.name, linear_by(call.args, found))?;
-    let inner = inside_linear(&w.whole, height);
-    combined(Operation::Unite, call.at, call.all, &inner, stack, m)
+    let inner = inside_linear(&stack.stands.whole, height);
+    placed(inner, call, stack, m)
 }
 
 /// `rotate_extrude`.
@@ -83,23 +96,22 @@ fn linear_extrude<'p>(
 fn rotate_extrude<'p>(
     call: Call<'p>,
     found: &[Value],
-    w: &Where,
     stack: &mut Stack<'p>,
     m: &mut Machine<'p>,
 ) -> Result<Focus<'p>, EvalFault>
     ensures { (o : Outcome Solid) → o ≡ onward (built_in (below_of (held m.old)) (IsExtrusion
-        IsRotate) call.entry.at call.entry.name.now w.now (env_in (held m.old)) (along_in (held
+        IsRotate) call.entry.at call.entry.name.now stack.old.stands (env_in (held m.old)) (along_in (held
         m.old)) (arguments call.entry.args.now.items) (data_of found.now) (items
         call.entry.all.now.items) (state_of m.old)) stack.old m.old → Goes o result stack.new m.new }
 {
     let alloc = stack.alloc;
-    judge_solid(alloc, call.at, w.space)?;
+    judge_solid(alloc, call.at, stack.stands.space)?;
     let resolution = called_resolution(alloc, call, found, m)?;
     let inner = Where {
-        whole: w.whole,
+        whole: stack.stands.whole,
         space: Space::Turned(turned_at(call.at, resolution)),
     };
-    combined(Operation::Unite, call.at, call.all, &inner, stack, m)
+    placed(inner, call, stack, m)
 }
 
 /// `translate`, `scale`, `rotate`, `mirror` and `multmatrix`.
@@ -108,37 +120,35 @@ fn transformed<'p>(
     transform: Transform,
     call: Call<'p>,
     found: &[Value],
-    w: &Where,
     stack: &mut Stack<'p>,
     m: &mut Machine<'p>,
 ) -> Result<Focus<'p>, EvalFault>
     ensures { (o : Outcome Solid) → o ≡ onward (built_in (below_of (held m.old)) (IsTransform
-        transform) call.entry.at call.entry.name.now w.now (env_in (held m.old)) (along_in (held
+        transform) call.entry.at call.entry.name.now stack.old.stands (env_in (held m.old)) (along_in (held
         m.old)) (arguments call.entry.args.now.items) (data_of found.now) (items
         call.entry.all.now.items) (state_of m.old)) stack.old m.old → Goes o result stack.new m.new }
 {
     let read = matrix_of(transform, call.args, found);
     let by = argued(stack.alloc, call.at, call.name, read)?;
-    let inner = moved_by(stack.alloc, call.at, w, &by)?;
-    combined(Operation::Unite, call.at, call.all, &inner, stack, m)
+    let inner = moved_by(stack.alloc, call.at, &stack.stands, &by)?;
+    placed(inner, call, stack, m)
 }
 
 /// `hull`: its children are united, and then it is made of their tree.
 #[tactic(auto, using(crate::proofs::Onward::nodes), unfolding(scad_members::specs::Meaning::built_in))]
 fn hull<'p>(
     call: Call<'p>,
-    w: &Where,
     stack: &mut Stack<'p>,
     m: &mut Machine<'p>,
 ) -> Result<Focus<'p>, EvalFault>
     ensures { (args : Arguments) (found : List Datum) (o : Outcome Solid) → o ≡ onward (built_in (below_of
-        (held m.old)) IsHull call.entry.at call.entry.name.now w.now (env_in (held m.old)) (along_in
+        (held m.old)) IsHull call.entry.at call.entry.name.now stack.old.stands (env_in (held m.old)) (along_in
         (held m.old)) args found (items call.entry.all.now.items) (state_of m.old)) stack.old m.old → Goes o result
         stack.new m.new }
 {
     let from = profile_count(m);
-    stack.push(Frame::Hull(call, *w, from))?;
-    combined(Operation::Unite, call.at, call.all, w, stack, m)
+    stack.push(Frame::Hull(call, from))?;
+    combined(Operation::Unite, call.at, call.all, stack, m)
 }
 
 /// `echo`.
@@ -146,17 +156,16 @@ fn hull<'p>(
 fn echo<'p>(
     call: Call<'p>,
     found: &[Value],
-    w: &Where,
     stack: &mut Stack<'p>,
     m: &mut Machine<'p>,
 ) -> Result<Focus<'p>, EvalFault>
     ensures { (o : Outcome Solid) → o ≡ onward (built_in (below_of (held m.old)) IsEcho
-        call.entry.at call.entry.name.now w.now (env_in (held m.old)) (along_in (held m.old))
+        call.entry.at call.entry.name.now stack.old.stands (env_in (held m.old)) (along_in (held m.old))
         (arguments call.entry.args.now.items) (data_of found.now) (items call.entry.all.now.items)
         (state_of m.old)) stack.old m.old → Goes o result stack.new m.new }
 {
     m.echo(stack.alloc, call.at, call.args, found)?;
-    combined(Operation::Unite, call.at, call.all, w, stack, m)
+    combined(Operation::Unite, call.at, call.all, stack, m)
 }
 
 /// `assert`.
@@ -164,15 +173,14 @@ fn echo<'p>(
 fn assert<'p>(
     call: Call<'p>,
     found: &[Value],
-    w: &Where,
     stack: &mut Stack<'p>,
     m: &mut Machine<'p>,
 ) -> Result<Focus<'p>, EvalFault>
     ensures { (o : Outcome Solid) → o ≡ onward (built_in (below_of (held m.old)) IsAssert
-        call.entry.at call.entry.name.now w.now (env_in (held m.old)) (along_in (held m.old))
+        call.entry.at call.entry.name.now stack.old.stands (env_in (held m.old)) (along_in (held m.old))
         (arguments call.entry.args.now.items) (data_of found.now) (items call.entry.all.now.items)
         (state_of m.old)) stack.old m.old → Goes o result stack.new m.new }
 {
     asserted(stack.alloc, call.at, call.args, found)?;
-    combined(Operation::Unite, call.at, call.all, w, stack, m)
+    combined(Operation::Unite, call.at, call.all, stack, m)
 }

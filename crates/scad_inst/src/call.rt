@@ -22,7 +22,7 @@ use crate::lookup::module_named;
 use crate::modules::DefinedAt;
 use scad_expr::{EvalFault, Machine, values};
 use scad_fault::FaultKind;
-use scad_leaves::{Call, Operation, Where};
+use scad_leaves::{Call, Operation};
 use scad_machine::named_fault;
 use scad_members::{Focus, Frame, Stack, combined, let_in, looped};
 use scad_modules::{Module, Name, meaning_of};
@@ -31,19 +31,18 @@ use scad_modules::{Module, Name, meaning_of};
 #[tactic(auto, using(crate::proofs::Calls::meanings, crate::proofs::Onward::nodes), unfolding(scad_members::specs::Meaning::node))]
 pub(crate) fn call<'p>(
     call: Call<'p>,
-    w: &Where,
     stack: &mut Stack<'p>,
     m: &mut Machine<'p>,
 ) -> Result<Focus<'p>, EvalFault>
     ensures { (percent hash : Bool) (o : Outcome Solid) → o ≡ onward (node (below_of (held m.old))
-        w.now (env_in (held m.old)) (along_in (held m.old)) (call_of call.entry.at percent hash
+        stack.old.stands (env_in (held m.old)) (along_in (held m.old)) (call_of call.entry.at percent hash
         call.entry.name.now (arguments call.entry.args.now.items) (items call.entry.all.now.items))
         (state_of m.old)) stack.old m.old → Goes o result stack.new m.new }
 {
     match meaning_of(call.name) {
-        Name::For => looped(Operation::Unite, call, w, stack, m),
-        Name::Let => let_in(call, w, stack, m),
-        meaning => called(meaning, call, w, stack, m),
+        Name::For => looped(Operation::Unite, call, stack, m),
+        Name::Let => let_in(call, stack, m),
+        meaning => called(meaning, call, stack, m),
     }
 }
 
@@ -52,20 +51,19 @@ pub(crate) fn call<'p>(
 fn called<'p>(
     meaning: Name,
     call: Call<'p>,
-    w: &Where,
     stack: &mut Stack<'p>,
     m: &mut Machine<'p>,
 ) -> Result<Focus<'p>, EvalFault>
     requires for_ { meaning ≢ For }
     requires let_ { meaning ≢ Let }
     ensures { (o : Outcome Solid) → o ≡ onward (called (below_of (held m.old)) meaning (module_named
-        call.entry.name.now (env_in (held m.old))) call.entry.at call.entry.name.now w.now (env_in
+        call.entry.name.now (env_in (held m.old))) call.entry.at call.entry.name.now stack.old.stands (env_in
         (held m.old)) (along_in (held m.old)) (arguments call.entry.args.now.items) (items
         call.entry.all.now.items) (state_of m.old)) stack.old m.old → Goes o result stack.new m.new }
 {
     match module_named(m, call.name)? {
-        Some(own) => called_own(own, call, w, stack, m),
-        None => called_by(meaning, call, w, stack, m),
+        Some(own) => called_own(own, call, stack, m),
+        None => called_by(meaning, call, stack, m),
     }
 }
 
@@ -74,20 +72,19 @@ fn called<'p>(
 fn called_own<'p>(
     own: DefinedAt<'p>,
     call: Call<'p>,
-    w: &Where,
     stack: &mut Stack<'p>,
     m: &mut Machine<'p>,
 ) -> Result<Focus<'p>, EvalFault>
     requires { own.home < length (held m.old).frames }
     ensures { (o : Outcome Solid) → o ≡ onward (called_with (below_of (held m.old)) call.entry.at
-        w.now (env_in (held m.old)) (along_in (held m.old)) (found_at (envs (held m.old).frames)
+        stack.old.stands (env_in (held m.old)) (along_in (held m.old)) (found_at (envs (held m.old).frames)
         own.entry) (arguments call.entry.args.now.items) (items call.entry.all.now.items) (state_of
         m.old)) stack.old m.old → Goes o result stack.new m.new }
 {
     let found = values(stack.alloc, call.args, m)?;
     let back = open_own(stack.alloc, own, call.args, found, call.all, m)?;
     stack.push(Frame::Leave(back))?;
-    combined(Operation::Unite, call.at, own.module.body, w, stack, m)
+    combined(Operation::Unite, call.at, own.module.body, stack, m)
 }
 
 /// A call of a name that the program doesn't define.
@@ -95,20 +92,19 @@ fn called_own<'p>(
 fn called_by<'p>(
     meaning: Name,
     call: Call<'p>,
-    w: &Where,
     stack: &mut Stack<'p>,
     m: &mut Machine<'p>,
 ) -> Result<Focus<'p>, EvalFault>
     ensures { (o : Outcome Solid) → o ≡ onward (called (below_of (held m.old)) meaning None
-        call.entry.at call.entry.name.now w.now (env_in (held m.old)) (along_in (held m.old))
+        call.entry.at call.entry.name.now stack.old.stands (env_in (held m.old)) (along_in (held m.old))
         (arguments call.entry.args.now.items) (items call.entry.all.now.items) (state_of m.old))
         stack.old m.old → Goes o result stack.new m.new }
 {
     match meaning {
-        Name::For => looped(Operation::Unite, call, w, stack, m),
-        Name::Let => let_in(call, w, stack, m),
-        Name::IntersectionFor => looped(Operation::Intersect, call, w, stack, m),
-        Name::Known(module) => called_known(module, call, w, stack, m),
+        Name::For => looped(Operation::Unite, call, stack, m),
+        Name::Let => let_in(call, stack, m),
+        Name::IntersectionFor => looped(Operation::Intersect, call, stack, m),
+        Name::Known(module) => called_known(module, call, stack, m),
         Name::LeftOut => refused(FaultKind::LeftOut, call, stack, m),
         Name::Unknown => refused(FaultKind::UnknownModule, call, stack, m),
     }
@@ -135,17 +131,16 @@ fn refused<'p>(
 fn called_known<'p>(
     known: Module,
     call: Call<'p>,
-    w: &Where,
     stack: &mut Stack<'p>,
     m: &mut Machine<'p>,
 ) -> Result<Focus<'p>, EvalFault>
     ensures { (o : Outcome Solid) → o ≡ onward (known_with (below_of (held m.old)) known
-        call.entry.at call.entry.name.now w.now (env_in (held m.old)) (along_in (held m.old))
+        call.entry.at call.entry.name.now stack.old.stands (env_in (held m.old)) (along_in (held m.old))
         (arguments call.entry.args.now.items) (items call.entry.all.now.items) (state_of m.old))
         stack.old m.old → Goes o result stack.new m.new }
 {
     let found = values(stack.alloc, call.args, m)?;
     let back = open_known(stack.alloc, call.args, &found, m)?;
     stack.push(Frame::Leave(back))?;
-    built_in(known, call, &found, w, stack, m)
+    built_in(known, call, &found, stack, m)
 }

@@ -23,7 +23,6 @@ use crate::run::run;
 use scad_ast::{Program, Scope};
 use scad_expr::{DEPTH_LIMIT, EvalFault, Machine, STEP_LIMIT};
 use scad_fault::Text;
-use scad_leaves::at_first;
 use scad_members::{Focus, Stack, here, open_scope};
 use scad_num::Num;
 use scad_scope::Frames;
@@ -126,7 +125,7 @@ fn tree_of<'p>(alloc: Global, scope: &'p Scope, m: &mut Machine<'p>) -> Result<T
     let home = here(m);
     open_scope(alloc, home, scope, m)?;
     let mut stack = Stack::new(alloc);
-    run(Focus::Members(scope, 0, at_first()), &mut stack, m)
+    run(Focus::Members(scope, 0), &mut stack, m)
 }
 
 /// What a machine gives that made a tree or not.

@@ -47,7 +47,7 @@ fn given<'p>(
     stack: &mut Stack<'p>,
     m: &mut Machine<'p>,
 ) -> Result<Focus<'p>, EvalFault>
-    ensures { Goes (onto frame.entry (rest stack.old) (held m.old) (made_in stack.old) (solid_of tree)
+    ensures { Goes (onto frame.entry (rest stack.old) stack.old.stands (held m.old) (made_in stack.old) (solid_of tree)
         (state_of m.old)) result stack.new m.new }
 {
     match frame {
@@ -61,7 +61,13 @@ fn given<'p>(
         }
         Frame::Then(behind) => Ok(behind),
         Frame::Combine(operation, at, outer) => made_of(operation, at, outer, stack, m),
-        Frame::Hull(call, w, from) => { at_work(hull_made(stack.alloc, call, &w, from, &tree, m)) }
+        Frame::Hull(call, from) => {
+            at_work(hull_made(stack.alloc, call, &stack.stands, from, &tree, m))
+        }
+        Frame::Stand(outer) => {
+            stack.go_to(*outer);
+            Ok(Focus::Given(tree))
+        }
         Frame::Leave(back) => {
             m.leave(back);
             Ok(Focus::Given(tree))
@@ -78,6 +84,7 @@ fn program_tree<'p>(stack: &mut Stack<'p>) -> Result<Tree, AllocError>
 }
 
 /// There is more where something is at work.
+#[inline(always)]
 fn more<'p>(focus: Result<Focus<'p>, EvalFault>) -> Result<Next<'p>, EvalFault>
     ensures { IsMore focus.entry result }
 {
@@ -88,21 +95,22 @@ fn more<'p>(focus: Result<Focus<'p>, EvalFault>) -> Result<Next<'p>, EvalFault>
 }
 
 /// One turn.
+#[inline(always)]
 #[tactic(auto, unfolding(scad_members::specs::Stack::goes_on))]
 fn turn<'p>(
     focus: Focus<'p>,
     stack: &mut Stack<'p>,
     m: &mut Machine<'p>,
 ) -> Result<Next<'p>, EvalFault>
-    ensures { Ends (goes_on focus.entry (rest stack.old) (held m.old) (made_in stack.old) (state_of m.old)) result
-        stack.new m.new }
+    ensures { Ends (goes_on focus.entry (rest stack.old) stack.old.stands (held m.old) (made_in stack.old)
+        (state_of m.old)) result stack.new m.new }
 {
     match focus {
-        Focus::Statement(item, w) => more(statement(item, &w, stack, m)),
-        Focus::Members(scope, next, w) => more(members(scope, next, &w, stack)),
-        Focus::Children(scope, values, w) => more(children_by(scope, values, &w, stack)),
-        Focus::Variables(call, next, w) => more(variables(call, next, &w, stack, m)),
-        Focus::Turns(variable, values, w) => more(turns(variable, values, &w, stack, m)),
+        Focus::Statement(item) => more(statement(item, stack, m)),
+        Focus::Members(scope, next) => more(members(scope, next, stack)),
+        Focus::Children(scope, values) => more(children_by(scope, values, stack)),
+        Focus::Variables(call, next) => more(variables(call, next, stack, m)),
+        Focus::Turns(variable, values) => more(turns(variable, values, stack, m)),
         Focus::Given(tree) => match stack.pop() {
             Some(frame) => more(given(frame, tree, stack, m)),
             None => Ok(Next::End(program_tree(stack)?)),
@@ -117,8 +125,8 @@ pub(crate) fn run<'p>(
     stack: &mut Stack<'p>,
     m: &mut Machine<'p>,
 ) -> Result<Tree, EvalFault>
-    ensures { Does solid_of (goes_on first.entry (rest stack.old) (held m.old) (made_in stack.old) (state_of m.old))
-        result (state_of m.new) }
+    ensures { Does solid_of (goes_on first.entry (rest stack.old) stack.old.stands (held m.old) (made_in stack.old)
+        (state_of m.old)) result (state_of m.new) }
 {
     let mut focus = first;
     'turns: for _turn in 0..u64::MAX {

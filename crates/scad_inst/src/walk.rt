@@ -16,7 +16,7 @@ use crate::call::call;
 use scad_ast::{Expr, Item, Scope, Stmt, StmtBody};
 use scad_expr::{EvalFault, Machine, eval};
 use scad_fault::{BudgetKind, Place};
-use scad_leaves::{Call, Operation, Where, profile_count};
+use scad_leaves::{Call, Operation, profile_count};
 use scad_machine::over;
 use scad_members::{Focus, Frame, Stack, combined, depth, go_deeper, is_marked, item_place};
 use scad_tree::Tree;
@@ -27,11 +27,10 @@ use scad_value::truth;
 #[tactic(auto, using(scad_members::proofs::Levels::levels), unfolding(scad_machine::specs::State::over))]
 pub(crate) fn statement<'p>(
     item: &'p Item,
-    w: &Where,
     stack: &mut Stack<'p>,
     m: &mut Machine<'p>,
 ) -> Result<Focus<'p>, EvalFault>
-    ensures { Goes (onward ((below_of (held m.old)).statement w.now (env_in (held m.old)) (along_in
+    ensures { Goes (onward ((below_of (held m.old)).statement stack.old.stands (env_in (held m.old)) (along_in
         (held m.old)) (item_of item.now) (state_of m.old)) stack.old m.old) result stack.new m.new }
 {
     let at = item_place(item);
@@ -43,7 +42,7 @@ pub(crate) fn statement<'p>(
     m.step(at)?;
     let from = profile_count(m);
     stack.push(Frame::Mark(is_marked(item), depth, from))?;
-    node(item, w, stack, m)
+    node(item, stack, m)
 }
 
 /// The tree, unless its statement is marked `%`.
@@ -57,16 +56,15 @@ pub(crate) fn unless_marked(marked: bool, tree: Tree) -> Tree
 #[tactic(auto, using(scad_members::proofs::Items::kinds), unfolding(scad_members::specs::Meaning::node, scad_members::specs::Stack::goes_on))]
 fn node<'p>(
     item: &'p Item,
-    w: &Where,
     stack: &mut Stack<'p>,
     m: &mut Machine<'p>,
 ) -> Result<Focus<'p>, EvalFault>
-    ensures { (o : Outcome Solid) → o ≡ onward (node (below_of (held m.old)) w.now (env_in (held
+    ensures { (o : Outcome Solid) → o ≡ onward (node (below_of (held m.old)) stack.old.stands (env_in (held
         m.old)) (along_in (held m.old)) (item_of item.now) (state_of m.old)) stack.old m.old → Goes
         o result stack.new m.new }
 {
     match item {
-        Item::Run(stmt) => run(stmt, w, stack, m),
+        Item::Run(stmt) => run(stmt, stack, m),
         Item::Assign(_, _, _) => Ok(Focus::Given(Tree::empty())),
         Item::Module(_, _, _, _) => Ok(Focus::Given(Tree::empty())),
         Item::Function(_, _, _, _) => Ok(Focus::Given(Tree::empty())),
@@ -76,11 +74,10 @@ fn node<'p>(
 /// One arm for each kind of statement.
 fn run<'p>(
     stmt: &'p Stmt,
-    w: &Where,
     stack: &mut Stack<'p>,
     m: &mut Machine<'p>,
 ) -> Result<Focus<'p>, EvalFault>
-    ensures { (o : Outcome Solid) → o ≡ onward (node (below_of (held m.old)) w.now (env_in (held
+    ensures { (o : Outcome Solid) → o ≡ onward (node (below_of (held m.old)) stack.old.stands (env_in (held
         m.old)) (along_in (held m.old)) (body_of stmt.now.at stmt.now.percent stmt.now.hash
         stmt.now.body) (state_of m.old)) stack.old m.old → Goes o result stack.new m.new }
 {
@@ -95,7 +92,6 @@ fn run<'p>(
                     args,
                     all,
                 },
-                w,
                 stack,
                 m,
             )
@@ -109,7 +105,6 @@ fn run<'p>(
                     held,
                     other,
                 },
-                w,
                 stack,
                 m,
             )
@@ -130,20 +125,19 @@ struct Choice<'p> {
 #[tactic(auto, using(scad_members::proofs::Levels::expressions, crate::proofs::Onward::nodes), unfolding(scad_members::specs::Meaning::node))]
 fn choose<'p>(
     branch: Choice<'p>,
-    w: &Where,
     stack: &mut Stack<'p>,
     m: &mut Machine<'p>,
 ) -> Result<Focus<'p>, EvalFault>
     ensures { (percent hash : Bool) (o : Outcome Solid) → o ≡ onward (node (below_of (held m.old))
-        w.now (env_in (held m.old)) (along_in (held m.old)) (choice branch.entry.at percent hash
+        stack.old.stands (env_in (held m.old)) (along_in (held m.old)) (choice branch.entry.at percent hash
         (expression_of branch.entry.test.now) (items branch.entry.held.now.items) (items
         branch.entry.other.now.items)) (state_of m.old)) stack.old m.old → Goes o result stack.new
         m.new }
 {
     let d = eval(stack.alloc, branch.test, m)?;
     if truth(&d) {
-        combined(Operation::Unite, branch.at, branch.held, w, stack, m)
+        combined(Operation::Unite, branch.at, branch.held, stack, m)
     } else {
-        combined(Operation::Unite, branch.at, branch.other, w, stack, m)
+        combined(Operation::Unite, branch.at, branch.other, stack, m)
     }
 }

@@ -68,30 +68,34 @@ starts-goes whole begun (Err e) stack m is starts memory = λ some. absurd (some
 -- ---- the items of a scope
 module _ (h : Held) (w : Where) (i : Item) (f : Focus) (k : Rest) (ss : List Solid) (s : State) where
   -- a statement is run, and then what comes behind it
-  pub item-runs : (marked : Bool) (k2 : Rest) (ms : List Solid) → is_statement (item_of i) ≡ true
-      → marked ≡ is_marked (item_of i) → k2 ≡ onto (Member marked) (onto (Then f) k) → ms ≡ ss
-      → and_then (member (below_of h) w (env_in h) (along_in h) (item_of i) ss s) (goes_on f k h)
-      ≡ and_then ((below_of h).statement w (env_in h) (along_in h) (item_of i) s) (k2 h ms)
+  pub item-runs : (marked : Bool) (k2 : Rest) (ms : List Solid) (w2 : Where) → is_statement (item_of i) ≡ true
+      → marked ≡ is_marked (item_of i) → k2 ≡ onto (Member marked) (onto (Then f) k) → ms ≡ ss → w2 ≡ w
+      → and_then (member (below_of h) w (env_in h) (along_in h) (item_of i) ss s) (goes_on f k w h)
+      ≡ and_then ((below_of h).statement w2 (env_in h) (along_in h) (item_of i) s) (k2 w2 h ms)
   unfolding member onto
-  item-runs marked k2 ms is mark then_is made =
+  item-runs marked k2 ms w2 is mark then_is made stands =
       let run : Outcome Solid = (below_of h).statement w (env_in h) (along_in h) (item_of i) s in
       let one : Bool → State → Outcome (List Solid) = λ b. (if b then
       (λ (u : State). and_then ((below_of h).statement w (env_in h) (along_in h) (item_of i) u)
       (λ t. pure (if is_marked (item_of i) then ss else ss ++ t ∷ []))) else pure ss) in
-      ap (λ (b : Bool). and_then (one b s) (goes_on f k h)) is
-      ∙ twice run (λ t. pure (with_member (is_marked (item_of i)) ss t)) (goes_on f k h)
-      ∙ ap₂ (λ (b : Bool) (l : List Solid). and_then run (onto (Member b) (onto (Then f) k) h l)) (sym mark) (sym made)
-      ∙ ap (λ (q : Rest). and_then run (q h ms)) (sym then_is)
+      ap (λ (b : Bool). and_then (one b s) (goes_on f k w h)) is
+      ∙ twice run (λ t. pure (with_member (is_marked (item_of i)) ss t)) (goes_on f k w h)
+      ∙ ap₂ (λ (b : Bool) (l : List Solid). and_then run (onto (Member b) (onto (Then f) k) w h l)) (sym mark)
+      (sym made)
+      ∙ ap (λ (q : Rest). and_then run (q w h ms)) (sym then_is)
+      ∙ ap (λ (x : Where). and_then ((below_of h).statement x (env_in h) (along_in h) (item_of i) s) (k2 x h ms))
+      (sym stands)
 
   -- anything else is passed over
   pub item-passes : is_statement (item_of i) ≡ false
-      → and_then (member (below_of h) w (env_in h) (along_in h) (item_of i) ss s) (goes_on f k h) ≡ goes_on f k h ss s
+      → and_then (member (below_of h) w (env_in h) (along_in h) (item_of i) ss s) (goes_on f k w h)
+      ≡ goes_on f k w h ss s
   unfolding member
   item-passes is =
       let one : Bool → State → Outcome (List Solid) = λ b. (if b then
       (λ (u : State). and_then ((below_of h).statement w (env_in h) (along_in h) (item_of i) u)
       (λ t. pure (if is_marked (item_of i) then ss else ss ++ t ∷ []))) else pure ss) in
-      ap (λ (b : Bool). and_then (one b s) (goes_on f k h)) is
+      ap (λ (b : Bool). and_then (one b s) (goes_on f k w h)) is
 
 -- what isn't a statement gives nothing, whatever is meant by a statement
 pub item-skipped : (below : Below) (w : Where) (env along : Env) (ss : List Solid) (s : State) (all : List Item)
@@ -110,43 +114,44 @@ item-skipped below w env along ss s all n i there found is =
 module _ (h : Held) (w : Where) (scope : Bor (Vec Item Global)) (n : ℕ) (k : Rest) (ss : List Solid) (s : State) where
   pub members-next : (i : Item) → n < length scope.now.items → i ≡ get_or scope.now.items n i
       → and_then (members_from (below_of h) w (env_in h) (along_in h) (items (drop n scope.now.items)) ss s)
-      (listed k h)
+      (listed k w h)
       ≡ and_then (member (below_of h) w (env_in h) (along_in h) (item_of i) ss s)
-      (goes_on (Members scope (n + 1) w) k h)
+      (goes_on (Members scope (n + 1)) k w h)
   unfolding members_from goes_on
   members-next i there is =
-      ap (λ (l : Items). and_then (members_from (below_of h) w (env_in h) (along_in h) l ss s) (listed k h))
+      ap (λ (l : Items). and_then (members_from (below_of h) w (env_in h) (along_in h) l ss s) (listed k w h))
       (items-drop scope.now.items n i there is)
       ∙ twice (member (below_of h) w (env_in h) (along_in h) (item_of i) ss s)
-      (members_from (below_of h) w (env_in h) (along_in h) (items (drop (n + 1) scope.now.items))) (listed k h)
+      (members_from (below_of h) w (env_in h) (along_in h) (items (drop (n + 1) scope.now.items))) (listed k w h)
 
   pub members-end : length scope.now.items ≤ n
       → and_then (members_from (below_of h) w (env_in h) (along_in h) (items (drop n scope.now.items)) ss s)
-      (listed k h) ≡ listed k h ss s
+      (listed k w h) ≡ listed k w h ss s
   unfolding members_from
   members-end past =
       ap (λ (l : List Item). and_then (members_from (below_of h) w (env_in h) (along_in h) (items l) ss s)
-      (listed k h)) (drop_all {X = Item} n scope.now.items past)
+      (listed k w h)) (drop_all {X = Item} n scope.now.items past)
 
 -- ---- children that values name
 module _ (h : Held) (w : Where) (scope : Items) (ds : List Datum) (k : Rest) (ss : List Solid) (s : State) where
   pub children-next : (d : Datum) (o : Option TreeItem) (others : List Datum) → ds ≡ d ∷ others
       → o ≡ child_named scope d
-      → and_then (children_by (below_of h) w (env_in h) (along_in h) scope ds ss s) (listed k h)
+      → and_then (children_by (below_of h) w (env_in h) (along_in h) scope ds ss s) (listed k w h)
       ≡ and_then (and_then (child (below_of h) w (env_in h) (along_in h) o ss s)
-      (children_by (below_of h) w (env_in h) (along_in h) scope others)) (listed k h)
+      (children_by (below_of h) w (env_in h) (along_in h) scope others)) (listed k w h)
   unfolding children_by
   children-next d o others are named =
-      ap (λ (l : List Datum). and_then (children_by (below_of h) w (env_in h) (along_in h) scope l ss s) (listed k h))
+      ap (λ (l : List Datum). and_then (children_by (below_of h) w (env_in h) (along_in h) scope l ss s) (listed k w h))
       are
       ∙ ap (λ (x : Option TreeItem). and_then (and_then (child (below_of h) w (env_in h) (along_in h) x ss s)
-      (children_by (below_of h) w (env_in h) (along_in h) scope others)) (listed k h)) (sym named)
+      (children_by (below_of h) w (env_in h) (along_in h) scope others)) (listed k w h)) (sym named)
 
-  pub children-end : ds ≡ [] → and_then (children_by (below_of h) w (env_in h) (along_in h) scope ds ss s) (listed k h)
-      ≡ listed k h ss s
+  pub children-end : ds ≡ []
+      → and_then (children_by (below_of h) w (env_in h) (along_in h) scope ds ss s) (listed k w h)
+      ≡ listed k w h ss s
   unfolding children_by
   children-end are =
-      ap (λ (l : List Datum). and_then (children_by (below_of h) w (env_in h) (along_in h) scope l ss s) (listed k h))
+      ap (λ (l : List Datum). and_then (children_by (below_of h) w (env_in h) (along_in h) scope l ss s) (listed k w h))
       are
 
 -- equal values name the same children
@@ -160,108 +165,113 @@ pub ruleset alike = (same-alike)
 -- those that are chosen
 module _ (h : Held) (w : Where) (scope : Bor (Vec Item Global)) (k : Rest) (ss : List Solid) (s : State) (none : ss ≡ []) where
   pub chosen-by : (d : Datum) (more : Remainder) → NameAlike (items scope.now.items) (left_in more) (run_over d)
-      → and_then (chosen (below_of h) w (env_in h) (along_in h) (items scope.now.items) (Some d) s) (listed k h)
-      ≡ goes_on (Children scope more w) k h ss s
+      → and_then (chosen (below_of h) w (env_in h) (along_in h) (items scope.now.items) (Some d) s) (listed k w h)
+      ≡ goes_on (Children scope more) k w h ss s
   unfolding chosen goes_on
   chosen-by d more same =
-      ap (λ (o : Outcome (List Solid)). and_then o (listed k h))
+      ap (λ (o : Outcome (List Solid)). and_then o (listed k w h))
       (sym (same.alike (below_of h) w (env_in h) (along_in h) [] s))
       ∙ ap (λ (l : List Solid). and_then (children_by (below_of h) w (env_in h) (along_in h) (items scope.now.items)
-      (left_in more) l s) (listed k h)) (sym none)
+      (left_in more) l s) (listed k w h)) (sym none)
 
-  pub chosen-all : and_then (chosen (below_of h) w (env_in h) (along_in h) (items scope.now.items) None s) (listed k h)
-      ≡ goes_on (Members scope 0 w) k h ss s
+  pub chosen-all :
+      and_then (chosen (below_of h) w (env_in h) (along_in h) (items scope.now.items) None s) (listed k w h)
+      ≡ goes_on (Members scope 0) k w h ss s
   unfolding chosen goes_on
   chosen-all =
       ap (λ (l : List Solid). and_then (members_from (below_of h) w (env_in h) (along_in h) (items scope.now.items) l s)
-      (listed k h)) (sym none)
+      (listed k w h)) (sym none)
 
 pub ruleset chosen_children = (chosen-by, chosen-all)
 
 -- ---- scopes
 pub scope-begins : (o : Operation) (at : Place) (w : Where) (scope : Bor (Vec Item Global)) (outer : Vec Node Global)
-    (back : ℕ) (h h2 : Held) (k k2 : Rest) (ss ms : List Solid) (s s2 : State)
+    (back : ℕ) (w2 : Where) (h h2 : Held) (k k2 : Rest) (ss ms : List Solid) (s s2 : State)
     → opened_scope (below_of h) (items scope.now.items) (env_in h) (along_in h) s ≡ gives (opened_in h2) s2
     → left back h2 ≡ h → solids outer.items ≡ ss → k2 ≡ onto (Leave back) (onto (Combine o at outer) k) → ms ≡ []
-    → and_then (combined (below_of h) o at w (items scope.now.items) (env_in h) (along_in h) s) (k h ss)
-    ≡ goes_on (Members scope 0 w) k2 h2 ms s2
+    → w2 ≡ w
+    → and_then (combined (below_of h) o at w (items scope.now.items) (env_in h) (along_in h) s) (k w h ss)
+    ≡ goes_on (Members scope 0) k2 w2 h2 ms s2
 unfolding combined members onto opened_in goes_on
-scope-begins o at w scope outer back h h2 k k2 ss ms s s2 opened is_left outer_is is none =
+scope-begins o at w scope outer back w2 h h2 k k2 ss ms s s2 opened is_left outer_is is none stands =
     let below = below_of h in
     let all = items scope.now.items in
     let o2 = members_from below w (env_in h2) (along_in h2) all [] s2 in
     ap (λ (x : Outcome Opened). and_then (and_then (and_then x (λ y. members_from below w y.env y.along all []))
-    (λ qs. judged at (operated o qs))) (k h ss)) opened
-    ∙ twice o2 (λ qs. judged at (operated o qs)) (k h ss)
-    ∙ ap₂ (λ (x : Held) (os : List Solid). and_then o2 (λ qs t. and_then (judged at (operated o qs) t) (k x os)))
+    (λ qs. judged at (operated o qs))) (k w h ss)) opened
+    ∙ twice o2 (λ qs. judged at (operated o qs)) (k w h ss)
+    ∙ ap₂ (λ (x : Held) (os : List Solid). and_then o2 (λ qs t. and_then (judged at (operated o qs) t) (k w x os)))
     (sym is_left) (sym outer_is)
     ∙ ap₂ (λ (q : Rest) (n : List Solid). and_then (members_from below w (env_in h2) (along_in h2) all n s2)
-    (listed q h2)) (sym is) (sym none)
-    ∙ ap (λ (d : ℕ). and_then (members_from (statements_meaning d) w (env_in h2) (along_in h2) all ms s2)
-    (listed k2 h2)) (sym (depth-left back h2 h is_left))
+    (listed q w h2)) (sym is) (sym none)
+    ∙ ap₂ (λ (d : ℕ) (x : Where). and_then (members_from (statements_meaning d) x (env_in h2) (along_in h2) all ms s2)
+    (listed k2 x h2)) (sym (depth-left back h2 h is_left)) (sym stands)
 
 -- a scope without items gives nothing, and needs no frames
 pub scope-empty : (o : Operation) (at : Place) (w : Where) (scope : Bor (Vec Item Global)) (h : Held) (k : Rest)
     (ss : List Solid) (t : Solid) (s : State) → length scope.now.items ≡ 0 → t ≡ nothing
-    → and_then (combined (below_of h) o at w (items scope.now.items) (env_in h) (along_in h) s) (k h ss) ≡ k h ss t s
+    → and_then (combined (below_of h) o at w (items scope.now.items) (env_in h) (along_in h) s) (k w h ss)
+    ≡ k w h ss t s
 unfolding combined members members_from opened_scope assigned judged united intersected subtracted
 scope-empty o at w scope h k ss t s is none =
-    ap (λ (l : List Item). and_then (combined (below_of h) o at w (items l) (env_in h) (along_in h) s) (k h ss))
+    ap (λ (l : List Item). and_then (combined (below_of h) o at w (items l) (env_in h) (along_in h) s) (k w h ss))
     (no-items scope.now.items is)
     ∙ by o
-    ∙ ap (λ (x : Solid). k h ss x s) (sym none)
+    ∙ ap (λ (x : Solid). k w h ss x s) (sym none)
   where
     no-items : (all : List Item) → length all ≡ 0 → all ≡ []
     no-items [] zero_long = refl
     no-items (i ∷ all) some = absurd (let no : ⊥ = omega (arith, some) in no)
 
-    by : (q : Operation) → and_then (combined (below_of h) q at w (items []) (env_in h) (along_in h) s) (k h ss)
-        ≡ k h ss nothing s
+    by : (q : Operation) → and_then (combined (below_of h) q at w (items []) (env_in h) (along_in h) s) (k w h ss)
+        ≡ k w h ss nothing s
     by Unite = refl
     by Intersect = refl
     by Subtract = refl
 
 -- ---- children
 pub children-begin : (at : Place) (w : Where) (scope : Items) (home : Env) (which : Option Datum)
-    (outer : Vec Node Global) (back : ℕ) (h h2 : Held) (k k2 : Rest) (ss : List Solid) (s s2 : State)
+    (outer : Vec Node Global) (back : ℕ) (w2 : Where) (h h2 : Held) (k k2 : Rest) (ss : List Solid) (s s2 : State)
     → opened_scope (below_of h) scope home (along_in h) s ≡ gives (opened_in h2) s2
-    → left back h2 ≡ h → solids outer.items ≡ ss → k2 ≡ onto (Leave back) (onto (Combine Unite at outer) k)
-    → and_then (run_children (below_of h) at w (along_in h) which (children scope home) s) (k h ss)
-    ≡ and_then (chosen (below_of h2) w (env_in h2) (along_in h2) scope which s2) (listed k2 h2)
+    → left back h2 ≡ h → solids outer.items ≡ ss → k2 ≡ onto (Leave back) (onto (Combine Unite at outer) k) → w2 ≡ w
+    → and_then (run_children (below_of h) at w (along_in h) which (children scope home) s) (k w h ss)
+    ≡ and_then (chosen (below_of h2) w2 (env_in h2) (along_in h2) scope which s2) (listed k2 w2 h2)
 unfolding run_children onto opened_in
-children-begin at w scope home which outer back h h2 k k2 ss s s2 opened is_left outer_is is =
+children-begin at w scope home which outer back w2 h h2 k k2 ss s s2 opened is_left outer_is is stands =
     let below = below_of h in
     let o2 = chosen below w (env_in h2) (along_in h2) scope which s2 in
     ap (λ (x : Outcome Opened). and_then (and_then x (λ y t. and_then (chosen below w y.env y.along scope which t)
-    (λ qs. judged at (united qs)))) (k h ss)) opened
-    ∙ twice o2 (λ qs. judged at (united qs)) (k h ss)
-    ∙ ap₂ (λ (x : Held) (os : List Solid). and_then o2 (λ qs t. and_then (judged at (united qs) t) (k x os)))
+    (λ qs. judged at (united qs)))) (k w h ss)) opened
+    ∙ twice o2 (λ qs. judged at (united qs)) (k w h ss)
+    ∙ ap₂ (λ (x : Held) (os : List Solid). and_then o2 (λ qs t. and_then (judged at (united qs) t) (k w x os)))
     (sym is_left) (sym outer_is)
-    ∙ ap (λ (q : Rest). and_then o2 (listed q h2)) (sym is)
-    ∙ ap (λ (d : ℕ). and_then (chosen (statements_meaning d) w (env_in h2) (along_in h2) scope which s2)
-    (listed k2 h2)) (sym (depth-left back h2 h is_left))
+    ∙ ap (λ (q : Rest). and_then o2 (listed q w h2)) (sym is)
+    ∙ ap₂ (λ (d : ℕ) (x : Where). and_then (chosen (statements_meaning d) x (env_in h2) (along_in h2) scope which s2)
+    (listed k2 x h2)) (sym (depth-left back h2 h is_left)) (sym stands)
 
 -- ---- the variables of a `for`
 module _ (c : Call) (w : Where) (k : Rest) (ss : List Solid) (s : State) where
   abbrev loop : Held → Arguments → Outcome Solid
   loop h args = and_then (for_variables (below_of h) c.at w args (items c.all.now.items) (env_in h) (along_in h) ss s)
-      (listed k h)
+      (listed k w h)
 
   -- none is left
-  pub variables-end : (args : Arguments) (h : Held) (k2 : Rest) (ms : List Solid) → args ≡ no_arguments
-      → k2 ≡ onto (Member false) k → ms ≡ ss
+  pub variables-end : (args : Arguments) (h : Held) (k2 : Rest) (ms : List Solid) (w2 : Where) → args ≡ no_arguments
+      → k2 ≡ onto (Member false) k → ms ≡ ss → w2 ≡ w
       → loop h args
-      ≡ and_then (combined (below_of h) Unite c.at w (items c.all.now.items) (env_in h) (along_in h) s) (k2 h ms)
+      ≡ and_then (combined (below_of h) Unite c.at w2 (items c.all.now.items) (env_in h) (along_in h) s) (k2 w2 h ms)
   unfolding for_variables onto
-  variables-end args h k2 ms none is made =
-      let run = combined (below_of h) Unite c.at w (items c.all.now.items) (env_in h) (along_in h) s in
+  variables-end args h k2 ms w2 none is made stands =
+      let run : Where → Outcome Solid = λ x. combined (below_of h) Unite c.at x (items c.all.now.items) (env_in h)
+      (along_in h) s in
       ap (loop h) none
-      ∙ twice run (λ t. pure (ss ++ t ∷ [])) (listed k h)
-      ∙ ap₂ (λ (q : Rest) (l : List Solid). and_then run (q h l)) (sym is) (sym made)
+      ∙ twice (run w) (λ t. pure (ss ++ t ∷ [])) (listed k w h)
+      ∙ ap₂ (λ (q : Rest) (l : List Solid). and_then (run w) (q w h l)) (sym is) (sym made)
+      ∙ ap (λ (x : Where). and_then (run x) (k2 x h ms)) (sym stands)
 
   -- one without a name is passed over
   pub variable-passes : (word : Option (List ℕ)) (e : Expression) (n : ℕ) (h : Held) → word ≡ None
-      → loop h (argument word e (arguments (drop n c.args.now.items))) ≡ goes_on (Variables c n w) k h ss s
+      → loop h (argument word e (arguments (drop n c.args.now.items))) ≡ goes_on (Variables c n) k w h ss s
   unfolding for_variables goes_on
   variable-passes word e n h none =
       ap (λ (o : Option (List ℕ)). loop h (argument o e (arguments (drop n c.args.now.items)))) none
@@ -279,7 +289,7 @@ module _ (v : Variable) (w : Where) (k : Rest) (ss : List Solid) (s : State) (e 
   abbrev runs : Outcome Datum → Outcome Solid
   runs o = and_then (and_then o (λ d. turns (below_of h) v.call.at v.name.now (for_variables (below_of h) v.call.at w
       (arguments (drop v.next v.call.args.now.items)) (items v.call.all.now.items)) (env_in h) (along_in h) (run_over d)
-      ss)) (listed k h)
+      ss)) (listed k w h)
 
   named-runs : named ≡ runs (value h.depth (env_in h) (along_in h) e s)
   unfolding for_variables
@@ -287,16 +297,16 @@ module _ (v : Variable) (w : Where) (k : Rest) (ss : List Solid) (s : State) (e 
 
   pub variable-runs : (more : Remainder) (h1 : Held) (d : Datum) (s1 : State)
       → value h.depth (env_in h) (along_in h) e s ≡ gives d s1 → h1 ≡ h → left_in more ≡ run_over d
-      → named ≡ goes_on (Turns v more w) k h1 ss s1
+      → named ≡ goes_on (Turns v more) k w h1 ss s1
   unfolding goes_on
   variable-runs more h1 d s1 given kept run =
       named-runs ∙ ap runs given
       ∙ ap (λ (l : List Datum). and_then (turns (below_of h) v.call.at v.name.now (for_variables (below_of h) v.call.at
       w (arguments (drop v.next v.call.args.now.items)) (items v.call.all.now.items)) (env_in h) (along_in h) l ss s1)
-      (listed k h)) (sym run)
+      (listed k w h)) (sym run)
       ∙ ap (λ (x : Held). and_then (turns (below_of x) v.call.at v.name.now (for_variables (below_of x) v.call.at w
       (arguments (drop v.next v.call.args.now.items)) (items v.call.all.now.items)) (env_in x) (along_in x)
-      (left_in more) ss s1) (listed k x)) (sym kept)
+      (left_in more) ss s1) (listed k w x)) (sym kept)
 
   pub variable-stops : (x : EvalFault) (s1 : State) → value h.depth (env_in h) (along_in h) e s ≡ refuses x s1
       → named ≡ refuses x s1
@@ -312,33 +322,34 @@ module _ (v : Variable) (w : Where) where
   abbrev around : Held → List Datum → List Solid → Action (List Solid)
   around h = turns (below_of h) v.call.at v.name.now (inside h) (env_in h) (along_in h)
 
-  pub turn-begins : (d : Datum) (ds : List Datum) (more : Remainder) (back : ℕ) (k k1 k2 : Rest) (h h1 h2 : Held)
-      (ss ms : List Solid) (s s2 s3 : State) → ds ≡ d ∷ left_in more → step v.call.at s ≡ gives (tt {0}) s2 → h1 ≡ h
-      → k1 ≡ onto (Then (Turns v more w)) k → gives (tt {0}) s2 ≡ gives (tt {0}) s3
-      → env_in h2 ≡ within (env_in h1) (set v.name.now d empty).names
+  pub turn-begins : (d : Datum) (ds : List Datum) (more : Remainder) (back : ℕ) (w2 : Where) (k k1 k2 : Rest)
+      (h h1 h2 : Held) (ss ms : List Solid) (s s2 s3 : State) → ds ≡ d ∷ left_in more
+      → step v.call.at s ≡ gives (tt {0}) s2 → h1 ≡ h → k1 ≡ onto (Then (Turns v more)) k
+      → gives (tt {0}) s2 ≡ gives (tt {0}) s3 → env_in h2 ≡ within (env_in h1) (set v.name.now d empty).names
       → along_in h2 ≡ within (along_in h1) (set v.name.now d empty).dollars → left back h2 ≡ h1
-      → k2 ≡ onto (Leave back) k1 → ms ≡ ss
-      → and_then (around h ds ss s) (listed k h) ≡ goes_on (Variables v.call v.next w) k2 h2 ms s3
+      → k2 ≡ onto (Leave back) k1 → ms ≡ ss → w2 ≡ w
+      → and_then (around h ds ss s) (listed k w h) ≡ goes_on (Variables v.call v.next) k2 w2 h2 ms s3
   unfolding turns onto goes_on
-  turn-begins d ds more back k k1 k2 h h1 h2 ss ms s s2 s3 are stepped kept is1 same env along is_left is2 made =
+  turn-begins d ds more back w2 k k1 k2 h h1 h2 ss ms s s2 s3 are stepped kept is1 same env along is_left is2 made
+      stands =
       let b = set v.name.now d empty in
-      let go : Held → List Solid → Action Solid = λ x now t. and_then (around x (left_in more) now t) (listed k x) in
-      ap (λ (l : List Datum). and_then (around h l ss s) (listed k h)) are
+      let go : Held → List Solid → Action Solid = λ x now t. and_then (around x (left_in more) now t) (listed k w x) in
+      ap (λ (l : List Datum). and_then (around h l ss s) (listed k w h)) are
       ∙ ap (λ (o : Outcome (Unit {0})). and_then (and_then o (λ _ t. and_then
       (inside h (within (env_in h) b.names) (within (along_in h) b.dollars) ss t) (around h (left_in more))))
-      (listed k h)) stepped
+      (listed k w h)) stepped
       ∙ twice (inside h (within (env_in h) b.names) (within (along_in h) b.dollars) ss s2) (around h (left_in more))
-      (listed k h)
+      (listed k w h)
       ∙ ap₂ (λ (e a : Env). and_then (inside h e a ss s2) (go h))
       (ap (λ (x : Held). within (env_in x) b.names) (sym kept) ∙ sym env)
       (ap (λ (x : Held). within (along_in x) b.dollars) (sym kept) ∙ sym along)
       ∙ ap (λ (x : Held). and_then (inside h (env_in h2) (along_in h2) ss s2) (go x)) (sym (is_left ∙ kept))
-      ∙ ap₂ (λ (q : Rest) (t : State). and_then (inside h (env_in h2) (along_in h2) ss t) (listed q h2))
+      ∙ ap₂ (λ (q : Rest) (t : State). and_then (inside h (env_in h2) (along_in h2) ss t) (listed q w h2))
       (sym (is2 ∙ ap (onto (Leave back)) is1)) (same-state _ _ _ _ same)
-      ∙ ap (λ (l : List Solid). and_then (inside h (env_in h2) (along_in h2) l s3) (listed k2 h2)) (sym made)
-      ∙ ap (λ (e : ℕ). and_then (for_variables (statements_meaning e) v.call.at w
+      ∙ ap (λ (l : List Solid). and_then (inside h (env_in h2) (along_in h2) l s3) (listed k2 w h2)) (sym made)
+      ∙ ap₂ (λ (e : ℕ) (x : Where). and_then (for_variables (statements_meaning e) v.call.at x
       (arguments (drop v.next v.call.args.now.items)) (items v.call.all.now.items) (env_in h2) (along_in h2) ms s3)
-      (listed k2 h2)) (sym (depth-left back h2 h1 is_left ∙ ap (λ (x : Held). x.depth) kept))
+      (listed k2 x h2)) (sym (depth-left back h2 h1 is_left ∙ ap (λ (x : Held). x.depth) kept)) (sym stands)
 
   pub turn-stops : (d : Datum) (ds : List Datum) (more : Remainder) (h : Held) (ss : List Solid) (s s2 : State)
       (e : EvalFault) (g : List Solid → Action Solid) → ds ≡ d ∷ left_in more → step v.call.at s ≡ refuses e s2

@@ -22,7 +22,7 @@ use crate::work::Focus;
 use scad_ast::Scope;
 use scad_expr::{EvalFault, Machine};
 use scad_fault::Place;
-use scad_leaves::{Operation, Where};
+use scad_leaves::Operation;
 use scad_operations::{Remainder, next_value};
 use scad_tree::Tree;
 use scad_value::Value;
@@ -32,11 +32,10 @@ use scad_value::Value;
 pub fn children<'p>(
     at: Place,
     which: Option<&Value>,
-    w: &Where,
     stack: &mut Stack<'p>,
     m: &mut Machine<'p>,
 ) -> Result<Focus<'p>, EvalFault>
-    ensures { (o : Outcome Solid) → o ≡ onward (run_children (below_of (held m.old)) at w.now
+    ensures { (o : Outcome Solid) → o ≡ onward (run_children (below_of (held m.old)) at stack.old.stands
         (along_in (held m.old)) (datum_in which.entry) (kept_children (env_in (held m.old))) (state_of m.old))
         stack.old m.old → Goes o result stack.new m.new }
 {
@@ -45,7 +44,7 @@ pub fn children<'p>(
     };
     let back = open_scope(stack.alloc, kept.home, kept.scope, m)?;
     stack.begin(Operation::Unite, at, back)?;
-    chosen(which, kept.scope, w, stack)
+    chosen(which, kept.scope, stack)
 }
 
 /// All children, or those that the items of a value name.
@@ -53,20 +52,20 @@ pub fn children<'p>(
 fn chosen<'p>(
     which: Option<&Value>,
     scope: &'p Scope,
-    w: &Where,
     stack: &mut Stack<'p>,
 ) -> Result<Focus<'p>, EvalFault>
     requires { made_in stack.old ≡ [] }
-    ensures goes { (h : Held) (s : State) → Starts (and_then (chosen (below_of h) w.now (env_in h) (along_in h)
-        (items scope.now.items) (datum_in which.entry) s) (listed (rest stack.old) h)) result stack.new h s }
+    ensures goes { (h : Held) (s : State) → Starts (and_then (chosen (below_of h) stack.old.stands (env_in h)
+        (along_in h) (items scope.now.items) (datum_in which.entry) s) (listed (rest stack.old) stack.old.stands h))
+        result stack.new h s }
     ensures memory { IfErr result (λ e. e ≡ Memory) }
 {
     match which {
         Some(value) => {
             let more = naming(stack.alloc, scope, value)?;
-            Ok(Focus::Children(scope, more, *w))
+            Ok(Focus::Children(scope, more))
         }
-        None => Ok(Focus::Members(scope, 0, *w)),
+        None => Ok(Focus::Members(scope, 0)),
     }
 }
 
@@ -75,19 +74,18 @@ fn chosen<'p>(
 pub fn children_by<'p>(
     scope: &'p Scope,
     more: Remainder,
-    w: &Where,
     stack: &mut Stack<'p>,
 ) -> Result<Focus<'p>, EvalFault>
-    ensures goes { (h : Held) (s : State) → Starts (and_then (children_by (below_of h) w.now (env_in h) (along_in h)
-        (items scope.now.items) (left_in more) (made_in stack.old) s) (listed (rest stack.old) h)) result stack.new h
-        s }
+    ensures goes { (h : Held) (s : State) → Starts (and_then (children_by (below_of h) stack.old.stands (env_in h)
+        (along_in h) (items scope.now.items) (left_in more) (made_in stack.old) s)
+        (listed (rest stack.old) stack.old.stands h)) result stack.new h s }
     ensures memory { IfErr result (λ e. e ≡ Memory) }
 {
     let mut left = more;
     match next_value(stack.alloc, &mut left)? {
         Some(value) => match child_named(scope, &value) {
-            Some(item) => member(item, Focus::Children(scope, left, *w), w, stack),
-            None => Ok(Focus::Children(scope, left, *w)),
+            Some(item) => member(item, Focus::Children(scope, left), stack),
+            None => Ok(Focus::Children(scope, left)),
         },
         None => Ok(Focus::Given(Tree::empty())),
     }

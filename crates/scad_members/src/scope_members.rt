@@ -21,7 +21,7 @@ use crate::work::{Focus, Frame, at_work};
 use scad_ast::{Item, Scope};
 use scad_expr::{EvalFault, Machine};
 use scad_fault::Place;
-use scad_leaves::{Operation, Where, tree_of_operation};
+use scad_leaves::{Operation, tree_of_operation};
 use scad_machine::is_statement;
 use scad_tree::Tree;
 
@@ -30,12 +30,11 @@ use scad_tree::Tree;
 pub(crate) fn member<'p>(
     item: &'p Item,
     behind: Focus<'p>,
-    w: &Where,
     stack: &mut Stack<'p>,
 ) -> Result<Focus<'p>, EvalFault>
-    ensures goes { (h : Held) (s : State) (o : Outcome Solid) → o ≡ and_then (member (below_of h) w.now (env_in h)
-        (along_in h) (item_of item.now) (made_in stack.old) s) (goes_on behind.entry (rest stack.old) h)
-        → Starts o result stack.new h s }
+    ensures goes { (h : Held) (s : State) (o : Outcome Solid) → o ≡ and_then
+        (member (below_of h) stack.old.stands (env_in h) (along_in h) (item_of item.now) (made_in stack.old) s)
+        (goes_on behind.entry (rest stack.old) stack.old.stands h) → Starts o result stack.new h s }
     ensures memory { IfErr result (λ e. e ≡ Memory) }
 {
     if !is_statement(item) {
@@ -43,31 +42,25 @@ pub(crate) fn member<'p>(
     }
     stack.push(Frame::Then(behind))?;
     stack.push(Frame::Member(is_marked(item)))?;
-    Ok(Focus::Statement(item, *w))
+    Ok(Focus::Statement(item))
 }
 
 /// The items of a scope from a number on: the first statement among them is run, and then those behind it.
 pub fn members<'p>(
     scope: &'p Scope,
     next: usize,
-    w: &Where,
     stack: &mut Stack<'p>,
 ) -> Result<Focus<'p>, EvalFault>
-    ensures goes { (h : Held) (s : State) → Starts (and_then (members_from (below_of h) w.now (env_in h)
-        (along_in h) (items (drop next scope.now.items)) (made_in stack.old) s) (listed (rest stack.old) h)) result
-        stack.new h s }
+    ensures goes { (h : Held) (s : State) → Starts (and_then (members_from (below_of h) stack.old.stands (env_in h)
+        (along_in h) (items (drop next scope.now.items)) (made_in stack.old) s)
+        (listed (rest stack.old) stack.old.stands h)) result stack.new h s }
     ensures memory { IfErr result (λ e. e ≡ Memory) }
 {
     let number = next_statement(scope, next);
     if number >= scope.len() {
         return Ok(Focus::Given(Tree::empty()));
     }
-    member(
-        &scope[number],
-        Focus::Members(scope, number + 1, *w),
-        w,
-        stack,
-    )
+    member(&scope[number], Focus::Members(scope, number + 1), stack)
 }
 
 /// The tree of an operation over the statements of a scope, which is opened inside the frame from which names are
@@ -77,11 +70,10 @@ pub fn combined<'p>(
     operation: Operation,
     at: Place,
     scope: &'p Scope,
-    w: &Where,
     stack: &mut Stack<'p>,
     m: &mut Machine<'p>,
 ) -> Result<Focus<'p>, EvalFault>
-    ensures { (o : Outcome Solid) → o ≡ onward (combined (below_of (held m.old)) operation at w.now
+    ensures { (o : Outcome Solid) → o ≡ onward (combined (below_of (held m.old)) operation at stack.old.stands
         (items scope.now.items) (env_in (held m.old)) (along_in (held m.old)) (state_of m.old)) stack.old m.old
         → Goes o result stack.new m.new }
 {
@@ -91,7 +83,7 @@ pub fn combined<'p>(
     let home = here(m);
     let back = open_scope(stack.alloc, home, scope, m)?;
     stack.begin(operation, at, back)?;
-    Ok(Focus::Members(scope, 0, *w))
+    Ok(Focus::Members(scope, 0))
 }
 
 /// The members have their operation.
@@ -104,7 +96,7 @@ pub fn made_of<'p>(
     m: &mut Machine<'p>,
 ) -> Result<Focus<'p>, EvalFault>
     ensures { Goes (and_then (judged at (operated operation (made_in stack.old)) (state_of m.old))
-        (rest stack.old (held m.old) (trees_in outer))) result stack.new m.new }
+        (rest stack.old stack.old.stands (held m.old) (trees_in outer))) result stack.new m.new }
 {
     let members = stack.exchange(outer);
     at_work(tree_of_operation(stack.alloc, operation, at, members))

@@ -14,16 +14,16 @@ use scad_tree::Tree;
 #[derive(Drop)]
 pub enum Focus<'p> {
     /// A statement.
-    Statement(&'p Item, Where),
+    Statement(&'p Item),
     /// The items of a scope from a number on; the trees of its statements are members.
-    Members(&'p Scope, usize, Where),
+    Members(&'p Scope, usize),
     /// The children that values name; their trees are members.
-    Children(&'p Scope, Remainder, Where),
+    Children(&'p Scope, Remainder),
     /// The variables of a `for` from that of a number on, the first of them the outermost; the tree of each
     /// turn of all of them is a member.
-    Variables(Call<'p>, usize, Where),
+    Variables(Call<'p>, usize),
     /// The turns of a variable that are left.
-    Turns(Variable<'p>, Remainder, Where),
+    Turns(Variable<'p>, Remainder),
     /// A tree, for the frame on the top.
     Given(Tree),
 }
@@ -40,9 +40,10 @@ pub enum Frame<'p> {
     Then(Focus<'p>),
     /// The members have their operation, made by the statement at a place; those of the operation round it.
     Combine(Operation, Place, Vec<Tree>),
-    /// The children of a `hull` have their tree: where the hull stands, and how many points of profiles there were
-    /// before them.
-    Hull(Call<'p>, Where, usize),
+    /// The children of a `hull` have their tree: the hull, and how many points of profiles there were before them.
+    Hull(Call<'p>, usize),
+    /// The statements behind it stand where they did before.
+    Stand(Box<Where>),
     /// The last frames of the machine are left, and names are sought from another one.
     Leave(u32),
 }

@@ -14,6 +14,6 @@ pub returns-in-Hull : goal.returns-in-Hull
 returns-in-Hull c = λ o is.
     c.hull.ensures (arguments c.args.call.args.now.items) (data_of c.args.found.now) o
     (is ∙ ap (λ (known : Module). onward (built_in (below_of (held c.args.m.now)) known c.args.call.at
-    c.args.call.name.now c.args.w.now (env_in (held c.args.m.now)) (along_in (held c.args.m.now))
+    c.args.call.name.now c.args.stack.now.stands (env_in (held c.args.m.now)) (along_in (held c.args.m.now))
     (arguments c.args.call.args.now.items) (data_of c.args.found.now) (items c.args.call.all.now.items)
     (state_of c.args.m.now)) c.args.stack.now c.args.m.now) c.in-Hull.is)

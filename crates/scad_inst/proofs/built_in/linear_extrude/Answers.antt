@@ -27,14 +27,14 @@ returns c =
     let said : c.linear_by.result ≡ linear_by (arguments c.args.call.args.now.items) (data_of c.args.found.now) =
     c.linear_by.ensures ∙ ap (λ (l : List Arg). linear_by (arguments l) (data_of c.args.found.now))
     c.deref.ensures.value in
-    λ o is. c.combined.ensures o (is ∙ ap (λ (x : Outcome Solid). onward x c.args.stack.now c.args.m.now)
-    (height-goes c.args.call.at c.args.w.now.space (argued c.args.call.at c.args.call.name.now
+    λ o is. c.placed.ensures o (is ∙ ap (λ (x : Outcome Solid). onward x c.args.stack.now c.args.m.now)
+    (height-goes c.args.call.at c.args.stack.now.stands.space (argued c.args.call.at c.args.call.name.now
     (linear_by (arguments c.args.call.args.now.items) (data_of c.args.found.now)))
     (λ (h : ℤ × Bool). combined (below_of (held c.args.m.now)) Unite c.args.call.at
-    (inside_linear c.args.w.now.whole h) (items c.args.call.all.now.items) (env_in (held c.args.m.now))
+    (inside_linear c.args.stack.now.stands.whole h) (items c.args.call.all.now.items) (env_in (held c.args.m.now))
     (along_in (held c.args.m.now))) s (c.in_ok-judge_solid.ensures s) c.in_ok-height.height
-    (ap (λ (r : Read (ℤ × Bool)). argued c.args.call.at c.args.call.name.now r s) (sym said) ∙ c.in_ok-height.ensures.argued
-    s)
+    (ap (λ (r : Read (ℤ × Bool)). argued c.args.call.at c.args.call.name.now r s) (sym said)
+    ∙ c.in_ok-height.ensures.argued s)
     ∙ ap (λ (w : Where). combined (below_of (held c.args.m.now)) Unite c.args.call.at w
     (items c.args.call.all.now.items) (env_in (held c.args.m.now)) (along_in (held c.args.m.now)) s)
     (sym c.inside_linear-inner.ensures)))
@@ -48,10 +48,10 @@ returns-in_err-height c =
     c.deref.ensures.value in
     let p = err_from_is_err_and c.from_residual-in_err-height.result c.from_residual-in_err-height.ensures.1 in
     λ o is. rw (p.1, p.2) (λ some. is ∙ ap (λ (x : Outcome Solid). onward x c.args.stack.now c.args.m.now)
-    (height-stops c.args.call.at c.args.w.now.space (argued c.args.call.at c.args.call.name.now
+    (height-stops c.args.call.at c.args.stack.now.stands.space (argued c.args.call.at c.args.call.name.now
     (linear_by (arguments c.args.call.args.now.items) (data_of c.args.found.now)))
     (λ (h : ℤ × Bool). combined (below_of (held c.args.m.now)) Unite c.args.call.at
-    (inside_linear c.args.w.now.whole h) (items c.args.call.all.now.items) (env_in (held c.args.m.now))
+    (inside_linear c.args.stack.now.stands.whole h) (items c.args.call.all.now.items) (env_in (held c.args.m.now))
     (along_in (held c.args.m.now))) s (c.in_ok-judge_solid.ensures s) _
     (ap (λ (r : Read (ℤ × Bool)). argued c.args.call.at c.args.call.name.now r s) (sym said)
     ∙ c.in_err-height.ensures.argued s some)))

@@ -14,7 +14,7 @@ use Rattle.scad_inst.proofs.call.called_own.Goals as goal
 
 pub returns : goal.returns
 returns c = λ o is.
-    c.combined.ensures o (is ∙ own-begins c.args.call.at c.args.w.now
+    c.combined.ensures o (is ∙ own-begins c.args.call.at c.args.stack.now.stands c.push.new.self.stands
     (found_at (envs (held c.args.m.now).frames) c.args.own) (arguments c.args.call.args.now.items)
     (data_in c.in_ok-found.found) (items c.args.call.all.now.items) c.in_ok-back.back (held c.args.m.now)
     (held c.values.new.machine) (held c.open_own.new.m) (rest c.args.stack.now) (rest c.push.new.self)
@@ -24,4 +24,5 @@ returns c = λ o is.
     (along_in (held c.values.new.machine)) (found_at (envs h.frames) c.args.own) (arguments c.args.call.args.now.items)
     (data_in c.in_ok-found.found) (items c.args.call.all.now.items) (state_of c.values.new.machine))
     (sym c.in_ok-found.ensures.kept) ∙ c.in_ok-back.ensures.does)
-    c.in_ok-back.ensures.back c.in_ok-push.ensures.rest c.in_ok-push.ensures.made)
+    c.in_ok-back.ensures.back c.in_ok-push.ensures.rest c.in_ok-push.ensures.made
+    c.in_ok-push.ensures.stands)

@@ -18,12 +18,12 @@ pub returns : goal.returns
 returns c =
     subst (λ (x : Outcome Solid). Does solid_of x c.run.result (state_of c.run.new.m))
     (sym (program-begins c.args.scope (held c.args.m.now) (state_of c.args.m.now) c.requires.env c.requires.along
-    c.requires.depth c.at_first.result (rest c.new-stack.result) (held c.open_scope.new.m) (made_in c.new-stack.result)
-    (state_of c.open_scope.new.m)
+    c.requires.depth c.new-stack.result.stands (rest c.new-stack.result) (held c.open_scope.new.m)
+    (made_in c.new-stack.result) (state_of c.open_scope.new.m)
     (ap (λ (e : Env). opened_scope (below_of (held c.args.m.now)) (items c.args.scope.now.items) e
     (along_in (held c.args.m.now)) (state_of c.args.m.now)) (sym c.here-home.ensures.env)
     ∙ c.in_ok-open_scope.ensures.does) c.in_ok-open_scope.ensures.depth c.new-stack.ensures.rest
-    c.new-stack.ensures.made c.at_first.ensures)) c.run.ensures
+    c.new-stack.ensures.made c.new-stack.ensures.stands)) c.run.ensures
 
 pub returns-in_err-open_scope : goal.returns-in_err-open_scope
 returns-in_err-open_scope c =

@@ -6,5 +6,5 @@ use Rattle.scad_inst.proofs.run.run.Given as goal
 
 abbrev pub invariant-turns : goal.invariant-turns
 invariant-turns l =
-    goes_on l.focus (rest l.stack) (held l.m) (made_in l.stack) (state_of l.m)
-    ≡ goes_on l.fn.first (rest l.fn.stack) (held l.fn.m) (made_in l.fn.stack) (state_of l.fn.m)
+    goes_on l.focus (rest l.stack) l.stack.stands (held l.m) (made_in l.stack) (state_of l.m)
+    ≡ goes_on l.fn.first (rest l.fn.stack) l.fn.stack.stands (held l.fn.m) (made_in l.fn.stack) (state_of l.fn.m)

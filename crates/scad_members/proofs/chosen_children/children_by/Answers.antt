@@ -23,11 +23,13 @@ returns-in-Some-child_named-clause-goes c = λ h s.
     subst (λ (o : Option Value). MatchOption o (left_in c.args.more ≡ []) (λ v. left_in c.args.more
     ≡ datum_of v ∷ others)) c.in-Some.is c.in_ok-value.ensures in
     c.member.ensures.goes h s _
-    (children-next h c.args.w.now scope (left_in c.args.more) (rest c.args.stack.now) (made_in c.args.stack.now) s
+    (children-next h c.args.stack.now.stands scope (left_in c.args.more) (rest c.args.stack.now)
+    (made_in c.args.stack.now) s
     (datum_of c.in-Some.value) (Some (item_of c.in-Some-child_named.item.now)) others next c.in-Some-child_named.ensures
-    ∙ twice (member (below_of h) c.args.w.now (env_in h) (along_in h) (item_of c.in-Some-child_named.item.now)
-    (made_in c.args.stack.now) s) (children_by (below_of h) c.args.w.now (env_in h) (along_in h) scope others)
-    (listed (rest c.args.stack.now) h))
+    ∙ twice (member (below_of h) c.args.stack.now.stands (env_in h) (along_in h)
+    (item_of c.in-Some-child_named.item.now) (made_in c.args.stack.now) s)
+    (children_by (below_of h) c.args.stack.now.stands (env_in h) (along_in h) scope others)
+    (listed (rest c.args.stack.now) c.args.stack.now.stands h))
 
 pub returns-in-Some-clause-goes : goal.returns-in-Some-clause-goes
 unfolding child goes_on
@@ -36,7 +38,7 @@ returns-in-Some-clause-goes c = λ h s.
     let next : left_in c.args.more ≡ datum_of c.in-Some.value ∷ others =
     subst (λ (o : Option Value). MatchOption o (left_in c.args.more ≡ []) (λ v. left_in c.args.more
     ≡ datum_of v ∷ others)) c.in-Some.is c.in_ok-value.ensures in
-    children-next h c.args.w.now (items c.args.scope.now.items) (left_in c.args.more) (rest c.args.stack.now)
+    children-next h c.args.stack.now.stands (items c.args.scope.now.items) (left_in c.args.more) (rest c.args.stack.now)
     (made_in c.args.stack.now) s (datum_of c.in-Some.value) None others next c.in-None-child_named.ensures
 
 pub returns-clause-goes : goal.returns-clause-goes
@@ -45,6 +47,7 @@ returns-clause-goes c = λ h s.
     let none : left_in c.args.more ≡ [] =
     subst (λ (o : Option Value). MatchOption o (left_in c.args.more ≡ []) (λ v. left_in c.args.more
     ≡ datum_of v ∷ left_in c.next_value.new.left)) c.in-None.is c.in_ok-value.ensures in
-    children-end h c.args.w.now (items c.args.scope.now.items) (left_in c.args.more) (rest c.args.stack.now)
+    children-end h c.args.stack.now.stands (items c.args.scope.now.items) (left_in c.args.more) (rest c.args.stack.now)
     (made_in c.args.stack.now) s none
-    ∙ ap (λ (t : Solid). rest c.args.stack.now h (made_in c.args.stack.now) t s) (sym c.empty.ensures)
+    ∙ ap (λ (t : Solid). rest c.args.stack.now c.args.stack.now.stands h (made_in c.args.stack.now) t s)
+    (sym c.empty.ensures)

@@ -16,15 +16,17 @@ unfolding goes_on
 returns-then-is_empty c = λ o is.
     let none : vec_len c.args.scope.now ≡ 0 = eqb-true (vec_len c.args.scope.now) 0
     (sym c.is_empty.ensures ∙ c.if-is_empty.true) in
-    is ∙ scope-empty c.args.operation c.args.at c.args.w.now c.args.scope (held c.args.m.now) (rest c.args.stack.now)
-    (made_in c.args.stack.now) (solid_of c.empty.result) (state_of c.args.m.now) (omega (arith, none)) c.empty.ensures
+    is ∙ scope-empty c.args.operation c.args.at c.args.stack.now.stands c.args.scope (held c.args.m.now)
+    (rest c.args.stack.now) (made_in c.args.stack.now) (solid_of c.empty.result) (state_of c.args.m.now)
+    (omega (arith, none)) c.empty.ensures
 
 pub returns : goal.returns
 returns c = λ o is.
     let begins = c.in_ok-begin.ensures.rest in
-    is ∙ scope-begins c.args.operation c.args.at c.args.w.now c.args.scope begins.0 c.in_ok-back.back
-    (held c.args.m.now) (held c.open_scope.new.m) (rest c.args.stack.now) (rest c.begin.new.self)
-    (made_in c.args.stack.now) (made_in c.begin.new.self) (state_of c.args.m.now) (state_of c.open_scope.new.m)
+    is ∙ scope-begins c.args.operation c.args.at c.args.stack.now.stands c.args.scope begins.0 c.in_ok-back.back
+    c.begin.new.self.stands (held c.args.m.now) (held c.open_scope.new.m) (rest c.args.stack.now)
+    (rest c.begin.new.self) (made_in c.args.stack.now) (made_in c.begin.new.self) (state_of c.args.m.now)
+    (state_of c.open_scope.new.m)
     (ap (λ (e : Env). opened_scope (below_of (held c.args.m.now)) (items c.args.scope.now.items) e
     (along_in (held c.args.m.now)) (state_of c.args.m.now)) (sym c.here-home.ensures.env) ∙ c.in_ok-back.ensures.does)
-    c.in_ok-back.ensures.back begins.1 begins.2 c.in_ok-begin.ensures.made
+    c.in_ok-back.ensures.back begins.1 begins.2 c.in_ok-begin.ensures.made c.in_ok-begin.ensures.stands

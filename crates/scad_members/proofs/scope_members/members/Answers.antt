@@ -11,16 +11,19 @@ use Rattle.scad_members.proofs.scope_members.members.Goals as goal
 pub returns-clause-goes : goal.returns-clause-goes
 returns-clause-goes c = λ h s.
     c.member.ensures.goes h s _
-    (ap (λ (o : Outcome (List Solid)). and_then o (listed (rest c.args.stack.now) h))
-    (c.next_statement-number.ensures (below_of h) c.args.w.now (env_in h) (along_in h) (made_in c.args.stack.now) s)
-    ∙ members-next h c.args.w.now c.args.scope c.next_statement-number.result (rest c.args.stack.now)
+    (ap (λ (o : Outcome (List Solid)). and_then o (listed (rest c.args.stack.now) c.args.stack.now.stands h))
+    (c.next_statement-number.ensures (below_of h) c.args.stack.now.stands (env_in h) (along_in h)
+    (made_in c.args.stack.now) s)
+    ∙ members-next h c.args.stack.now.stands c.args.scope c.next_statement-number.result (rest c.args.stack.now)
     (made_in c.args.stack.now) s c.index.result.now (omega arith) c.index.ensures)
 
 pub returns-then-number-len-clause-goes : goal.returns-then-number-len-clause-goes
 unfolding goes_on
 returns-then-number-len-clause-goes c = λ h s.
-    ap (λ (o : Outcome (List Solid)). and_then o (listed (rest c.args.stack.now) h))
-    (c.next_statement-number.ensures (below_of h) c.args.w.now (env_in h) (along_in h) (made_in c.args.stack.now) s)
-    ∙ members-end h c.args.w.now c.args.scope c.next_statement-number.result (rest c.args.stack.now)
+    ap (λ (o : Outcome (List Solid)). and_then o (listed (rest c.args.stack.now) c.args.stack.now.stands h))
+    (c.next_statement-number.ensures (below_of h) c.args.stack.now.stands (env_in h) (along_in h)
+    (made_in c.args.stack.now) s)
+    ∙ members-end h c.args.stack.now.stands c.args.scope c.next_statement-number.result (rest c.args.stack.now)
     (made_in c.args.stack.now) s (omega arith)
-    ∙ ap (λ (t : Solid). rest c.args.stack.now h (made_in c.args.stack.now) t s) (sym c.empty.ensures)
+    ∙ ap (λ (t : Solid). rest c.args.stack.now c.args.stack.now.stands h (made_in c.args.stack.now) t s)
+    (sym c.empty.ensures)

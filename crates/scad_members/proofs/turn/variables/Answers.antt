@@ -8,7 +8,8 @@ use Rattle.scad_members.proofs.turn.variables.Goals as goal
 
 pub returns-then-next-len : goal.returns-then-next-len
 returns-then-next-len c =
-    c.combined.ensures _ (variables-end c.args.call c.args.w.now (rest c.args.stack.now)
+    c.combined.ensures _ (variables-end c.args.call c.args.stack.now.stands (rest c.args.stack.now)
     (made_in c.args.stack.now) (state_of c.args.m.now) _ (held c.args.m.now) (rest c.push.new.self)
-    (made_in c.push.new.self) (arguments-drop_all c.args.call.args.now.items c.args.next (omega arith))
-    c.in_ok-push.ensures.rest c.in_ok-push.ensures.made)
+    (made_in c.push.new.self) c.push.new.self.stands
+    (arguments-drop_all c.args.call.args.now.items c.args.next (omega arith)) c.in_ok-push.ensures.rest
+    c.in_ok-push.ensures.made c.in_ok-push.ensures.stands)
