@@ -1,8 +1,8 @@
 """Checks that neither the depth nor the breadth of a source takes the machine's stack.
 
 Each form in which a source calls itself is run as deep as the limit of depth allows, and one level deeper;
-each list that a source may have is run with 100,000 members (arguments by name: 2,000). All under an
-ordinary stack, and under one of 1 MiB. The reports are those of the reference program.
+each list that a source may have is run with 100,000 members. All under an ordinary stack, and under one
+of 1 MiB. The reports are those of the reference program.
 """
 
 from check import Check, Each
