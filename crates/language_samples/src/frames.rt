@@ -7,8 +7,9 @@ use scad_scope::{Frames, Names, resolve};
 use scad_value::{Value, equal};
 use std::alloc::{AllocError, Global};
 
-fn number(z: i64) -> Value {
-    match Num::of(z) {
+/// The number of so many millionths.
+pub(crate) fn number(millionths: i64) -> Value {
+    match Num::of(millionths) {
         Ok(n) => Value::Number(n),
         Err(_) => Value::Undef,
     }
@@ -40,15 +41,19 @@ fn listed(alloc: Global) -> Result<[Names; 3], AllocError> {
 fn called<'p>(alloc: Global, names: &'p [Names; 3]) -> Result<Frames<'p>, AllocError> {
     let mut frames = Frames::new(alloc);
     let program = frames.push_names(None, None, None, &names[1])?;
-    frames.set(b"f", number(2))?;
+    frames.set(b"f", number(2_000_000))?;
     frames.push_names(Some(program), None, None, &names[2])?;
     frames.push_names(Some(program), None, None, &names[0])?;
-    frames.set(b"x", number(2))?;
+    frames.set(b"x", number(2_000_000))?;
     Ok(frames)
 }
 
 /// Whether both are this number, or both are nothing where none is given.
-fn are_both(by_slots: Option<&Value>, by_name: Option<&Value>, wanted: Option<i64>) -> bool {
+pub(crate) fn are_both(
+    by_slots: Option<&Value>,
+    by_name: Option<&Value>,
+    wanted: Option<i64>,
+) -> bool {
     match (by_slots, by_name, wanted) {
         (Some(a), Some(b), Some(z)) => equal(a, &number(z)) && equal(b, &number(z)),
         (None, None, None) => true,
@@ -99,8 +104,16 @@ fn a_variable_is_found_by_its_slot_in_a_call_from_a_module(rt: HostRuntime) {
         has_slot(alloc, &names, b"f", 1, 0) && has_slot(alloc, &names, b"x", 0, 0),
         "the slots of f and x",
     );
-    expect(&rt, has(alloc, &frames, &names, b"f", Some(2)), "f is 2");
-    expect(&rt, has(alloc, &frames, &names, b"x", Some(2)), "x is 2");
+    expect(
+        &rt,
+        has(alloc, &frames, &names, b"f", Some(2_000_000)),
+        "f is 2",
+    );
+    expect(
+        &rt,
+        has(alloc, &frames, &names, b"x", Some(2_000_000)),
+        "x is 2",
+    );
     expect(&rt, has(alloc, &frames, &names, b"g", None), "g isn't set");
     expect(
         &rt,
@@ -112,7 +125,7 @@ fn a_variable_is_found_by_its_slot_in_a_call_from_a_module(rt: HostRuntime) {
         lists(&frames, 0, b"g", 1) && lists(&frames, 2, b"x", 0),
         "the places of g and x",
     );
-    frames.set(b"h", number(5)).expect(&rt, "a value");
+    frames.set(b"h", number(5_000_000)).expect(&rt, "a value");
     expect(
         &rt,
         frames.names(2).is_none() && frames.get(2, b"h").is_some() && lists(&frames, 0, b"f", 0),

@@ -16,6 +16,8 @@ mod expressions;
 #[cfg(test)]
 mod frames;
 #[cfg(test)]
+mod listed_frames;
+#[cfg(test)]
 mod machine;
 #[cfg(test)]
 mod operators;

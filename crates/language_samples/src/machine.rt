@@ -25,6 +25,28 @@ fn dollars<'p>(alloc: Global) -> Result<Frames<'p>, AllocError> {
     Ok(along)
 }
 
+/// A machine over these frames, whose names are sought from the one of a number. It may take so many steps.
+pub(crate) fn over_frames<'p>(
+    alloc: Global,
+    frames: Frames<'p>,
+    here: u32,
+    steps: u32,
+) -> Result<Machine<'p>, AllocError>
+    requires { steps ≤ step_limit }
+{
+    Ok(Machine {
+        frames,
+        along: dollars(alloc)?,
+        here,
+        steps_left: steps,
+        depth_left: DEPTH_LIMIT - 1,
+        leaves: 0,
+        triangles: 0,
+        profiles: Vec::new(alloc),
+        echoes: Vec::new(alloc),
+    })
+}
+
 /// A machine whose frames are those of a program's start: what stands outside, and the program's scope. It may take so many steps.
 pub(crate) fn start<'p>(
     alloc: Global,
@@ -37,17 +59,7 @@ pub(crate) fn start<'p>(
     let outside = frames.push(None, None, None)?;
     frames.set(b"PI", Value::Number(Num::within(3_141_593)))?;
     let here = frames.push(Some(outside), Some(scope), None)?;
-    Ok(Machine {
-        frames,
-        along: dollars(alloc)?,
-        here,
-        steps_left: steps,
-        depth_left: DEPTH_LIMIT - 1,
-        leaves: 0,
-        triangles: 0,
-        profiles: Vec::new(alloc),
-        echoes: Vec::new(alloc),
-    })
+    over_frames(alloc, frames, here, steps)
 }
 
 /// The step of an assignment, its value, and the name set.
