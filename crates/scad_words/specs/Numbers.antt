@@ -3,6 +3,7 @@ use Rattle.std.specs.Prelude.{ℕ, ◌^◌, Bool, ◌&&◌, if◌then◌else◌,
 use Rattle.std.specs.Char.{is_ascii_digit}
 use Rattle.std.specs.List.{list_all}
 use Rattle.std.specs.Str.Parse.{digits_value}
+pub use Rattle.layer_board.specs.Limits.{worker_limit}
 
 -- a text is of digits, from one to so many
 abbrev pub is_number : ℕ → List ℕ → Bool
@@ -11,10 +12,6 @@ is_number most text = nat_le 1 (length text) && nat_le (length text) most && lis
 -- the number that from one to so many digits write; none of another text
 abbrev pub number_of : ℕ → List ℕ → Option ℕ
 number_of most text = if is_number most text then Some (digits_value 10 text) else None
-
--- at most so many workers are asked for
-abbrev pub worker_limit : ℕ
-worker_limit = 64
 
 abbrev pub if_workers : ℕ → Option ℕ
 if_workers n = if nat_le 1 n && nat_le n worker_limit then Some n else None
