@@ -15,7 +15,7 @@ use Rattle.meaning_laws.proofs.Programs.{programs_mean_solids, programs_want_no_
 use Rattle.slice_work.specs.declared.want.Want.{Want}
 use Rattle.scad_slice.specs.Parts.{IsPart}
 use Rattle.scad_run.specs.Answer.{Parts, ArePartsOfTree}
-use Rattle.scad_run.specs.Meant.{Meant, meant_tree, meant_fault, meant_budget}
+use Rattle.scad_run.specs.SourceMeaning.{Meant, meant_tree, meant_fault, meant_budget}
 use Rattle.scad_run.specs.Meaning.{program_means, tokens_mean, source_means, Means}
 use Rattle.scad_run.specs.Laws.{SourcesMeanSolids, SourcesWantNoMemory, SourcesMeanOne}
 

@@ -31,7 +31,7 @@ use Rattle.slice_work.specs.Part.{layer_limit}
 use Rattle.scad_slice.specs.Budgets.{layer_count, layers_passed}
 use Rattle.scad_slice.specs.Layer.{IsLayer, IsWithinLimits}
 use Rattle.scad_run.specs.Words.{Case, case_of, given_by}
-use Rattle.scad_run.specs.Meant.{Meant, meant_tree, meant_fault, meant_budget}
+use Rattle.scad_run.specs.SourceMeaning.{Meant, meant_tree, meant_fault, meant_budget}
 use Rattle.scad_run.specs.Inputs.{Inputs, source_long, file_long, source_in, settings_found, IsRead}
 
 -- a tree has more layers than the limit, and the budget says how many

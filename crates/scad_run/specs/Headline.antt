@@ -18,7 +18,7 @@ use Rattle.scad_words.specs.Job.{job_of}
 use Rattle.scad_tree.specs.Solid.{Solid}
 use Rattle.print_laws.specs.Print.{IsPrintOf}
 use Rattle.scad_run.specs.Inputs.{source_limit, GoBy}
-use Rattle.scad_run.specs.Meant.{Meant, meant_tree, EachMeansOne}
+use Rattle.scad_run.specs.SourceMeaning.{Meant, meant_tree, EachMeansOne}
 use Rattle.scad_run.specs.Causes.{HasNamedCause}
 
 -- ---- the desk tells

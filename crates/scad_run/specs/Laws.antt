@@ -12,7 +12,7 @@ use Rattle.scad_machine.specs.declared.fault.EvalFault.TheVariants.{Memory}
 use Rattle.scad_expr.specs.State.{State, gives, refuses}
 use Rattle.scad_tree.specs.Solid.{Solid}
 use Rattle.scad_tree.specs.Solids.{AreSolids}
-use Rattle.scad_run.specs.Meant.{EachMeansOne}
+use Rattle.scad_run.specs.SourceMeaning.{EachMeansOne}
 use Rattle.scad_run.specs.Meaning.{source_means, Means}
 use Rattle.scad_run.specs.Answer.{Findings, script_of, AreFoundBy, AreFound}
 use Rattle.scad_run.specs.Inputs.{Inputs, settings_found}

@@ -1,6 +1,6 @@
 -- What the public calls promise.
 pub mod Words
-pub mod Meant
+pub mod SourceMeaning
 pub mod Meaning
 pub mod SourceReport
 pub mod Inputs

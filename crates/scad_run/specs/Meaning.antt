@@ -14,7 +14,7 @@ use Rattle.scad_machine.specs.declared.fault.EvalFault.TheVariants.{Fault, Over,
 use Rattle.scad_expr.specs.State.{Outcome, refuses, start, State, gives}
 use Rattle.scad_tree.specs.Solid.{Solid}
 use Rattle.scad_inst.specs.Meaning.{means}
-use Rattle.scad_run.specs.Meant.{Meant, meant_tree, meant_fault, meant_budget}
+use Rattle.scad_run.specs.SourceMeaning.{Meant, meant_tree, meant_fault, meant_budget}
 
 -- a fault that is about no name
 abbrev pub fault_at : FaultKind → Place → EvalFault
