@@ -1,61 +1,53 @@
 //! The line of a layer's hatches.
-ghost use Rattle.std.specs.Prelude.{◌≡◌, ◌++◌, List, OnOk, OnErr};
+ghost use Rattle.std.specs.Prelude.{◌≡◌, List};
 ghost use Rattle.std.specs.List.{flat_map};
+ghost use Rattle.text_scan.specs.Printing.{Adds};
 ghost use Rattle.cli_text.specs.Cli.{hatch_text, hatches_start, hatches_line, hatches_text};
-ghost use Rattle.scad_base.specs.Appends.{BeginsWith};
 
 use crate::polyline::push_point;
 use scad_geom::Edge;
-use std::alloc::AllocError;
-use text_scan::push_number;
+use text_scan::Printer;
 
 /// Appends the line of a layer's hatches, where there are any.
-pub fn push_hatches(out: &mut Vec<u8>, hatches: &[Edge]) -> Result<(), AllocError>
-    ensures ok { OnOk result (out.new.items ≡ out.old.items ++ hatches_text hatches.now) }
-    ensures err { OnErr result (BeginsWith out.old.items out.new.items) }
+pub fn push_hatches(out: &mut Printer, hatches: &[Edge])
+    ensures { Adds (hatches_text hatches.now) out.old out.new }
 {
     match hatches {
-        [] => Ok(()),
-        _ => {
-            push_hatches_line(out, hatches)?;
-            out.push(b'\n')?;
-            Ok(())
+        [] => {}
+        [_, ..] => {
+            push_hatches_line(out, hatches);
+            out.byte(b'\n');
         }
     }
 }
 
 // `$$HATCHES/1,n,sx,sy,ex,ey,..`
-fn push_hatches_line(out: &mut Vec<u8>, hatches: &[Edge]) -> Result<(), AllocError>
-    ensures ok { OnOk result (out.new.items ≡ out.old.items ++ hatches_line hatches.now) }
-    ensures err { OnErr result (BeginsWith out.old.items out.new.items) }
+fn push_hatches_line(out: &mut Printer, hatches: &[Edge])
+    ensures { Adds (hatches_line hatches.now) out.old out.new }
 {
-    push_hatches_start(out)?;
-    push_number(out, hatches.len() as u64)?;
-    push_each_hatch(out, hatches)
+    push_hatches_start(out);
+    out.number(hatches.len() as u64);
+    push_each_hatch(out, hatches);
 }
 
 #[tactic(auto, unfolding(crate::specs::Cli::hatches_start))]
-fn push_hatches_start(out: &mut Vec<u8>) -> Result<(), AllocError>
-    ensures ok { OnOk result (out.new.items ≡ out.old.items ++ hatches_start) }
-    ensures err { OnErr result (out.new.items ≡ out.old.items) }
+fn push_hatches_start(out: &mut Printer)
+    ensures { Adds hatches_start out.old out.new }
 {
-    out.extend_from_slice(b"$$HATCHES/1,")
+    out.put(b"$$HATCHES/1,");
 }
 
-fn push_each_hatch(out: &mut Vec<u8>, hatches: &[Edge]) -> Result<(), AllocError>
-    ensures ok { OnOk result (out.new.items ≡ out.old.items ++ flat_map hatch_text hatches.now) }
-    ensures err { OnErr result (BeginsWith out.old.items out.new.items) }
+fn push_each_hatch(out: &mut Printer, hatches: &[Edge])
+    ensures { Adds (flat_map hatch_text hatches.now) out.old out.new }
 {
     'hatches: for hatch in hatches {
-        push_hatch(out, *hatch)?;
+        push_hatch(out, *hatch);
     }
-    Ok(())
 }
 
-fn push_hatch(out: &mut Vec<u8>, hatch: Edge) -> Result<(), AllocError>
-    ensures ok { OnOk result (out.new.items ≡ out.old.items ++ hatch_text hatch) }
-    ensures err { OnErr result (BeginsWith out.old.items out.new.items) }
+fn push_hatch(out: &mut Printer, hatch: Edge)
+    ensures { Adds (hatch_text hatch) out.old out.new }
 {
-    push_point(out, hatch.a)?;
-    push_point(out, hatch.b)
+    push_point(out, hatch.a);
+    push_point(out, hatch.b);
 }

@@ -1,5 +1,5 @@
 -- One digit, one move and one path more.
-use Rattle.std.proofs.Common.{◌≡◌, ℕ, zero, suc, ◌+◌, ◌-◌, ◌*◌, ◌/◌, ◌%◌, ◌<◌, ◌≤◌, List, [], ◌∷◌, ◌++◌, length, drop, get_or, min, refl, ap, sym, ◌∙◌, arith, add-one, append_assoc, append-nil, OnErr, Result, Ok, Err}
+use Rattle.std.proofs.Common.{◌≡◌, ℕ, zero, suc, ◌+◌, ◌-◌, ◌*◌, ◌/◌, ◌%◌, ◌<◌, ◌≤◌, List, [], ◌∷◌, ◌++◌, length, drop, get_or, min, refl, ap, sym, ◌∙◌, arith, add-one}
 use Rattle.std.specs.List.{sum_by}
 use Rattle.std.proofs.Math.Seq.{drop-cons}
 use Rattle.std.proofs.Math.ListN.{drop_of_length-le}
@@ -12,11 +12,11 @@ use Rattle.gcode_text.specs.Gcode.{print_line, moves_text, path_text, paths_text
 
 -- ---- digits
 
-pub last_digits_more : (out : List ℕ) (places n : ℕ) → 0 < places →
-    (out ++ last_digits (places - 1) (n / 10)) ++ (48 + n % 10) ∷ [] ≡ out ++ last_digits places n
+pub last_digits_more : (places n : ℕ) → 0 < places →
+    last_digits (places - 1) (n / 10) ++ (48 + n % 10) ∷ [] ≡ last_digits places n
 unfolding last_digits
-last_digits_more out zero n h = absurd (omega arith)
-last_digits_more out (suc places) n h = let e : suc places - 1 ≡ places = omega arith in rw (e, append_assoc) refl
+last_digits_more zero n h = absurd (omega arith)
+last_digits_more (suc places) n h = let e : suc places - 1 ≡ places = omega arith in rw e refl
 
 -- ---- moves
 
@@ -51,14 +51,11 @@ pub points_at : (paths : List (List Pt)) (i : ℕ) (d : List Pt) → i < length 
 points_at paths i d h = ap (sum_by length) (drop-cons paths i d h) ∙ sum_by-cons length (get_or paths i d)
     (drop (suc i) paths)
 
-pub next_move_text : (out more all : List ℕ) (rates : Rates) (v w : ℕ) (from : Pt) (ps : List Pt) (i : ℕ) (d : Pt)
-    → i < length ps →
-    out ++ moves_text rates v from (drop i ps) ≡ all →
+pub next_move_text : (rates : Rates) (v w : ℕ) (from : Pt) (ps : List Pt) (i : ℕ) (d : Pt) → i < length ps →
     w ≡ v + move_volume rates from (get_or ps i d) →
-    more ≡ out ++ print_line rates (get_or ps i d) (filament rates (v + move_volume rates from (get_or ps i d))) →
-    more ++ moves_text rates w (get_or ps i d) (drop (i + 1) ps) ≡ all
-next_move_text out more all rates v w from ps i d h k ev eo =
-    let at = moves_text_at rates v from ps i d h in rw (eo, ev, add-one, append_assoc, ← at) k
+    print_line rates (get_or ps i d) (filament rates (v + move_volume rates from (get_or ps i d)))
+    ++ moves_text rates w (get_or ps i d) (drop (i + 1) ps) ≡ moves_text rates v from (drop i ps)
+next_move_text rates v w from ps i d h ev = let at = moves_text_at rates v from ps i d h in rw (ev, add-one, at) refl
 
 pub next_move_volume : (rates : Rates) (v w all : ℕ) (from : Pt) (ps : List Pt) (i : ℕ) (d : Pt) → i < length ps →
     v + moves_volume rates from (drop i ps) ≡ all →
@@ -67,11 +64,10 @@ pub next_move_volume : (rates : Rates) (v w all : ℕ) (from : Pt) (ps : List Pt
 next_move_volume rates v w all from ps i d h k ev =
     let at = moves_volume_at rates from ps i d h in rw add-one (omega arith)
 
-pub no_more_moves : (out all : List ℕ) (rates : Rates) (v : ℕ) (from : Pt) (ps : List Pt) (i : ℕ) → length ps ≤ i →
-    out ++ moves_text rates v from (drop i ps) ≡ all → out ≡ all
+pub no_more_moves : (rates : Rates) (v : ℕ) (from : Pt) (ps : List Pt) (i : ℕ) → length ps ≤ i →
+    [] ≡ moves_text rates v from (drop i ps)
 unfolding moves_text
-no_more_moves out all rates v from ps i h k =
-    sym (append-nil out) ∙ ap (λ (xs : List Pt). out ++ moves_text rates v from xs) (sym (drop_of_length-le ps h)) ∙ k
+no_more_moves rates v from ps i h = sym (ap (moves_text rates v from) (drop_of_length-le ps h))
 
 pub no_more_volume : (rates : Rates) (v all : ℕ) (from : Pt) (ps : List Pt) (i : ℕ) → length ps ≤ i →
     v + moves_volume rates from (drop i ps) ≡ all → v ≡ all
@@ -82,14 +78,12 @@ no_more_volume rates v all from ps i h k =
 
 -- ---- paths
 
-pub next_path_text : (out more all : List ℕ) (rates : Rates) (v w : ℕ) (paths : List (List Pt)) (i : ℕ)
+pub next_path_text : (rates : Rates) (v w : ℕ) (paths : List (List Pt)) (i : ℕ)
     (path d : List Pt) → i < length paths → path ≡ get_or paths i d →
-    out ++ paths_text rates v (drop i paths) ≡ all →
     w ≡ v + path_volume rates path →
-    more ≡ out ++ path_text rates v path →
-    more ++ paths_text rates w (drop (i + 1) paths) ≡ all
-next_path_text out more all rates v w paths i path d h e k ev eo =
-    let at = paths_text_at rates v paths i d h in rw (eo, ev, e, add-one, append_assoc, ← at) k
+    path_text rates v path ++ paths_text rates w (drop (i + 1) paths) ≡ paths_text rates v (drop i paths)
+next_path_text rates v w paths i path d h e ev =
+    let at = paths_text_at rates v paths i d h in rw (ev, e, add-one, at) refl
 
 pub next_path_volume : (rates : Rates) (v w all : ℕ) (paths : List (List Pt)) (i : ℕ) (path d : List Pt)
     → i < length paths → path ≡ get_or paths i d →
@@ -99,12 +93,10 @@ pub next_path_volume : (rates : Rates) (v w all : ℕ) (paths : List (List Pt)) 
 next_path_volume rates v w all paths i path d h e k ev =
     let at = paths_volume_at rates paths i d h in let f = ap (path_volume rates) e in rw add-one (omega arith)
 
-pub no_more_paths : (out all : List ℕ) (rates : Rates) (v : ℕ) (paths : List (List Pt)) (i : ℕ) → length paths ≤ i →
-    out ++ paths_text rates v (drop i paths) ≡ all → out ≡ all
+pub no_more_paths : (rates : Rates) (v : ℕ) (paths : List (List Pt)) (i : ℕ) → length paths ≤ i →
+    [] ≡ paths_text rates v (drop i paths)
 unfolding paths_text
-no_more_paths out all rates v paths i h k =
-    sym (append-nil out) ∙ ap (λ (xs : List (List Pt)). out ++ paths_text rates v xs) (sym (drop_of_length-le paths h))
-    ∙ k
+no_more_paths rates v paths i h = sym (ap (paths_text rates v) (drop_of_length-le paths h))
 
 pub no_more_paths_volume : (rates : Rates) (v all : ℕ) (paths : List (List Pt)) (i : ℕ) → length paths ≤ i →
     v + paths_volume rates (drop i paths) ≡ all → v ≡ all

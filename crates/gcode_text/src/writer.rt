@@ -2,17 +2,17 @@
 ghost use Rattle.std.specs.Prelude.{◌≡◌, ◌+◌, ◌^◌, ◌<◌, ◌≤◌, List, ◌++◌, length, OnOk, OnErr};
 ghost use Rattle.std.specs.List.{sum_by};
 ghost use Rattle.scad_geom.specs.declared.point.Pt.{Pt};
+ghost use Rattle.text_scan.specs.Printing.{Adds};
 ghost use Rattle.gcode_text.specs.Limits.{width_limit, height_limit, volume_limit};
 ghost use Rattle.gcode_text.specs.Amount.{paths_volume};
 ghost use Rattle.gcode_text.specs.Gcode.{setup, home, head, layer_text, supports_text, end};
-ghost use Rattle.scad_base.specs.Appends.{BeginsWith};
 
 use crate::layer::{push_layer, push_supports};
 use crate::rates::Rates;
 use crate::word::push_heat;
 use scad_geom::Path;
 use std::alloc::AllocError;
-use text_scan::whole_or_nothing;
+use text_scan::Printer;
 
 /// Appends the head of a program, with the temperatures of the hot end and of the bed in degrees Celsius. Where
 /// memory runs out, `out` is as it was.
@@ -21,8 +21,9 @@ pub fn write_head(out: &mut Vec<u8>, hot_end: u32, bed: u32) -> Result<(), Alloc
     ensures err { OnErr result (out.new.items ≡ out.old.items) }
 {
     let kept = out.len();
-    let written = push_head(out, hot_end, bed);
-    whole_or_nothing(out, kept, written)
+    let mut printer = Printer::behind(out);
+    push_head(&mut printer, hot_end, bed);
+    printer.hand_back(out, kept)
 }
 
 /// Appends the lines of a layer. `volume` is that of all extruding moves so far, in cubic micrometres, and rises
@@ -46,12 +47,13 @@ pub fn write_layer(
     ensures kept { OnErr result (volume.new ≡ volume.old) }
 {
     let kept = out.len();
-    let mut sum = *volume;
-    let written = push_layer(out, layer, paths, rates, &mut sum);
+    let mut printer = Printer::behind(out);
+    let sum = push_layer(&mut printer, layer, paths, rates, *volume);
+    let written = printer.hand_back(out, kept);
     if written.is_ok() {
         *volume = sum;
     }
-    whole_or_nothing(out, kept, written)
+    written
 }
 
 /// Appends the lines of supports, behind those of their layer: a comment and their paths; nothing where there are none.
@@ -74,12 +76,13 @@ pub fn write_supports(
     ensures kept { OnErr result (volume.new ≡ volume.old) }
 {
     let kept = out.len();
-    let mut sum = *volume;
-    let written = push_supports(out, paths, rates, &mut sum);
+    let mut printer = Printer::behind(out);
+    let sum = push_supports(&mut printer, paths, rates, *volume);
+    let written = printer.hand_back(out, kept);
     if written.is_ok() {
         *volume = sum;
     }
-    whole_or_nothing(out, kept, written)
+    written
 }
 
 /// Appends the end of a program. Where memory runs out, `out` is as it was.
@@ -91,30 +94,27 @@ pub fn write_end(out: &mut Vec<u8>) -> Result<(), AllocError>
     out.extend_from_slice(b"M104 S0\nM140 S0\nM84\n")
 }
 
-fn push_head(out: &mut Vec<u8>, hot_end: u32, bed: u32) -> Result<(), AllocError>
-    ensures ok { OnOk result (out.new.items ≡ out.old.items ++ head hot_end bed) }
-    ensures err { OnErr result (BeginsWith out.old.items out.new.items) }
+fn push_head(out: &mut Printer, hot_end: u32, bed: u32)
+    ensures { Adds (head hot_end bed) out.old out.new }
 {
-    push_setup(out)?;
-    push_heat(out, b"M140", bed)?;
-    push_heat(out, b"M104", hot_end)?;
-    push_heat(out, b"M190", bed)?;
-    push_heat(out, b"M109", hot_end)?;
-    push_home(out)
+    push_setup(out);
+    push_heat(out, b"M140", bed);
+    push_heat(out, b"M104", hot_end);
+    push_heat(out, b"M190", bed);
+    push_heat(out, b"M109", hot_end);
+    push_home(out);
 }
 
 #[tactic(auto, unfolding(crate::specs::Gcode::setup))]
-fn push_setup(out: &mut Vec<u8>) -> Result<(), AllocError>
-    ensures ok { OnOk result (out.new.items ≡ out.old.items ++ setup) }
-    ensures err { OnErr result (out.new.items ≡ out.old.items) }
+fn push_setup(out: &mut Printer)
+    ensures { Adds setup out.old out.new }
 {
-    out.extend_from_slice(b"; scadslice\nG21\nG90\nM82\nM107\n")
+    out.put(b"; scadslice\nG21\nG90\nM82\nM107\n");
 }
 
 #[tactic(auto, unfolding(crate::specs::Gcode::home))]
-fn push_home(out: &mut Vec<u8>) -> Result<(), AllocError>
-    ensures ok { OnOk result (out.new.items ≡ out.old.items ++ home) }
-    ensures err { OnErr result (out.new.items ≡ out.old.items) }
+fn push_home(out: &mut Printer)
+    ensures { Adds home out.old out.new }
 {
-    out.extend_from_slice(b"G28\nG92 E0\n")
+    out.put(b"G28\nG92 E0\n");
 }

@@ -11,8 +11,8 @@ use Rattle.scad_ast.specs.Tree.{Item as TreeItem}
 use Rattle.scad_ast.specs.View.{expression_at, expression_of, element_of}
 use Rattle.scad_ast.specs.Scope.{item_of, body_of}
 use Rattle.scad_ast.specs.Text.{expression_text, element_text, item_text}
-use Rattle.scad_ast.specs.Printing.{Printed, Adds}
-use Rattle.scad_ast.proofs.Printed.{that}
+use Rattle.text_scan.specs.Printing.{Printed, Adds}
+use Rattle.text_scan.proofs.Printed.{that}
 
 pub expression_is : (e : Expr) {n : Node} {tree : Expression} {o1 o2 : Printed} → e.node ≡ n
     → expression_at e.at n ≡ tree → Adds (expression_text tree) o1 o2 → Adds (expression_text (expression_of e)) o1 o2

@@ -2,4 +2,3 @@ pub mod Scope
 pub mod Tree
 pub mod View
 pub mod Text
-pub mod Printing

@@ -4,15 +4,14 @@ ghost use Rattle.scad_ast.specs.Text.{items_text};
 ghost use Rattle.scad_ast.specs.Scope.{program_of};
 
 mod expression;
-mod printer;
 mod statement;
 mod token;
 
 use crate::statement::Program;
-use printer::Printer;
 use scad_fault::Text;
 use statement::write_items;
 use std::alloc::{AllocError, Global};
+use text_scan::Printer;
 
 /// The text of a program: a blank behind each token, a line feed behind `;`, `{` and `}`, and operands in parentheses
 /// unless they are literals, names, calls, vectors, ranges, indices or members.
@@ -21,5 +20,5 @@ pub fn print(alloc: Global, program: &Program) -> Result<Text, AllocError>
 {
     let mut out = Printer::new(alloc);
     write_items(&mut out, &program.scope);
-    out.finish()
+    Ok(Text::from_vec(out.finish()?))
 }

@@ -5,7 +5,7 @@ use Rattle.std.proofs.lemmas.List.{drop_all}
 use Rattle.std.specs.declared.rc.Rc.{Rc}
 use Rattle.std.specs.Prelude.{◌&&◌}
 use Rattle.std.proofs.Math.Bool.{and-false}
-use Rattle.scad_ast.proofs.Printed.{next}
+use Rattle.text_scan.proofs.Printed.{next}
 use Rattle.scad_value.specs.declared.value.Value.{Value, List as ListValue}
 use Rattle.scad_value.specs.Comparison.{equal, equal_all}
 use Rattle.scad_value.specs.View.{datum_of, elements}

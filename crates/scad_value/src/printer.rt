@@ -1,13 +1,13 @@
 //! Code points that are written piece by piece, and whether there was memory for them.
 
 ghost use Rattle.std.specs.Prelude.{[], ◌∷◌, IfOk};
-ghost use Rattle.scad_ast.specs.Printing.{Holds, Adds};
+ghost use Rattle.text_scan.specs.Printing.{Holds, Adds};
 
 use std::alloc::{AllocError, Global};
 use std::marker::Model;
 
-/// The code points so far. Where memory is wanting the printer remembers it, and they are of no meaning from then on: so
-/// what prints a part may not fail, and `finish` tells at the end.
+/// The code points so far. Where memory is wanting the printer remembers it, and what it adds is of no meaning from
+/// then on: so what prints a part can't fail, and `finish` tells at the end.
 #[derive(Drop)]
 pub(crate) struct Printer {
     chars: Vec<char>,
@@ -15,7 +15,7 @@ pub(crate) struct Printer {
 }
 
 impl Model for Printer {
-    ghost use Rattle.scad_ast.specs.Printing.{Printed};
+    ghost use Rattle.text_scan.specs.Printing.{Printed};
 
     ghost Value = { Printed };
 

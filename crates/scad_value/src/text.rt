@@ -3,7 +3,7 @@
 ghost use Rattle.std.specs.Prelude.{◌≡◌, true, ◌∷◌, ◌++◌, IfOk, OnOk, OnErr, encode_utf8_all};
 ghost use Rattle.scad_base.specs.Characters.{open_square};
 ghost use Rattle.scad_num.specs.Text.{number_text};
-ghost use Rattle.scad_ast.specs.Printing.{Adds};
+ghost use Rattle.text_scan.specs.Printing.{Adds};
 ghost use Rattle.scad_ast.specs.Text.{boolean_text, separator};
 ghost use Rattle.scad_value.specs.Texts.{quoted_text, range_text, text, elements_text};
 ghost use Rattle.scad_value.specs.View.{datum_of, elements};

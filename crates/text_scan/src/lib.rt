@@ -1,16 +1,17 @@
-//! Marks in bytes, by which lines and words are parted, numbers in decimal, and texts that are appended whole or not at all.
+//! Marks in bytes, by which lines and words are parted, numbers in decimal, and texts that are written piece by piece.
 //!
-//! The contracts promise the place of the first mark, exactly the digits, and that what is cut back is the text before.
+//! The contracts promise the place of the first mark, exactly the digits and the pieces, and that a text that is cut
+//! back is the one before.
 #![tactic(auto)]
 
 mod number;
-mod writing;
+mod printer;
 
 ghost use Rattle.std.specs.Prelude.{◌≡◌, ◌≤◌, length};
 ghost use Rattle.text_scan.specs.Marks.{first_at};
 
 pub use number::push_number;
-pub use writing::whole_or_nothing;
+pub use printer::Printer;
 
 /// Where the first mark stands, or the length where there is none.
 pub fn first_at(bytes: &[u8], mark: u8) -> usize

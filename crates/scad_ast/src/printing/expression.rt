@@ -3,14 +3,15 @@ ghost use Rattle.std.specs.Prelude.{◌≡◌, ◌++◌, codes, true};
 ghost use Rattle.scad_fault.specs.declared.place.Place.{Place};
 ghost use Rattle.scad_ast.specs.Text.{spaced, expression_text, enclosed, in_parentheses, stands_alone, arguments_text, elements_text, element_text, argument_name};
 ghost use Rattle.scad_ast.specs.View.{expression_of, expression_at, arguments, elements, element_of};
-ghost use Rattle.scad_ast.specs.Printing.{Adds};
+ghost use Rattle.text_scan.specs.Printing.{Adds};
 
-use super::printer::Printer;
 use super::token::{
     write_boolean, write_number, write_operator, write_prefix, write_separator, write_string,
+    write_token, write_word,
 };
 use crate::expression::{Args, Elem, Elems, Expr, Node};
 use scad_fault::Text;
+use text_scan::Printer;
 
 /// Appends the text of an expression.
 #[cycle(expressions)]
@@ -18,22 +19,22 @@ pub fn write_expression(out: &mut Printer, e: &Expr)
     ensures { Adds (expression_text (expression_of e.now)) out.old out.new }
 {
     match &e.node {
-        Node::Undef => out.token(b"undef"),
+        Node::Undef => write_token(out, b"undef"),
         Node::Bool(b) => write_boolean(out, *b),
         Node::Number(number) => write_number(out, *number),
         Node::Str(chars) => write_string(out, chars),
-        Node::Name(word) => out.word(word),
+        Node::Name(word) => write_word(out, word),
         Node::List(elems) => {
-            out.token(b"[");
+            write_token(out, b"[");
             write_elements(out, elems);
-            out.token(b"]");
+            write_token(out, b"]");
         }
         Node::Range(start, step, end) => {
             write_within(out, b"[", start, b":");
             match step {
                 None => {
                     write_expression(out, end);
-                    out.token(b"]");
+                    write_token(out, b"]");
                 }
                 Some(step) => {
                     write_expression(out, step);
@@ -61,8 +62,8 @@ pub fn write_expression(out: &mut Printer, e: &Expr)
         }
         Node::Member(base, word) => {
             write_operand(out, base);
-            out.token(b".");
-            out.word(word);
+            write_token(out, b".");
+            write_word(out, word);
         }
         Node::Call(word, args) => write_call(out, word.as_slice(), args),
         Node::Let(args, body) => {
@@ -85,9 +86,9 @@ pub fn write_expression(out: &mut Printer, e: &Expr)
 fn write_within(out: &mut Printer, before: &[u8], e: &Expr, behind: &[u8])
     ensures { Adds (spaced before.now ++ expression_text (expression_of e.now) ++ spaced behind.now) out.old out.new }
 {
-    out.token(before);
+    write_token(out, before);
     write_expression(out, e);
-    out.token(behind);
+    write_token(out, behind);
 }
 
 // `word(arguments)`
@@ -97,10 +98,10 @@ pub fn write_call(out: &mut Printer, word: &[u8], args: &Args)
     ensures { Adds (spaced word.now ++ in_parentheses (arguments_text true (arguments args.now.items)))
         out.old out.new }
 {
-    out.token(word);
-    out.token(b"(");
+    write_token(out, word);
+    write_token(out, b"(");
     write_arguments(out, args);
-    out.token(b")");
+    write_token(out, b")");
 }
 
 // An operand, in parentheses unless it may stand alone.
@@ -149,8 +150,8 @@ fn write_argument_name(out: &mut Printer, name: &Option<Text>)
     match name {
         None => {}
         Some(word) => {
-            out.word(word);
-            out.token(b"=");
+            write_word(out, word);
+            write_token(out, b"=");
         }
     }
 }
@@ -174,7 +175,7 @@ fn write_element(out: &mut Printer, elem: &Elem)
     match elem {
         Elem::Item(e) => write_expression(out, e),
         Elem::Each(elem, _) => {
-            out.token(b"each");
+            write_token(out, b"each");
             write_element(out, elem);
         }
         Elem::For(args, elem, _) => {
@@ -184,11 +185,11 @@ fn write_element(out: &mut Printer, elem: &Elem)
         Elem::Loop(starts, test, steps, elem, _) => {
             out.put(b"for ( ");
             write_arguments(out, starts);
-            out.token(b";");
+            write_token(out, b";");
             write_expression(out, test);
-            out.token(b";");
+            write_token(out, b";");
             write_arguments(out, steps);
-            out.token(b")");
+            write_token(out, b")");
             write_element(out, elem);
         }
         Elem::Let(args, elem, _) => {
@@ -201,7 +202,7 @@ fn write_element(out: &mut Printer, elem: &Elem)
             match other {
                 None => {}
                 Some(other) => {
-                    out.token(b"else");
+                    write_token(out, b"else");
                     write_element(out, other);
                 }
             }
@@ -215,6 +216,6 @@ fn write_element(out: &mut Printer, elem: &Elem)
 pub fn write_test(out: &mut Printer, test: &Expr)
     ensures { Adds (codes "if " ++ in_parentheses (expression_text (expression_of test.now))) out.old out.new }
 {
-    out.token(b"if");
+    write_token(out, b"if");
     write_within(out, b"(", test, b")");
 }

@@ -3,14 +3,14 @@ ghost use Rattle.std.specs.Prelude.{◌++◌, List, Option, codes, map, true};
 ghost use Rattle.scad_ast.specs.Text.{spaced, in_parentheses, expression_text, default_text, parameters_text, in_braces, body, otherwise, items_text, item_text};
 ghost use Rattle.scad_ast.specs.View.{expression_of};
 ghost use Rattle.scad_ast.specs.Scope.{item_of, body_of, items, parameter};
-ghost use Rattle.scad_ast.specs.Printing.{Adds};
+ghost use Rattle.text_scan.specs.Printing.{Adds};
 
 use super::expression::{write_call, write_expression, write_test};
-use super::printer::Printer;
-use super::token::{write_marks, write_separator};
+use super::token::{write_marks, write_separator, write_token, write_word};
 use crate::expression::Expr;
 use crate::statement::{Item, Param, Params, Scope, Stmt, StmtBody};
 use scad_fault::Text;
+use text_scan::Printer;
 
 /// Appends the text of a scope's items.
 #[cycle(statements)]
@@ -28,7 +28,7 @@ fn write_item(out: &mut Printer, item: &Item)
 {
     match item {
         Item::Assign(word, value, _) => {
-            out.word(word);
+            write_word(out, word);
             write_value(out, value);
         }
         Item::Module(word, params, scope, _) => {
@@ -47,7 +47,7 @@ fn write_item(out: &mut Printer, item: &Item)
 fn write_value(out: &mut Printer, value: &Expr)
     ensures { Adds (codes "= " ++ expression_text (expression_of value.now) ++ codes ";\n") out.old out.new }
 {
-    out.token(b"=");
+    write_token(out, b"=");
     write_expression(out, value);
     out.put(b";\n");
 }
@@ -57,11 +57,11 @@ fn write_signature(out: &mut Printer, key: &[u8], word: &Text, params: &Params)
     ensures { Adds (spaced key.now ++ spaced word.now
         ++ in_parentheses (parameters_text true (map parameter params.now.items))) out.old out.new }
 {
-    out.token(key);
-    out.word(word);
-    out.token(b"(");
+    write_token(out, key);
+    write_word(out, word);
+    write_token(out, b"(");
     write_params(out, params);
-    out.token(b")");
+    write_token(out, b")");
 }
 
 fn write_params(out: &mut Printer, params: &Params)
@@ -70,7 +70,7 @@ fn write_params(out: &mut Printer, params: &Params)
     let mut first = true;
     'params: for param in params {
         write_separator(out, first);
-        out.word(&param.name);
+        write_word(out, &param.name);
         write_default(out, param);
         first = false;
     }
@@ -82,7 +82,7 @@ fn write_default(out: &mut Printer, param: &Param)
     match &param.default {
         None => {}
         Some(value) => {
-            out.token(b"=");
+            write_token(out, b"=");
             write_expression(out, value);
         }
     }
@@ -115,7 +115,7 @@ fn write_otherwise(out: &mut Printer, scope: &Scope)
     ensures { Adds (otherwise (items scope.now.items) (items_text (items scope.now.items))) out.old out.new }
 {
     if !scope.is_empty() {
-        out.token(b"else");
+        write_token(out, b"else");
         write_in_braces(out, scope);
     }
 }

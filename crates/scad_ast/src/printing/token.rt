@@ -3,18 +3,33 @@ ghost use Rattle.std.specs.Prelude.{◌≡◌};
 ghost use Rattle.std.specs.List.{flat_map};
 ghost use Rattle.scad_num.specs.Text.{number_text};
 ghost use Rattle.scad_ast.specs.Text.{spaced, character_text, string_text, boolean_text, prefix_text, operator_text, separator, marks_text};
-ghost use Rattle.scad_ast.specs.Printing.{Adds};
+ghost use Rattle.text_scan.specs.Printing.{Adds};
 
-use super::printer::Printer;
 use crate::operator::{BinOp, UnOp};
-use scad_fault::Chars;
+use scad_fault::{Chars, Text};
 use scad_num::Num;
+use text_scan::Printer;
+
+/// Appends a token and a blank.
+pub fn write_token(out: &mut Printer, token: &[u8])
+    ensures { Adds (spaced token.now) out.old out.new }
+{
+    out.put(token);
+    out.put(b" ");
+}
+
+/// Appends a word and a blank.
+pub fn write_word(out: &mut Printer, word: &Text)
+    ensures { Adds (spaced word.now) out.old out.new }
+{
+    write_token(out, word.as_slice());
+}
 
 /// Appends a number and a blank.
 pub fn write_number(out: &mut Printer, number: Num)
     ensures { Adds (spaced (number_text number)) out.old out.new }
 {
-    out.token(number.text().as_slice());
+    write_token(out, number.text().as_slice());
 }
 
 /// Appends `true` or `false` and a blank.
@@ -22,9 +37,9 @@ pub fn write_boolean(out: &mut Printer, b: bool)
     ensures { Adds (spaced (boolean_text b)) out.old out.new }
 {
     if b {
-        out.token(b"true");
+        write_token(out, b"true");
     } else {
-        out.token(b"false");
+        write_token(out, b"false");
     }
 }
 
@@ -34,7 +49,7 @@ pub fn write_string(out: &mut Printer, chars: &Chars)
 {
     out.put(b"\"");
     write_characters(out, chars.as_slice());
-    out.token(b"\"");
+    write_token(out, b"\"");
 }
 
 fn write_characters(out: &mut Printer, chars: &[char])
@@ -62,9 +77,9 @@ pub fn write_prefix(out: &mut Printer, op: UnOp)
     ensures { Adds (spaced (prefix_text op)) out.old out.new }
 {
     match op {
-        UnOp::Not => out.token(b"!"),
-        UnOp::Plus => out.token(b"+"),
-        UnOp::Minus => out.token(b"-"),
+        UnOp::Not => write_token(out, b"!"),
+        UnOp::Plus => write_token(out, b"+"),
+        UnOp::Minus => write_token(out, b"-"),
     }
 }
 
@@ -92,7 +107,7 @@ fn operator_word(op: BinOp) -> &'static [u8]
 pub fn write_operator(out: &mut Printer, op: BinOp)
     ensures { Adds (spaced (operator_text op)) out.old out.new }
 {
-    out.token(operator_word(op));
+    write_token(out, operator_word(op));
 }
 
 /// Appends a comma before each member of a list but the first.
@@ -100,7 +115,7 @@ pub fn write_separator(out: &mut Printer, first: bool)
     ensures { Adds (separator first) out.old out.new }
 {
     if !first {
-        out.token(b",");
+        write_token(out, b",");
     }
 }
 
@@ -109,9 +124,9 @@ pub fn write_marks(out: &mut Printer, percent: bool, hash: bool)
     ensures { Adds (marks_text percent hash) out.old out.new }
 {
     if percent {
-        out.token(b"%");
+        write_token(out, b"%");
     }
     if hash {
-        out.token(b"#");
+        write_token(out, b"#");
     }
 }

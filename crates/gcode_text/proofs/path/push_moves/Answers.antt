@@ -1,40 +1,38 @@
-use Rattle.std.proofs.Common.{pos, arith}
-use Rattle.scad_base.proofs.Results.{on_err}
-use Rattle.scad_base.proofs.Appends.{begins_more, begins_on}
+use Rattle.std.proofs.Common.{pos, refl, arith}
+use Rattle.text_scan.proofs.Printed.{none, two, that}
 use Rattle.gcode_text.proofs.Steps.{next_move_text, next_move_volume, no_more_moves, no_more_volume}
 use Rattle.gcode_text.proofs.path.push_moves.Goals as goal
 
+pub points-init : goal.points-init
+points-init c = record { text = λ end rest. rest; volume = refl; small = omega arith }
+
 pub points-preserved : goal.points-preserved
 points-preserved c = record {
-  text = next_move_text c.points.out.items c.push_move.new.out.items _ c.args.rates.now c.points.volume
-      c.push_move.new.volume c.points.from
-      c.args.rest.now c.points.to-index (record { x = pos 0; y = pos 0 }) (omega arith) c.points.invariant.text
-      c.push_move.ensures.volume c.in_ok-push_move.ensures.ok;
-  volume = next_move_volume c.args.rates.now c.points.volume c.push_move.new.volume _ c.points.from c.args.rest.now
-      c.points.to-index
-      (record { x = pos 0; y = pos 0 }) (omega arith) c.points.invariant.volume c.push_move.ensures.volume;
+  text = λ end rest. c.points.invariant.text end (that (next_move_text c.args.rates.now c.points.sum
+      c.push_move-sum.result c.points.from c.args.rest.now c.points.to-index (record { x = pos 0; y = pos 0 })
+      c.points-test.true c.push_move-sum.ensures.volume) (two c.push_move-sum.ensures.text rest));
+  volume = next_move_volume c.args.rates.now c.points.sum c.push_move-sum.result _ c.points.from c.args.rest.now
+      c.points.to-index (record { x = pos 0; y = pos 0 }) c.points-test.true c.points.invariant.volume
+      c.push_move-sum.ensures.volume;
   small = omega arith;
-  begins = begins_more _ c.points.invariant.begins c.in_ok-push_move.ensures.ok;
 }
 
-pub returns-in_err-push_move-clause-err : goal.returns-in_err-push_move-clause-err
-returns-in_err-push_move-clause-err c = on_err _ (begins_on c.points.invariant.begins c.in_err-push_move.ensures.err)
-
-pub returns-clause-ok : goal.returns-clause-ok
-returns-clause-ok c =
-    no_more_moves c.points.out.items _ c.args.rates.now c.points.volume c.points.from c.args.rest.now c.points.to-index
-    (omega arith) c.points.invariant.text
+pub returns-clause-text : goal.returns-clause-text
+returns-clause-text c =
+    c.points.invariant.text _
+    (that (no_more_moves c.args.rates.now c.points.sum c.points.from c.args.rest.now c.points.to-index
+    c.points-test.false) (none c.points.out))
 
 pub returns-clause-volume : goal.returns-clause-volume
 returns-clause-volume c =
-    no_more_volume c.args.rates.now c.points.volume _ c.points.from c.args.rest.now c.points.to-index (omega arith)
+    no_more_volume c.args.rates.now c.points.sum _ c.points.from c.args.rest.now c.points.to-index c.points-test.false
     c.points.invariant.volume
 
-pub push_move-requires-clause-width : goal.push_move-requires-clause-width
-push_move-requires-clause-width c = c.requires.width
+pub push_move-sum-requires-clause-width : goal.push_move-sum-requires-clause-width
+push_move-sum-requires-clause-width c = c.requires.width
 
-pub push_move-requires-clause-height : goal.push_move-requires-clause-height
-push_move-requires-clause-height c = c.requires.height
+pub push_move-sum-requires-clause-height : goal.push_move-sum-requires-clause-height
+push_move-sum-requires-clause-height c = c.requires.height
 
-pub push_move-requires-clause-area : goal.push_move-requires-clause-area
-push_move-requires-clause-area c = c.requires.area
+pub push_move-sum-requires-clause-area : goal.push_move-sum-requires-clause-area
+push_move-sum-requires-clause-area c = c.requires.area

@@ -1,7 +1,7 @@
 -- A vector is printed element by element.
 use Rattle.std.proofs.Common.{◌∷◌, ◌∙◌, true, refl, sym, ap}
 use Rattle.scad_base.specs.Characters.{open_square}
-use Rattle.scad_ast.proofs.Printed.{two, three, that, next, last}
+use Rattle.text_scan.proofs.Printed.{two, three, that, next, last}
 use Rattle.scad_value.specs.Texts.{text, elements_text}
 use Rattle.scad_value.specs.View.{elements}
 use Rattle.scad_value.proofs.Rows.{at_vector, items_in}

@@ -1,7 +1,7 @@
 -- What is left to print makes the whole.
 use Rattle.std.proofs.Common.{◌∷◌, true, drop}
 use Rattle.scad_base.specs.Characters.{open_square}
-use Rattle.scad_ast.specs.Printing.{Printed, Adds}
+use Rattle.text_scan.specs.Printing.{Printed, Adds}
 use Rattle.scad_value.specs.Texts.{elements_text}
 use Rattle.scad_value.specs.View.{elements}
 use Rattle.scad_value.proofs.text.+text.Given as goal

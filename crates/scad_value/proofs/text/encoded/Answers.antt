@@ -1,7 +1,7 @@
 -- The bytes of the next character go behind those before it.
 use Rattle.std.proofs.Common.{List, ℕ, ◌+◌, ◌++◌, ◌∙◌, drop, refl, ap, string_bytes, encode_utf8, encode_utf8_all}
 use Rattle.std.proofs.lemmas.List.{append_assoc}
-use Rattle.scad_ast.proofs.Printed.{next}
+use Rattle.text_scan.proofs.Printed.{next}
 use Rattle.scad_value.proofs.text.encoded.Goals as goal
 
 pub chars-preserved : goal.chars-preserved

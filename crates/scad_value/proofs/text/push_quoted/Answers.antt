@@ -1,4 +1,4 @@
-use Rattle.scad_ast.proofs.Printed.{three}
+use Rattle.text_scan.proofs.Printed.{three}
 use Rattle.scad_value.proofs.text.push_quoted.Goals as goal
 
 pub returns : goal.returns

@@ -1,4 +1,4 @@
-use Rattle.scad_ast.proofs.Printed.{four}
+use Rattle.text_scan.proofs.Printed.{four}
 use Rattle.scad_value.proofs.text.push_range.Goals as goal
 
 pub returns : goal.returns

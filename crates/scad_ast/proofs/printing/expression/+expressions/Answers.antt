@@ -4,7 +4,7 @@ use Rattle.scad_ast.specs.declared.expression.Node.{Range}
 use Rattle.scad_ast.specs.declared.expression.Elem.{If}
 use Rattle.scad_ast.specs.Text.{expression_text, arguments_text, elements_text}
 use Rattle.scad_ast.specs.View.{expression_of, arguments, elements}
-use Rattle.scad_ast.proofs.Printed.{none, two, three, four, behind_three, that, next, last}
+use Rattle.text_scan.proofs.Printed.{none, two, three, four, behind_three, that, next, last}
 use Rattle.scad_ast.proofs.Nodes.{expression_is, element_is}
 use Rattle.scad_ast.proofs.Operands.{unary_view, binary_view, choose_view, index_view, member_view}
 use Rattle.scad_ast.proofs.Operands.{range_view, stepped_view, if_view, if_else_view}
@@ -16,7 +16,7 @@ use Rattle.scad_ast.proofs.printing.expression.+expressions.Goals as goal
 pub write_expression-returns-in-List : goal.write_expression-returns-in-List
 write_expression-returns-in-List t c =
     expression_is c.args.e.now c.in-List.is (vector_view _ c.in-List.elems)
-    (three c.token-in-List.ensures c.write_elements.ensures c.token-in-List-2.ensures)
+    (three c.write_token-in-List.ensures c.write_elements.ensures c.write_token-in-List-2.ensures)
 
 pub write_expression-returns-in-None : goal.write_expression-returns-in-None
 write_expression-returns-in-None t c =
@@ -24,7 +24,7 @@ write_expression-returns-in-None t c =
     expression_is c.args.e.now (arm.is ∙ ap (λ step. Range arm.start step arm.end) c.in-None.is)
     (range_view _ arm.start arm.end)
     (three (rw c.deref.ensures at c.write_within.ensures) (rw c.deref-in-None.ensures at c.write_expression.ensures)
-    c.token-in-None.ensures)
+    c.write_token-in-None.ensures)
 
 pub write_expression-returns-in-Some : goal.write_expression-returns-in-Some
 write_expression-returns-in-Some t c =
@@ -65,8 +65,8 @@ write_expression-returns-in-Index t c =
 pub write_expression-returns-in-Member : goal.write_expression-returns-in-Member
 write_expression-returns-in-Member t c =
     expression_is c.args.e.now c.in-Member.is (member_view _ c.in-Member.base c.in-Member.word)
-    (three (rw c.deref-in-Member.ensures at c.write_operand-in-Member.ensures) c.token-in-Member.ensures
-    c.word-in-Member.ensures)
+    (three (rw c.deref-in-Member.ensures at c.write_operand-in-Member.ensures) c.write_token-in-Member.ensures
+    c.write_word-in-Member.ensures)
 
 pub write_expression-returns-in-Call : goal.write_expression-returns-in-Call
 write_expression-returns-in-Call t c =
@@ -89,13 +89,15 @@ write_expression-returns-in-Echo t c =
     (two c.write_call-in-Echo.ensures (rw c.deref-in-Echo.ensures at c.write_expression-in-Echo.ensures))
 
 pub write_within-returns : goal.write_within-returns
-write_within-returns t c = three c.token.ensures c.write_expression.ensures c.token-2.ensures
+write_within-returns t c = three c.write_token.ensures c.write_expression.ensures c.write_token-2.ensures
 
 pub write_call-returns : goal.write_call-returns
-write_call-returns t c = two c.token.ensures (three c.token-2.ensures c.write_arguments.ensures c.token-3.ensures)
+write_call-returns t c =
+    two c.write_token.ensures
+    (three c.write_token-2.ensures c.write_arguments.ensures c.write_token-3.ensures)
 
 pub write_test-returns : goal.write_test-returns
-write_test-returns t c = two c.token.ensures c.write_within.ensures
+write_test-returns t c = two c.write_token.ensures c.write_within.ensures
 
 -- ---- lists
 pub write_arguments-arguments-init : goal.write_arguments-arguments-init
@@ -147,9 +149,9 @@ pub write_element-returns-in-Loop : goal.write_element-returns-in-Loop
 write_element-returns-in-Loop t c =
     element_is c.in-Loop.is
     (loop_view c.in-Loop.starts c.in-Loop.test c.in-Loop.steps c.in-Loop.elem c.in-Loop.field-4)
-    (four (three c.put.ensures c.write_arguments.ensures c.token-in-Loop.ensures)
-    (two c.write_expression-in-Loop.ensures c.token-in-Loop-2.ensures)
-    (two c.write_arguments-in-Loop.ensures c.token-in-Loop-3.ensures)
+    (four (three c.put.ensures c.write_arguments.ensures c.write_token-in-Loop.ensures)
+    (two c.write_expression-in-Loop.ensures c.write_token-in-Loop-2.ensures)
+    (two c.write_arguments-in-Loop.ensures c.write_token-in-Loop-3.ensures)
     (rw c.deref-in-Loop.ensures at c.write_element-in-Loop.ensures))
 
 pub write_element-returns-in-None : goal.write_element-returns-in-None
@@ -164,5 +166,5 @@ write_element-returns-in-Some t c =
     let arm = c.in-If in
     element_is (arm.is ∙ ap (λ other. If arm.test arm.held other arm.field-3) c.in-Some.is)
     (if_else_view arm.test arm.held c.in-Some.other arm.field-3)
-    (four c.write_test.ensures (rw c.deref-in-If.ensures at c.write_element-in-If.ensures) c.token-in-Some.ensures
+    (four c.write_test.ensures (rw c.deref-in-If.ensures at c.write_element-in-If.ensures) c.write_token-in-Some.ensures
     (rw c.deref-in-Some.ensures at c.write_element-in-Some.ensures))

@@ -2,7 +2,7 @@
 use Rattle.std.proofs.Common.{drop, true}
 use Rattle.scad_ast.specs.Text.{arguments_text, elements_text}
 use Rattle.scad_ast.specs.View.{arguments, elements}
-use Rattle.scad_ast.specs.Printing.{Printed, Adds}
+use Rattle.text_scan.specs.Printing.{Printed, Adds}
 use Rattle.scad_ast.proofs.printing.expression.+expressions.Given as goal
 
 abbrev pub invariant-write_arguments-arguments : goal.invariant-write_arguments-arguments

@@ -3,7 +3,7 @@ use Rattle.std.proofs.Common.{codes, true}
 use Rattle.scad_ast.specs.Text.{spaced, in_parentheses, expression_text, arguments_text, items_text}
 use Rattle.scad_ast.specs.View.{expression_of, arguments}
 use Rattle.scad_ast.specs.Scope.{items}
-use Rattle.scad_ast.proofs.Printed.{none, two, three, behind_two, behind_three, that, next, last}
+use Rattle.text_scan.proofs.Printed.{none, two, three, behind_two, behind_three, that, next, last}
 use Rattle.scad_ast.proofs.Nodes.{item_is, body_is}
 use Rattle.scad_ast.proofs.ScopeRows.{assign_view, module_view, function_view, call_view, choice_view}
 use Rattle.scad_ast.proofs.ScopeRows.{some_items, no_items}
@@ -28,7 +28,7 @@ pub write_item-returns-in-Assign : goal.write_item-returns-in-Assign
 write_item-returns-in-Assign t c =
     let arm = c.in-Assign in
     item_is arm.is (assign_view arm.word arm.value arm.field-2)
-    (behind_three (codes "= ") (expression_text (expression_of arm.value)) (codes ";\n") c.word.ensures
+    (behind_three (codes "= ") (expression_text (expression_of arm.value)) (codes ";\n") c.write_word.ensures
     c.write_value.ensures)
 
 pub write_item-returns-in-Module : goal.write_item-returns-in-Module
@@ -55,7 +55,7 @@ write_body-returns-else-is_empty t c =
 pub write_otherwise-returns-then-not-is_empty : goal.write_otherwise-returns-then-not-is_empty
 write_otherwise-returns-then-not-is_empty t c =
     rw (some_items c.args.scope.now c.is_empty.ensures c.if-not-is_empty.true)
-    (two c.token.ensures c.write_in_braces.ensures)
+    (two c.write_token.ensures c.write_in_braces.ensures)
 
 pub write_statement-returns-in-Call : goal.write_statement-returns-in-Call
 write_statement-returns-in-Call t c =

@@ -2,7 +2,7 @@
 use Rattle.std.proofs.Common.{drop}
 use Rattle.scad_ast.specs.Text.{items_text}
 use Rattle.scad_ast.specs.Scope.{items}
-use Rattle.scad_ast.specs.Printing.{Printed, Adds}
+use Rattle.text_scan.specs.Printing.{Printed, Adds}
 use Rattle.scad_ast.proofs.printing.statement.+statements.Given as goal
 
 abbrev pub invariant-write_items-items : goal.invariant-write_items-items

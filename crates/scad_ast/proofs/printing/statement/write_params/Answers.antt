@@ -1,7 +1,7 @@
 use Rattle.std.proofs.Common.{map}
 use Rattle.scad_ast.specs.Text.{parameters_text}
 use Rattle.scad_ast.specs.Scope.{parameter}
-use Rattle.scad_ast.proofs.Printed.{none, four, that, next, last}
+use Rattle.text_scan.proofs.Printed.{none, four, that, next, last}
 use Rattle.scad_ast.proofs.printing.statement.write_params.Goals as goal
 
 pub params-init : goal.params-init
@@ -12,7 +12,7 @@ params-preserved c = λ end rest.
     c.params.invariant end
     (that (next (λ all. parameters_text c.params.first (map parameter all)) c.deref-param-items.ensures.value
     c.params-test.true c.param-item.is)
-    (four c.write_separator.ensures c.word.ensures c.write_default.ensures rest))
+    (four c.write_separator.ensures c.write_word.ensures c.write_default.ensures rest))
 
 pub returns : goal.returns
 returns c =

@@ -2,7 +2,7 @@
 use Rattle.std.proofs.Common.{drop, map, true}
 use Rattle.scad_ast.specs.Text.{parameters_text}
 use Rattle.scad_ast.specs.Scope.{parameter}
-use Rattle.scad_ast.specs.Printing.{Printed, Adds}
+use Rattle.text_scan.specs.Printing.{Printed, Adds}
 use Rattle.scad_ast.proofs.printing.statement.write_params.Given as goal
 
 abbrev pub invariant-params : goal.invariant-params

@@ -1,7 +1,7 @@
 use Rattle.std.proofs.Common.{refl}
 use Rattle.std.specs.List.{flat_map}
 use Rattle.scad_ast.specs.Text.{character_text}
-use Rattle.scad_ast.proofs.Printed.{none, two, that, next, last}
+use Rattle.text_scan.proofs.Printed.{none, two, that, next, last}
 use Rattle.scad_ast.proofs.printing.token.write_characters.Goals as goal
 
 pub characters-init : goal.characters-init

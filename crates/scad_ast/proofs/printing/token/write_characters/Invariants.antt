@@ -2,7 +2,7 @@
 use Rattle.std.proofs.Common.{drop}
 use Rattle.std.specs.List.{flat_map}
 use Rattle.scad_ast.specs.Text.{character_text}
-use Rattle.scad_ast.specs.Printing.{Printed, Adds}
+use Rattle.text_scan.specs.Printing.{Printed, Adds}
 use Rattle.scad_ast.proofs.printing.token.write_characters.Given as goal
 
 abbrev pub invariant-characters : goal.invariant-characters

@@ -1,6 +1,6 @@
 use Rattle.std.proofs.Common.{refl, sym}
 use Rattle.std.proofs.lemmas.List.{drop_more}
-use Rattle.scad_ast.proofs.Printed.{none, two, that, last}
+use Rattle.text_scan.proofs.Printed.{none, two, that, last}
 use Rattle.scad_value.proofs.printer.Printer.ascii.Goals as goal
 
 pub bytes-init : goal.bytes-init

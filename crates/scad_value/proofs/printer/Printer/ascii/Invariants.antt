@@ -1,6 +1,6 @@
 -- What is left to print makes the whole.
 use Rattle.std.proofs.Common.{drop}
-use Rattle.scad_ast.specs.Printing.{Printed, Adds}
+use Rattle.text_scan.specs.Printing.{Printed, Adds}
 use Rattle.scad_value.proofs.printer.Printer.ascii.Given as goal
 
 abbrev pub invariant-bytes : goal.invariant-bytes
