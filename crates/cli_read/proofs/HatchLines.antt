@@ -1,5 +1,5 @@
 -- Hatches are read of their line, and of no other.
-use Rattle.std.proofs.Common.{◌≡◌, ℕ, ◌≤◌, true, cond, List, [], ◌∷◌, ◌++◌, length, nat_le, refl, ap, sym, subst, ◌∙◌, arith, append_assoc, Ok, Err}
+use Rattle.std.proofs.Common.{◌≡◌, ℕ, ◌≤◌, true, cond, List, [], ◌∷◌, ◌++◌, length, nat_le, refl, ap, sym, subst, ◌∙◌, arith, append_assoc, Ok, Err, ◌<◌, ◌^◌}
 use Rattle.std.specs.Prelude.{◌==◌}
 use Rattle.std.specs.Fmt.{decimal}
 use Rattle.std.specs.List.{flat_map, AllByRecursion}
@@ -12,7 +12,7 @@ use Rattle.cli_text.specs.Cli.{point_text, hatch_text, hatches_start}
 use Rattle.cli_read.specs.declared.fault.CliFault.TheVariants.{BadLine, CountDiffers}
 use Rattle.cli_read.specs.Form.{IsWithinReach, IsHatchWithinReach, AreHatches, IsHatchesLine}
 use Rattle.cli_read.specs.Reading.{◌>>=◌, comma, or_bad, words, count_of, points_at, paired_at, some_at, hatched, hatches_at}
-use Rattle.cli_read.proofs.Results.{bind_ok, ok_is, passed, or_bad_ok}
+use Rattle.cli_read.proofs.Results.{bind_ok, bound, ok_is, passed, or_bad_ok}
 use Rattle.cli_read.proofs.Numbers.{count_text, count_back, decimal_lacks}
 use Rattle.cli_read.proofs.CommaWords.{coordinate_words, points_text, same_words, words_of_points}
 use Rattle.cli_read.proofs.Outlines.{points_are, points_back}
@@ -62,30 +62,47 @@ paired_back n (h ∷ hs) = rw (paired_back n hs) refl
 abbrev HatchWords : List (List ℕ) → List Edge → Type 0
 HatchWords ws hs = (1 ≤ length hs) × (ws ≡ decimal (length hs) ∷ coordinate_words (ends_of hs)) × AreHatches hs
 
+some_is : (n : ℕ) (word : List ℕ) (count : ℕ) → some_at n word ≡ Ok count
+    → (word ≡ decimal count) × (count < 2 ^ 32) × (1 ≤ count)
+some_is n word count e =
+    let s = bind_ok (or_bad n (count_of word)) (λ k. cond (nat_le 1 k) (Ok k) (Err (BadLine n))) count e in
+    told s.0 (passed (nat_le 1 s.0) (BadLine n) s.0 count s.2)
+    (count_text word s.0 (or_bad_ok n (count_of word) s.0 s.1))
+  where
+    told : (k : ℕ) → (nat_le 1 k ≡ true) × (k ≡ count) → (word ≡ decimal k) × (k < 2 ^ 32)
+        → (word ≡ decimal count) × (count < 2 ^ 32) × (1 ≤ count)
+    told k p is =
+        let some = p.0 in
+        let one : 1 ≤ k = grind (arith, nat_tests) in
+        (is.0 ∙ ap decimal p.1, omega (arith, is.1, p.1), omega (arith, one, p.1))
+
+-- by what each of the words says
+words_are : (said : List ℕ) (rest : List (List ℕ)) (count : ℕ) (points : List Pt) (found hs : List Edge)
+    → (said ≡ decimal count) × (count < 2 ^ 32) × (1 ≤ count)
+    → (rest ≡ coordinate_words points) × AllByRecursion IsWithinReach points → points ≡ ends_of found
+    → (count == length found ≡ true) × (found ≡ hs) → HatchWords (said ∷ rest) hs
+words_are said rest count points found hs s p pairs d =
+    let is : count ≡ length found = eqb-true count (length found) d.0 in
+    subst (HatchWords (said ∷ rest)) d.1 (
+      omega (arith, s.2, is),
+      (λ i. (s.0 ∙ ap decimal is) i ∷ (p.0 ∙ ap coordinate_words pairs) i),
+      record {
+        count = omega (arith, s.1, is);
+        near = near_again found (subst (AllByRecursion IsWithinReach) pairs p.1);
+      },
+    )
+
 hatches_are : (n : ℕ) (ws : List (List ℕ)) (hs : List Edge) → hatches_at n ws ≡ Ok hs → HatchWords ws hs
 unfolding hatches_at
 hatches_are n [] hs e = absurd cc
 hatches_are n (said ∷ rest) hs e =
-    let a = bind_ok (some_at n said) (λ count. points_at n rest >>= λ points. paired_at n points >>=
-    λ found. hatched count found) hs e in
-    let b = bind_ok (points_at n rest) (λ points. paired_at n points >>= λ found. hatched a.0 found) hs a.2 in
-    let c = bind_ok (paired_at n b.0) (λ found. hatched a.0 found) hs b.2 in
-    let d = passed (a.0 == length c.0) (CountDiffers a.0 (length c.0)) c.0 hs c.2 in
-    let s = bind_ok (or_bad n (count_of said)) (λ count. cond (nat_le 1 count) (Ok count) (Err (BadLine n))) a.0 a.1 in
-    let several = passed (nat_le 1 s.0) (BadLine n) s.0 a.0 s.2 in
-    let one : 1 ≤ s.0 = grind (arith, nat_tests) in
-    let said_is = count_text said s.0 (or_bad_ok n (count_of said) s.0 s.1) in
-    let count : s.0 ≡ length c.0 = several.1 ∙ eqb-true a.0 (length c.0) d.0 in
-    let points = points_are n rest b.0 b.1 in
-    let pairs = paired_are n b.0 c.0 c.1 in
-    subst (HatchWords (said ∷ rest)) d.1 (
-      omega (arith, one, count),
-      (λ i. (said_is.0 ∙ ap decimal count) i ∷ (points.0 ∙ ap coordinate_words pairs) i),
-      record {
-        count = omega (arith, said_is.1, count);
-        near = near_again c.0 (subst (AllByRecursion IsWithinReach) pairs points.1);
-      },
-    )
+    bound (some_at n said) (λ count. points_at n rest >>= λ points. paired_at n points >>=
+    λ found. hatched count found) hs e (λ count s f.
+    bound (points_at n rest) (λ points. paired_at n points >>= λ found. hatched count found) hs f (λ points p g.
+    bound (paired_at n points) (λ found. hatched count found) hs g (λ found q h.
+    words_are said rest count points found hs (some_is n said count s) (points_are n rest points p)
+    (paired_are n points found q)
+    (passed (count == length found) (CountDiffers count (length found)) found hs h))))
 
 hatches_back : (n : ℕ) (hs : List Edge) → 1 ≤ length hs → AreHatches hs
     → hatches_at n (decimal (length hs) ∷ coordinate_words (ends_of hs)) ≡ Ok hs

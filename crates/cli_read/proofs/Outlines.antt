@@ -1,5 +1,5 @@
 -- An outline is read of its line, and of no other.
-use Rattle.std.proofs.Common.{◌≡◌, ℕ, suc, ◌+◌, ◌-◌, ◌≤◌, Bool, true, false, cond, List, [], ◌∷◌, ◌++◌, length, take, get_or, nat_le, refl, ap, sym, subst, ◌∙◌, arith, append_assoc, Result, Ok, Err}
+use Rattle.std.proofs.Common.{◌≡◌, ℕ, suc, ◌+◌, ◌-◌, ◌≤◌, Bool, true, false, cond, List, [], ◌∷◌, ◌++◌, length, take, get_or, nat_le, refl, ap, sym, subst, ◌∙◌, arith, append_assoc, Result, Ok, Err, ◌<◌, ◌^◌}
 use Rattle.std.specs.Prelude.{◌==◌, ◌&&◌, codes}
 use Rattle.std.specs.Ordering.{int_eq}
 use Rattle.std.specs.Fmt.{decimal, signed_decimal}
@@ -15,7 +15,7 @@ use Rattle.cli_read.specs.declared.fault.CliFault.{CliFault}
 use Rattle.cli_read.specs.declared.fault.CliFault.TheVariants.{BadLine, CountDiffers, OpenLoop}
 use Rattle.cli_read.specs.Form.{IsWithinReach, IsShape, IsOutline}
 use Rattle.cli_read.specs.Reading.{◌>>=◌, or_bad, origin, same_point, ends_meet, words, count_of, coordinate_of, point_at, points_at, joined_at, closed_at, direction_at, outline_at}
-use Rattle.cli_read.proofs.Results.{bind_ok, ok_is, passed, or_bad_ok}
+use Rattle.cli_read.proofs.Results.{bind_ok, bound, ok_is, passed, or_bad_ok}
 use Rattle.cli_read.proofs.Numbers.{count_text, count_back, coordinate_text, coordinate_back}
 use Rattle.cli_read.proofs.CommaWords.{coordinate_words, points_text, same_words, words_of_outline}
 
@@ -145,32 +145,48 @@ pub closed_near : (points : List Pt) → AllByRecursion IsWithinReach points
 closed_near [] near = tt
 closed_near (p ∷ ps) near = AllByRecursion-append IsWithinReach (p ∷ ps) (p ∷ []) near (near.0, tt)
 
+direction_is : (n : ℕ) (word : List ℕ) (direction : ℕ) → direction_at n word ≡ Ok direction
+    → (word ≡ decimal direction) × (direction ≤ 1)
+direction_is n word direction e =
+    let d = bind_ok (or_bad n (count_of word)) (λ k. cond (nat_le k 1) (Ok k) (Err (BadLine n))) direction e in
+    told d.0 (passed (nat_le d.0 1) (BadLine n) d.0 direction d.2)
+    (count_text word d.0 (or_bad_ok n (count_of word) d.0 d.1)).0
+  where
+    told : (k : ℕ) → (nat_le k 1 ≡ true) × (k ≡ direction) → word ≡ decimal k
+        → (word ≡ decimal direction) × (direction ≤ 1)
+    told k p is =
+        let low = p.0 in
+        let one : k ≤ 1 = grind (arith, nat_tests) in
+        (is ∙ ap decimal p.1, omega (arith, one, p.1))
+
+-- by what each of the words says
+words_are : (direction said : List ℕ) (rest : List (List ℕ)) (outline : List Pt) (first count : ℕ) (points : List Pt)
+    → (direction ≡ decimal first) × (first ≤ 1) → (said ≡ decimal count) × (count < 2 ^ 32)
+    → (rest ≡ coordinate_words points) × AllByRecursion IsWithinReach points → IsClosed points count outline
+    → OutlineWords (direction ∷ said ∷ rest) outline
+words_are direction said rest outline first count points d s p whole = (
+  first,
+  d.1,
+  (λ i. d.0 i ∷ (s.0 ∙ ap decimal whole.1) i ∷ (p.0 ∙ ap coordinate_words whole.0) i),
+  record {
+    several = whole.2;
+    count = omega (arith, s.1, whole.1);
+    near = first_near outline (subst (AllByRecursion IsWithinReach) whole.0 p.1);
+  },
+)
+
 outline_are : (n : ℕ) (ws : List (List ℕ)) (outline : List Pt) → outline_at n ws ≡ Ok outline → OutlineWords ws outline
 unfolding outline_at
 outline_are n [] outline e = absurd cc
 outline_are n (direction ∷ []) outline e = absurd cc
 outline_are n (direction ∷ said ∷ rest) outline e =
-    let a = bind_ok (direction_at n direction) (λ _. or_bad n (count_of said) >>= λ count. points_at n rest >>=
-    λ points. closed_at n count points) outline e in
-    let b = bind_ok (or_bad n (count_of said)) (λ count. points_at n rest >>= λ points. closed_at n count points)
-    outline a.2 in
-    let c = bind_ok (points_at n rest) (λ points. closed_at n b.0 points) outline b.2 in
-    let d = bind_ok (or_bad n (count_of direction)) (λ d. cond (nat_le d 1) (Ok d) (Err (BadLine n))) a.0 a.1 in
-    let either = passed (nat_le d.0 1) (BadLine n) d.0 a.0 d.2 in
-    let one : d.0 ≤ 1 = grind (arith, nat_tests) in
-    let direction_is = count_text direction d.0 (or_bad_ok n (count_of direction) d.0 d.1) in
-    let said_is = count_text said b.0 (or_bad_ok n (count_of said) b.0 b.1) in
-    let points = points_are n rest c.0 c.1 in
-    let whole = closed_are n b.0 c.0 outline c.2 in (
-      d.0,
-      one,
-      (λ i. direction_is.0 i ∷ (said_is.0 ∙ ap decimal whole.1) i ∷ (points.0 ∙ ap coordinate_words whole.0) i),
-      record {
-        several = whole.2;
-        count = omega (arith, said_is.1, whole.1);
-        near = first_near outline (subst (AllByRecursion IsWithinReach) whole.0 points.1);
-      },
-    )
+    bound (direction_at n direction) (λ _. or_bad n (count_of said) >>= λ count. points_at n rest >>=
+    λ points. closed_at n count points) outline e (λ first d f.
+    bound (or_bad n (count_of said)) (λ count. points_at n rest >>= λ points. closed_at n count points) outline f
+    (λ count s g. bound (points_at n rest) (λ points. closed_at n count points) outline g
+    (λ points p h. words_are direction said rest outline first count points (direction_is n direction first d)
+    (count_text said count (or_bad_ok n (count_of said) count s)) (points_are n rest points p)
+    (closed_are n count points outline h))))
 
 outline_back : (n direction : ℕ) (outline : List Pt) → direction ≤ 1 → IsShape outline →
     outline_at n (decimal direction ∷ decimal (length outline + 1) ∷ coordinate_words (closed outline)) ≡ Ok outline

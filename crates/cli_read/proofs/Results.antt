@@ -9,6 +9,12 @@ pub bind_ok : {A B : Type 0} (r : Result A CliFault) (f : A → Result B CliFaul
 bind_ok (Ok x) f y e = (x, refl, e)
 bind_ok (Err d) f y e = absurd cc
 
+-- the same, handed on: what follows holds of a variable, however long the way to it was
+pub bound : {A B P : Type 0} (r : Result A CliFault) (f : A → Result B CliFault) (y : B) → (r >>= f) ≡ Ok y
+    → ((x : A) → r ≡ Ok x → f x ≡ Ok y → P) → P
+bound (Ok x) f y e then = then x refl e
+bound (Err d) f y e then = absurd cc
+
 abbrev done : {A : Type 0} → A → Result A CliFault
 done x = Ok x
 

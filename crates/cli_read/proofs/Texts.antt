@@ -13,12 +13,12 @@ use Rattle.cli_read.specs.declared.fault.CliFault.TheVariants.{BadLine, CountDif
 use Rattle.cli_read.specs.declared.layers.Cli.{Cli}
 use Rattle.cli_read.specs.Form.{Reads, SaysLayer, AreAbove, head_lines, count_start, end_line}
 use Rattle.cli_read.specs.Laws.{TextsSayOneList}
-use Rattle.cli_read.specs.Reading.{◌>>=◌, Gives, behind, count_of, geometry_at, fixed_at, count_in, count_at, head_at, layers_at, counted, reading}
+use Rattle.cli_read.specs.Reading.{◌>>=◌, Geometry, Gives, behind, count_of, geometry_at, fixed_at, count_in, count_at, head_at, layers_at, counted, reading}
 use Rattle.cli_read.specs.View.{layers_of}
-use Rattle.cli_read.proofs.Results.{bind_ok, ok_is, passed, or_bad_ok}
+use Rattle.cli_read.proofs.Results.{bind_ok, bound, ok_is, passed, or_bad_ok}
 use Rattle.cli_read.proofs.Numbers.{count_text, count_back}
 use Rattle.cli_read.proofs.CommaWords.{behind_is, behind_back}
-use Rattle.cli_read.proofs.LayerLines.{joined, geometry_stands, parts_back}
+use Rattle.cli_read.proofs.LayerLines.{Stands, joined, geometry_stands, parts_back}
 
 -- ---- the head
 
@@ -49,37 +49,71 @@ count_is n (line ∷ rest) c e =
     subst (λ (d : Counted). (line ∷ rest ≡ (count_start ++ decimal d.0) ∷ d.1) × (d.0 < 2 ^ 32)) (ok_is found c a.2)
     (ap (λ (l : List ℕ). l ∷ rest) is.0, is.1)
 
+-- a fixed line before others that are told
+fixed_before : {Q : Type 0} (n : ℕ) (wanted : List ℕ) (f : List (List ℕ) → Result Counted CliFault) (h : Counted)
+    (tail : List (List ℕ)) → ((rest : List (List ℕ)) → f rest ≡ Ok h → (rest ≡ tail) × Q)
+    → (ls : List (List ℕ)) → (fixed_at n wanted ls >>= f) ≡ Ok h → (ls ≡ wanted ∷ tail) × Q
+fixed_before n wanted f h tail told ls e =
+    let a = bind_ok (fixed_at n wanted ls) f h e in
+    let rest = told a.0 a.2 in
+    (fixed_is n wanted ls a.0 a.1 ∙ ap (λ (x : List (List ℕ)). wanted ∷ x) rest.0, rest.1)
+
+-- the head from each of its lines on
+abbrev from_geometry : ℕ → List (List ℕ) → Result Counted CliFault
+from_geometry count ls = fixed_at 7 (codes "$$GEOMETRYSTART") ls >>= λ x. Ok (count, x)
+
+abbrev from_end : ℕ → List (List ℕ) → Result Counted CliFault
+from_end count ls = fixed_at 6 (codes "$$HEADEREND") ls >>= from_geometry count
+
+abbrev from_count : List (List ℕ) → Result Counted CliFault
+from_count ls = count_at 5 ls >>= λ c. from_end c.0 c.1
+
+abbrev from_version : List (List ℕ) → Result Counted CliFault
+from_version ls = fixed_at 4 (codes "$$VERSION/200") ls >>= from_count
+
+abbrev from_units : List (List ℕ) → Result Counted CliFault
+from_units ls = fixed_at 3 (codes "$$UNITS/0.001") ls >>= from_version
+
+abbrev from_ascii : List (List ℕ) → Result Counted CliFault
+from_ascii ls = fixed_at 2 (codes "$$ASCII") ls >>= from_units
+
+module _ (h : Counted) where
+  geometry_is : (count : ℕ) (ls : List (List ℕ)) → from_geometry count ls ≡ Ok h
+      → (ls ≡ codes "$$GEOMETRYSTART" ∷ h.1) × (count ≡ h.0)
+  geometry_is count = fixed_before 7 (codes "$$GEOMETRYSTART") (λ x. Ok (count, x)) h h.1 (λ x e.
+      let found : Counted = (count, x) in
+      let is = ok_is found h e in
+      (ap (λ (c : Counted). c.1) is, ap (λ (c : Counted). c.0) is))
+
+  end_is : (count : ℕ) (ls : List (List ℕ)) → from_end count ls ≡ Ok h
+      → (ls ≡ codes "$$HEADEREND" ∷ (codes "$$GEOMETRYSTART" ∷ h.1)) × (count ≡ h.0)
+  end_is count = fixed_before 6 (codes "$$HEADEREND") (from_geometry count) h (codes "$$GEOMETRYSTART" ∷ h.1)
+      (geometry_is count)
+
+  abbrev counted_lines : List (List ℕ)
+  counted_lines = (count_start ++ decimal h.0) ∷ (codes "$$HEADEREND" ∷ (codes "$$GEOMETRYSTART" ∷ h.1))
+
+  counted_is : (ls : List (List ℕ)) → from_count ls ≡ Ok h → (ls ≡ counted_lines) × (h.0 < 2 ^ 32)
+  counted_is ls e =
+      let a = bind_ok (count_at 5 ls) (λ c. from_end c.0 c.1) h e in
+      told a.0 (count_is 5 ls a.0 a.1) (end_is a.0.0 a.0.1 a.2)
+    where
+      told : (c : Counted) → (ls ≡ (count_start ++ decimal c.0) ∷ c.1) × (c.0 < 2 ^ 32)
+          → (c.1 ≡ codes "$$HEADEREND" ∷ (codes "$$GEOMETRYSTART" ∷ h.1)) × (c.0 ≡ h.0)
+          → (ls ≡ counted_lines) × (h.0 < 2 ^ 32)
+      told c is rest =
+          (is.0 ∙ (λ i. (count_start ++ decimal (rest.1 i)) ∷ rest.0 i), subst (λ (k : ℕ). k < 2 ^ 32) rest.1 is.1)
+
 head_is : (ls : List (List ℕ)) (h : Counted) → head_at ls ≡ Ok h → (ls ≡ head_lines h.0 ++ h.1) × (h.0 < 2 ^ 32)
 unfolding head_at
-head_is ls h e =
-    let a = bind_ok (fixed_at 1 (codes "$$HEADERSTART") ls) (λ x. fixed_at 2 (codes "$$ASCII") x >>= λ x. fixed_at 3
-    (codes "$$UNITS/0.001") x >>= λ x. fixed_at 4 (codes "$$VERSION/200") x >>= λ x. count_at 5 x >>=
-    λ c. fixed_at 6 (codes "$$HEADEREND") c.1 >>= λ x. fixed_at 7 (codes "$$GEOMETRYSTART") x >>=
-    λ x. Ok (c.0, x)) h e in
-    let b = bind_ok (fixed_at 2 (codes "$$ASCII") a.0) (λ x. fixed_at 3 (codes "$$UNITS/0.001") x >>= λ x. fixed_at 4
-    (codes "$$VERSION/200") x >>= λ x. count_at 5 x >>= λ c. fixed_at 6 (codes "$$HEADEREND") c.1 >>=
-    λ x. fixed_at 7 (codes "$$GEOMETRYSTART") x >>= λ x. Ok (c.0, x)) h a.2 in
-    let c = bind_ok (fixed_at 3 (codes "$$UNITS/0.001") b.0) (λ x. fixed_at 4 (codes "$$VERSION/200") x >>=
-    λ x. count_at 5 x >>= λ c. fixed_at 6 (codes "$$HEADEREND") c.1 >>= λ x. fixed_at 7
-    (codes "$$GEOMETRYSTART") x >>= λ x. Ok (c.0, x)) h b.2 in
-    let d = bind_ok (fixed_at 4 (codes "$$VERSION/200") c.0) (λ x. count_at 5 x >>= λ c. fixed_at 6
-    (codes "$$HEADEREND") c.1 >>= λ x. fixed_at 7 (codes "$$GEOMETRYSTART") x >>= λ x. Ok (c.0, x)) h c.2 in
-    let s = bind_ok (count_at 5 d.0) (λ c. fixed_at 6 (codes "$$HEADEREND") c.1 >>= λ x. fixed_at 7
-    (codes "$$GEOMETRYSTART") x >>= λ x. Ok (c.0, x)) h d.2 in
-    let f = bind_ok (fixed_at 6 (codes "$$HEADEREND") s.0.1) (λ x. fixed_at 7 (codes "$$GEOMETRYSTART") x >>=
-    λ x. Ok (s.0.0, x)) h s.2 in
-    let g = bind_ok (fixed_at 7 (codes "$$GEOMETRYSTART") f.0) (λ x. Ok (s.0.0, x)) h f.2 in
-    let count = count_is 5 d.0 s.0 s.1 in
-    let lines_are : ls ≡ head_lines s.0.0 ++ g.0 =
-    fixed_is 1 (codes "$$HEADERSTART") ls a.0 a.1
-    ∙ ap (λ (x : List (List ℕ)). codes "$$HEADERSTART" ∷ x) (fixed_is 2 (codes "$$ASCII") a.0 b.0 b.1
-    ∙ ap (λ (x : List (List ℕ)). codes "$$ASCII" ∷ x) (fixed_is 3 (codes "$$UNITS/0.001") b.0 c.0 c.1
-    ∙ ap (λ (x : List (List ℕ)). codes "$$UNITS/0.001" ∷ x) (fixed_is 4 (codes "$$VERSION/200") c.0 d.0 d.1
-    ∙ ap (λ (x : List (List ℕ)). codes "$$VERSION/200" ∷ x) (count.0
-    ∙ ap (λ (x : List (List ℕ)). (count_start ++ decimal s.0.0) ∷ x) (fixed_is 6 (codes "$$HEADEREND") s.0.1 f.0 f.1
-    ∙ ap (λ (x : List (List ℕ)). codes "$$HEADEREND" ∷ x) (fixed_is 7 (codes "$$GEOMETRYSTART") f.0 g.0 g.1)))))) in
-    let found : Counted = (s.0.0, g.0) in
-    subst (λ (x : Counted). (ls ≡ head_lines x.0 ++ x.1) × (x.0 < 2 ^ 32)) (ok_is found h g.2) (lines_are, count.1)
+head_is ls h =
+    let version = fixed_before 4 (codes "$$VERSION/200") from_count h (counted_lines h) (counted_is h) in
+    let units = fixed_before 3 (codes "$$UNITS/0.001") from_version h (codes "$$VERSION/200" ∷ counted_lines h) version
+    in
+    let ascii = fixed_before 2 (codes "$$ASCII") from_units h
+    (codes "$$UNITS/0.001" ∷ (codes "$$VERSION/200" ∷ counted_lines h)) units in
+    fixed_before 1 (codes "$$HEADERSTART") from_ascii h
+    (codes "$$ASCII" ∷ (codes "$$UNITS/0.001" ∷ (codes "$$VERSION/200" ∷ counted_lines h))) ascii ls
 
 head_back : (count : ℕ) (rest : List (List ℕ)) → count < 2 ^ 32 → head_at (head_lines count ++ rest) ≡ Ok (count, rest)
 unfolding head_at
@@ -91,19 +125,14 @@ grouped : (count : ℕ) (parts : List (List (List ℕ))) →
     head_lines count ++ joined parts ++ end_line ∷ [] ≡ head_lines count ++ (joined parts ++ end_line ∷ [])
 grouped count parts = append_assoc (head_lines count) (joined parts) (end_line ∷ [])
 
-pub reading_is : (bytes : List ℕ) (layers : List Layer) → reading bytes ≡ Ok layers → Reads bytes layers
-unfolding reading layers_at
-reading_is bytes layers e =
-    let a = bind_ok (head_at (lines bytes)) (λ head. layers_at head.1 >>= λ found. counted head.0 found) layers e in
-    let b = bind_ok (layers_at a.0.1) (λ found. counted a.0.0 found) layers a.2 in
-    let c = passed (a.0.0 == length b.0) (CountDiffers a.0.0 (length b.0)) b.0 layers b.2 in
-    let g = bind_ok (geometry_at 7 None a.0.1) (λ body. Ok body.layers) b.0 b.1 in
-    let head = head_is (lines bytes) a.0 a.1 in
-    let stands = geometry_stands 7 None a.0.1 g.0 g.1 in
-    let count : a.0.0 ≡ length b.0 = eqb-true a.0.0 (length b.0) c.0 in
-    let same : g.0.layers ≡ layers = ok_is g.0.layers b.0 g.2 ∙ c.1 in
-    let are : lines bytes ≡ head_lines a.0.0 ++ (joined stands.parts ++ end_line ∷ []) =
-    head.0 ∙ ap (λ (ls : List (List ℕ)). head_lines a.0.0 ++ ls)
+reads_by : (bytes : List ℕ) (layers found : List Layer) (head : Counted) (body : Geometry)
+    → (lines bytes ≡ head_lines head.0 ++ head.1) × (head.0 < 2 ^ 32) → Stands None head.1 body
+    → body.layers ≡ found → (head.0 == length found ≡ true) × (found ≡ layers) → Reads bytes layers
+reads_by bytes layers found head body is stands told c =
+    let count : head.0 ≡ length found = eqb-true head.0 (length found) c.0 in
+    let same : body.layers ≡ layers = told ∙ c.1 in
+    let are : lines bytes ≡ head_lines head.0 ++ (joined stands.parts ++ end_line ∷ []) =
+    is.0 ∙ ap (λ (ls : List (List ℕ)). head_lines head.0 ++ ls)
     (stands.are ∙ ap (λ (ls : List (List ℕ)). ls ++ (joined stands.parts ++ end_line ∷ [])) (stands.none refl)) in
     record {
       parts = stands.parts;
@@ -111,8 +140,18 @@ reading_is bytes layers e =
           (grouped (length layers) stands.parts);
       each = subst (λ (ls : List Layer). AllZip SaysLayer stands.parts ls) same stands.each;
       above = subst (AreAbove None) same stands.above;
-      count = omega (arith, head.1, count, ap length c.1);
+      count = omega (arith, is.1, count, ap length c.1);
     }
+
+pub reading_is : (bytes : List ℕ) (layers : List Layer) → reading bytes ≡ Ok layers → Reads bytes layers
+unfolding reading layers_at
+reading_is bytes layers e =
+    bound (head_at (lines bytes)) (λ head. layers_at head.1 >>= λ found. counted head.0 found) layers e (λ head h f.
+    bound (layers_at head.1) (λ found. counted head.0 found) layers f (λ found l g.
+    bound (geometry_at 7 None head.1) (λ body. Ok body.layers) found l (λ body b k.
+    reads_by bytes layers found head body (head_is (lines bytes) head h) (geometry_stands 7 None head.1 body b)
+    (ok_is body.layers found k)
+    (passed (head.0 == length found) (CountDiffers head.0 (length found)) found layers g))))
 
 pub reading_back : (bytes : List ℕ) (layers : List Layer) → Reads bytes layers → reading bytes ≡ Ok layers
 unfolding reading layers_at

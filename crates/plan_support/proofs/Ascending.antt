@@ -1,5 +1,5 @@
 -- The heights of rows, sorted and each kept once.
-use Rattle.std.proofs.Common.{Less, ◌≡◌, ◌<◌, List, [], ◌∷◌, flat_map, refl, sym, subst, ℤ, ◌<ℤ◌}
+use Rattle.std.proofs.Common.{Less, ◌≡◌, List, [], ◌∷◌, flat_map, refl, sym, subst, ℤ, ◌<ℤ◌}
 use Rattle.std.specs.Prelude.{All, Contains, unsigned_abs, ◌≤◌}
 use Rattle.std.specs.List.{dedup}
 use Rattle.std.specs.List.Sorted.{IsPermutation, IsSorted}

@@ -15,7 +15,7 @@ use Rattle.plan_infill.specs.declared.run.Run.{Run}
 use Rattle.plan_support.specs.On.{is_on}
 use Rattle.plan_support.proofs.Canonical.{place_on, first_in}
 use Rattle.plan_support.specs.declared.reach.Reach.{Reach}
-use Rattle.plan_support.specs.Near.{IsBesideEnds, line_reach, IsWithinReach, IsClipped}
+use Rattle.plan_support.specs.Near.{IsBesideEnds, line_reach, IsReach, IsClipped}
 use Rattle.plan_support.proofs.Extents.{lesser, greater}
 
 from_ceiling : (n d r x : ℤ) → pos 0 <ℤ d → IsCeiling n d r → r ≤ℤ x → n ≤ℤ (x *ℤ d)
@@ -43,7 +43,7 @@ module _ (e : Edge) (y : ℤ) (gap : ℕ) (ends : Reach) (from : ends.from ≡ i
   ends_if : (x : ℤ) → ends.from ≤ℤ x → x ≤ℤ ends.to → IsBesideEnds e gap x
   ends_if x a b = record { from = omega (arith, ints, a, from); to = omega (arith, ints, b, to) }
 
-  pub within_ends : (pos 0 <ℤ rise e → ⊥) → IsWithinReach e y gap ends
+  pub within_ends : (pos 0 <ℤ rise e → ⊥) → IsReach e y gap ends
   within_ends flat x = (
     (λ i. (ends_if x i.from i.to, λ r. absurd (flat r))),
     (λ k. let a = k.0.from in let b = k.0.to in
@@ -53,7 +53,7 @@ module _ (e : Edge) (y : ℤ) (gap : ℕ) (ends : Reach) (from : ends.from ≡ i
   pub within_both : (line both : Reach) → pos 0 <ℤ rise e
       → IsCeiling (x_at e y (pos 1) -ℤ line_reach e gap) (rise e) line.from
       → IsFloor (x_at e y (pos 1) +ℤ line_reach e gap) (rise e) line.to
-      → both.from ≡ int_max ends.from line.from → both.to ≡ int_min ends.to line.to → IsWithinReach e y gap both
+      → both.from ≡ int_max ends.from line.from → both.to ≡ int_min ends.to line.to → IsReach e y gap both
   within_both line both rises c f bf bt x =
       let g = greater ends.from line.from both.from bf in
       let l = lesser ends.to line.to both.to bt in

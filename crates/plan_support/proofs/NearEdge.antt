@@ -17,7 +17,7 @@ use Rattle.scad_geom.proofs.Bounds.{rise_at_least}
 use Rattle.plan_infill.specs.declared.run.Run.{Run}
 use Rattle.plan_support.specs.declared.reach.Reach.{Reach}
 use Rattle.plan_support.specs.Spans.{point_at}
-use Rattle.plan_support.specs.Near.{AreNear, IsBesideEnds, IsBesideLine, IsWithinReach, IsClipped}
+use Rattle.plan_support.specs.Near.{AreNear, IsBesideEnds, IsBesideLine, IsReach, IsClipped}
 use Rattle.plan_support.proofs.Extents.{lesser, greater}
 use Rattle.plan_support.proofs.NearRow.{FoundFor, meets_if, found_if, turned, mirrored_lies, mirrored_back, cross_is, IsTold, found_by, told_of}
 
@@ -316,7 +316,7 @@ module _ (e : Edge) (y : ℤ) (gap : ℕ) where
 
   pub near_some : (r : Reach) (found : Option Run)
       → (int_le ((low e).y -ℤ pos gap) y && int_le y ((high e).y +ℤ pos gap)) ≡ true
-      → IsWithinReach e y gap r → IsClipped r.from r.to found → AreNear e y gap found
+      → IsReach e y gap r → IsClipped r.from r.to found → AreNear e y gap found
   near_some r found b w c = record {
     some = c.some;
     meets = λ x p o.

@@ -1,5 +1,5 @@
 -- Which places of a row lie near to a side, or are taken.
-use Rattle.std.specs.Prelude.{◌≡◌, true, false, Option, option_to_list, ℕ, ◌*◌, ◌≤◌, List, ◌++◌, ℤ, pos, ◌+ℤ◌, ◌-ℤ◌, ◌*ℤ◌, ◌<ℤ◌, ◌≤ℤ◌, ◌↔◌, unsigned_abs, All}
+use Rattle.std.specs.Prelude.{◌≡◌, true, false, Option, option_to_list, ℕ, ◌*◌, List, ◌++◌, ℤ, pos, ◌+ℤ◌, ◌-ℤ◌, ◌*ℤ◌, ◌<ℤ◌, ◌≤ℤ◌, ◌↔◌, unsigned_abs, All}
 use Rattle.std.specs.Int.{int_min, int_max}
 use Rattle.scad_geom.specs.declared.point.Pt.{Pt}
 use Rattle.scad_geom.specs.declared.point.Edge.{Edge}
@@ -55,8 +55,9 @@ pub record IsBesideLine (e : Edge) (y : ℤ) (gap : ℕ) (x : ℤ) : Type 0 wher
   pub from : (x_at e y (pos 1) -ℤ line_reach e gap) ≤ℤ (x *ℤ rise e)
   pub to : (x *ℤ rise e) ≤ℤ (x_at e y (pos 1) +ℤ line_reach e gap)
 
-abbrev pub IsWithinReach : Edge → ℤ → ℕ → Reach → Type 0
-IsWithinReach e y gap r = (x : ℤ) → IsIn r x ↔ (IsBesideEnds e gap x × (pos 0 <ℤ rise e → IsBesideLine e y gap x))
+-- the reach of an edge: places that are beside its ends, and beside its line where it rises
+abbrev pub IsReach : Edge → ℤ → ℕ → Reach → Type 0
+IsReach e y gap r = (x : ℤ) → IsIn r x ↔ (IsBesideEnds e gap x × (pos 0 <ℤ rise e → IsBesideLine e y gap x))
 
 -- the run of the places that a run can have
 pub record IsClipped (from to : ℤ) (found : Option Run) : Type 0 where

@@ -4,7 +4,7 @@ ghost use Rattle.std.specs.Int.{int_min, int_max};
 ghost use Rattle.scad_geom.specs.Limits.{coordinate_limit};
 ghost use Rattle.scad_geom.specs.Within.{IsEdgeWithin};
 ghost use Rattle.scad_geom.specs.Line.{low, high, rise, x_at};
-ghost use Rattle.plan_support.specs.Near.{AreNear, line_reach, IsWithinReach, IsClipped};
+ghost use Rattle.plan_support.specs.Near.{AreNear, line_reach, IsReach, IsClipped};
 ghost use Rattle.plan_infill.specs.Quotient.{IsFloor, IsCeiling};
 
 use crate::reach::Reach;
@@ -59,7 +59,7 @@ fn signed(gap: u32) -> i128
 fn reached(e: &Edge, y: i32, gap: u32) -> Reach
     requires edge { IsEdgeWithin coordinate_limit e.now }
     requires row { unsigned_abs y ≤ coordinate_limit }
-    ensures { IsWithinReach e.now y gap result }
+    ensures { IsReach e.now y gap result }
 {
     let by_ends = reached_by_ends(e, gap);
     if rise(e) > 0 {

@@ -41,6 +41,13 @@ one_more xs i x h e =
     next : suc i ≡ i + 1
     next = omega arith
 
+-- one more point put in order
+pub put_point : {X : Type 0} (cmp : X → X → Ordering) (points : List X) (i : ℕ) (p : X) → i < length points
+    → p ≡ get_or points i p → (keys new : List X) → new ≡ insert_key cmp keys p
+    → with_all cmp new (drop (i + 1) points) ≡ with_all cmp keys (drop i points)
+put_point cmp points i p h e keys new is =
+    ap (λ ks. with_all cmp ks (drop (i + 1) points)) is ∙ ap (with_all cmp keys) (sym (one_more points i p h e))
+
 -- one more face put in order
 pub put_face : (faces : List Face) (i : ℕ) (f : Face) → i < length faces → f ≡ get_or faces i f
     → (keys new : List (Vec Node)) (k : Vec Node)

@@ -1,5 +1,5 @@
 -- What the tests say of an edge and a point in halves, from the edge's lower end to its upper one.
-use Rattle.std.proofs.Common.{◌≡◌, ◌⊎◌, inl, inr, ℕ, ◌*◌, ◌≤◌, Bool, true, false, cond, refl, sym, subst, arith, ℤ, pos, ◌+ℤ◌, ◌-ℤ◌, ◌*ℤ◌, ◌<ℤ◌}
+use Rattle.std.proofs.Common.{◌≡◌, ◌⊎◌, inl, inr, ℕ, ◌*◌, ◌≤◌, Bool, true, false, cond, refl, subst, arith, ℤ, pos, ◌+ℤ◌, ◌-ℤ◌, ◌*ℤ◌}
 use lib.Signed.{◌≤ℤ◌}
 use Rattle.std.specs.Prelude.{int_lt}
 use Rattle.std.proofs.lemmas.Int.{ints}
@@ -14,8 +14,7 @@ use Rattle.std.specs.Prelude.{List}
 use Rattle.scad_ring.specs.Octagon.{octagon}
 use Rattle.scad_ring.specs.Nearness.{Border, Closed, IsWithinRegion, Meets, IsClear}
 use Rattle.scad_ring.specs.Tests.{passes}
-use Rattle.scad_ring.proofs.Octants.{Approach}
-use Rattle.scad_ring.proofs.Approaches.{ApproachFrom, meets_if_approach, approach_if_near}
+use Rattle.scad_ring.proofs.Approaches.{meets_if_approach, approach_if_near}
 use Rattle.scad_ring.proofs.Meetings.{approach_if_passes, passes_if_approach, narrow, widen}
 
 -- ---- the points of a segment are those of the segment back

@@ -1,5 +1,5 @@
 -- The tests of `octagon_meets` decide.
-use Rattle.std.proofs.Common.{◌≡◌, ◌⊎◌, inl, inr, Bool, true, false, cond, ◌&&◌, [], ◌∷◌, refl, sym, subst, arith, ℤ, pos, neg_ℤ, ◌+ℤ◌, ◌-ℤ◌, ◌*ℤ◌, ◌<ℤ◌}
+use Rattle.std.proofs.Common.{◌≡◌, ◌⊎◌, inl, inr, Bool, true, false, ◌&&◌, [], ◌∷◌, refl, sym, subst, arith, ℤ, pos, neg_ℤ, ◌+ℤ◌, ◌-ℤ◌, ◌*ℤ◌, ◌<ℤ◌}
 use lib.Signed.{◌≤ℤ◌}
 use Rattle.std.specs.Prelude.{if◌then◌else◌, ◌||◌, int_le}
 use Rattle.std.proofs.lemmas.Int.{ints}
@@ -8,10 +8,10 @@ use Rattle.scad_base.proofs.Tests.{int_le-at_most}
 use Rattle.scad_base.proofs.Products.{positive_product}
 use Rattle.scad_geom.proofs.Signs.{at_least_mul, minus_times, square_at_least}
 use Rattle.scad_geom.proofs.Rising.{order}
-use Rattle.scad_geom.proofs.Ring.{ring, num, ◌⊕◌, ◌⊖◌, ◌⊗◌, v0, v1, v2, v3}
+use Rattle.scad_geom.proofs.Ring.{ring, num, ◌⊕◌, ◌⊖◌, ◌⊗◌, v0, v1}
 use Rattle.scad_ring.specs.Tests.{overlaps, is_size, breadth, passes}
 use Rattle.scad_ring.proofs.Convex.{Lies, cross, found, Test, gap_times}
-use Rattle.scad_ring.proofs.Octants.{End, Ends, Approach, IsSize, Corner, Passes, approach, approach_point, ends, right_line, steep_right_line, steep_left_line, left_line, right_corner, steep_right_corner, steep_left_corner, left_corner}
+use Rattle.scad_ring.proofs.Octants.{End, Ends, Approach, IsSize, approach, approach_point, ends, right_line, steep_right_line, steep_left_line, left_line, right_corner, steep_right_corner, steep_left_corner, left_corner}
 
 -- ---- tests as facts
 or_parts : (a b : Bool) → (a || b) ≡ true → (a ≡ true) ⊎ (b ≡ true)

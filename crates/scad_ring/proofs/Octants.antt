@@ -5,8 +5,7 @@ use lib.Signed.{◌≤ℤ◌}
 use Rattle.std.proofs.lemmas.Int.{ints}
 use Rattle.scad_base.proofs.Products.{positive_product}
 use Rattle.scad_geom.proofs.Signs.{at_least_mul, minus_times}
-use Rattle.scad_geom.proofs.Rising.{order}
-use Rattle.scad_geom.proofs.Ring.{ring, num, ◌⊕◌, ◌⊖◌, ◌⊗◌, v0, v1, v2, v3, v4}
+use Rattle.scad_geom.proofs.Ring.{ring, num, ◌⊕◌, ◌⊖◌, ◌⊗◌, v0, v1, v2, v3}
 use Rattle.scad_ring.proofs.Convex.{Lies, cross, Test, found, one_first, beside, beside_back, along, along_back, an_end}
 
 -- a half plane holds an end of the segment

@@ -1,5 +1,5 @@
 -- The corners of an octagon round an end of an edge are near to the edge.
-use Rattle.std.proofs.Common.{◌≡◌, inl, inr, arith, List, ℤ, pos, neg_ℤ, ◌+ℤ◌, ◌-ℤ◌, ◌*ℤ◌, ◌<ℤ◌, refl}
+use Rattle.std.proofs.Common.{◌≡◌, inl, inr, arith, List, ℤ, pos, neg_ℤ, ◌+ℤ◌, ◌-ℤ◌, ◌*ℤ◌, ◌<ℤ◌}
 use lib.Signed.{◌≤ℤ◌}
 use Rattle.std.specs.Prelude.{◌↔◌, All}
 use Rattle.std.proofs.lemmas.Int.{ints}

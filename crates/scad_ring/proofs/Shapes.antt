@@ -1,7 +1,7 @@
 -- What holds of the list of corners for each direction holds of a ring by an octagon: its corners are few, and within
 -- the limit of a layer's coordinates.
-use Rattle.std.proofs.Common.{◌≡◌, ℕ, ◌+◌, ◌*◌, ◌/◌, ◌≤◌, Bool, true, false, cond, ◌&&◌, List, length, refl, arith, ℤ, pos, ◌+ℤ◌, ◌-ℤ◌}
-use Rattle.std.specs.Prelude.{◌||◌, int_lt, int_le, if◌then◌else◌, unsigned_abs}
+use Rattle.std.proofs.Common.{ℕ, ◌≤◌, Bool, true, false, cond, List, length, arith, ℤ, pos, ◌-ℤ◌}
+use Rattle.std.specs.Prelude.{int_lt, if◌then◌else◌, unsigned_abs}
 use Rattle.std.specs.List.{AllByRecursion}
 use Rattle.std.proofs.lemmas.Int.{ints}
 use Rattle.scad_geom.specs.declared.point.Pt.{Pt}

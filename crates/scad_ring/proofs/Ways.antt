@@ -1,17 +1,17 @@
 -- The ring by an octagon round any edge.
-use Rattle.std.proofs.Common.{◌≡◌, ◌⊎◌, inl, inr, ℕ, ◌+◌, ◌*◌, ◌/◌, ◌≤◌, Bool, true, false, cond, ◌&&◌, List, refl, sym, subst, arith, ℤ, pos, neg_ℤ, ◌+ℤ◌, ◌-ℤ◌, ◌<ℤ◌}
+use Rattle.std.proofs.Common.{◌≡◌, ◌⊎◌, inl, inr, ℕ, ◌≤◌, Bool, true, false, cond, ◌&&◌, List, refl, subst, arith, ℤ, pos, neg_ℤ, ◌+ℤ◌, ◌-ℤ◌, ◌<ℤ◌}
 use lib.Signed.{◌≤ℤ◌}
 use Rattle.std.specs.Prelude.{◌||◌, int_lt, int_le, if◌then◌else◌}
 use Rattle.std.proofs.lemmas.Int.{ints}
 use Rattle.scad_geom.specs.declared.point.Pt.{Pt}
 use Rattle.scad_geom.specs.declared.point.Edge.{Edge}
-use Rattle.scad_geom.specs.Point.{Point, whole}
+use Rattle.scad_geom.specs.Point.{whole}
 use Rattle.scad_ring.specs.Octagon.{slant, reach, octagon}
-use Rattle.scad_ring.specs.Nearness.{Closed, Meets}
+use Rattle.scad_ring.specs.Nearness.{Closed}
 use Rattle.scad_ring.specs.Ring.{IsRing}
 use Rattle.scad_ring.specs.declared.direction.Direction.{Direction}
 use Rattle.scad_ring.specs.declared.direction.Direction.TheVariants.{Still, Flat, Right, DiagonalRight, SteepRight, Upright, SteepLeft, DiagonalLeft, Left}
-use Rattle.scad_ring.specs.Corners.{direction_of, runs_back, eight_sided, four_sided, corners_round, corners_of}
+use Rattle.scad_ring.specs.Corners.{direction_of, eight_sided, four_sided, corners_round, corners_of}
 use Rattle.scad_ring.proofs.EdgeTests.{meets_back}
 use Rattle.scad_ring.proofs.Offsets.{IsRingRound}
 use Rattle.scad_ring.proofs.StillRing.{still_round}

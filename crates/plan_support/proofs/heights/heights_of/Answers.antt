@@ -1,4 +1,4 @@
-use Rattle.std.proofs.Common.{◌≡◌, ◌++◌, [], flat_map, List, take, get_or, ap, ap₂, sym, ◌∙◌, ℤ}
+use Rattle.std.proofs.Common.{◌++◌, [], flat_map, List, take, get_or, ap, ap₂, sym, ◌∙◌, ℤ}
 use Rattle.std.specs.Ordering.{int_eq}
 use Rattle.std.proofs.lemmas.List.{take_all, take_more, flat_map_more}
 use Rattle.std.proofs.lemmas.List.Filters.{dedup_is}
