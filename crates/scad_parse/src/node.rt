@@ -1,6 +1,5 @@
 //! The nodes of the tree. Where there is no memory for what a node holds, the reader remembers it, and the node is of
-//! no
-//! meaning.
+//! no meaning.
 
 ghost use Rattle.std.specs.Prelude.{◌≡◌, IfOk};
 ghost use Rattle.scad_ast.specs.Tree.{number as number_tree, name as name_tree, call as call_tree};

@@ -124,15 +124,21 @@ impl<'p> Reader<'p> {
         self.fault.is_none() && !self.begins_with(sign)
     }
 
+    /// An end of arguments stands at the front.
+    fn begins_with_end_of_arguments(&self) -> bool
+        ensures { result ≡ stands_at ends_arguments (standing self.now) }
+    {
+        match self.front() {
+            Some(token) => ends_arguments(token),
+            None => false,
+        }
+    }
+
     /// An argument is to be read.
     pub(crate) fn lacks_end_of_arguments(&self) -> bool
         ensures { result ≡ lacks ends_arguments (standing self.now) }
     {
-        let ends = match self.front() {
-            Some(token) => ends_arguments(token),
-            None => false,
-        };
-        self.fault.is_none() && !ends
+        self.fault.is_none() && !self.begins_with_end_of_arguments()
     }
 
     /// Tokens are left.
@@ -161,6 +167,15 @@ impl<'p> Reader<'p> {
         ensures { Reads (λ e ts. needed (is_sign sign) e ts) self.old self.new no_value }
     {
         if !self.begins_with(sign) {
+            self.refuse();
+        }
+    }
+
+    /// An end of arguments, which is to come and is still to be read.
+    fn needs_end_of_arguments(&mut self)
+        ensures { Reads (λ e ts. needed ends_arguments e ts) self.old self.new no_value }
+    {
+        if !self.begins_with_end_of_arguments() {
             self.refuse();
         }
     }
@@ -334,13 +349,7 @@ impl<'p> Reader<'p> {
         if self.takes(Sign::Comma) {
             return;
         }
-        let ends = match self.front() {
-            Some(token) => ends_arguments(token),
-            None => false,
-        };
-        if !ends {
-            self.refuse();
-        }
+        self.needs_end_of_arguments();
     }
 
     /// What stands behind a member of a list up to a sign: a `,`, which is read, or the sign, which stays.
@@ -350,9 +359,7 @@ impl<'p> Reader<'p> {
         if self.takes(Sign::Comma) {
             return;
         }
-        if !self.begins_with(sign) {
-            self.refuse();
-        }
+        self.needs(sign);
     }
 
     /// One more member of a list.

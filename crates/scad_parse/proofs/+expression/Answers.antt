@@ -2,20 +2,18 @@ use Rattle.std.proofs.Common.{◌-◌, length, ap, sym, ◌∙◌, Ok, option_ma
 use Rattle.std.specs.Prelude.{is_some}
 use Rattle.scad_lex.specs.declared.token.Sign.TheVariants.{OpenRound, OpenSquare, CloseRound, CloseSquare, Question}
 use Rattle.scad_lex.specs.declared.token.Sign.TheVariants.{Colon, Bang, Plus, Minus, Dot, Caret, Semicolon}
-use Rattle.scad_lex.specs.declared.token.Key.TheVariants.{Function, If, Else, For, Let, Assert, Echo, Each}
+use Rattle.scad_lex.specs.declared.token.Key.TheVariants.{If, Else, For, Let, Assert, Echo, Each}
 use Rattle.scad_ast.specs.declared.operator.UnOp.TheVariants.{Not, Plus as UnaryPlus, Minus as UnaryMinus}
 use Rattle.scad_ast.specs.Tree.{no_arguments, name, call, choose, index, member, range, stepped, unary, binary, item}
-use Rattle.scad_ast.specs.Tree.{each}
-use Rattle.scad_ast.specs.Tree.{if_element, if_else}
+use Rattle.scad_ast.specs.Tree.{each, if_element, if_else}
 use Rattle.scad_ast.specs.View.{expression_of, element_of, elements}
 use Rattle.scad_grammar.specs.Tokens.{is_sign, is_key, operator}
 use Rattle.scad_grammar.specs.Lists.{let_of}
 use Rattle.scad_grammar.specs.Behind.{letting, asserting, echoing, keyed_tree}
-use Rattle.scad_grammar.specs.Rules.{then_read, expr_of, operand_of, unary_of, posts_of, links_of}
-use Rattle.scad_grammar.specs.Rules.{choice_of, expr_to, args_of, args_closed_of, elem_of, else_of}
-use Rattle.scad_grammar.specs.Rules.{range_end}
-use Rattle.scad_grammar.specs.Rules.{head_end, for_all, for_steps, headed as grammar_headed}
-use Rattle.scad_parse.specs.declared.fault.Form.TheVariants.{Function as FunctionForm, Power}
+use Rattle.scad_grammar.specs.Rules.{then_read, expr_of, operand_of, unary_of, posts_of, links_of, choice_of, expr_to}
+use Rattle.scad_grammar.specs.Rules.{args_of, args_closed_of, elem_of, else_of, range_end, head_end, for_all, for_steps}
+use Rattle.scad_grammar.specs.Rules.{headed as grammar_headed}
+use Rattle.scad_parse.specs.declared.fault.Form.TheVariants.{Power}
 use Rattle.scad_parse.specs.Heads.{head_of}
 use Rattle.scad_parse.specs.Reading.{below, rules_at, keyed, bound_by, prefixed_by, prim_at, name_at, name_before}
 use Rattle.scad_parse.specs.Reading.{argument_of, arguments_seen, round_head_of, chain_of}
@@ -23,72 +21,54 @@ use Rattle.scad_parse.specs.Standing.{standing, operator_at, left_out, took, wor
 use Rattle.scad_parse.proofs.loops.Arguments.{arguments_go, arguments_fewer, arguments_end}
 use Rattle.scad_parse.proofs.loops.Elements.{elements_go_on, elements_fewer_come, elements_ranged, elements_ended}
 use Rattle.scad_parse.proofs.rules.Steps.{follows, same_rule, same_rule_here, stay, made_as, made_then, expected}
-use Rattle.scad_parse.proofs.rules.Steps.{closed_by, taking, by_taken, round_opens, round_stops}
-use Rattle.scad_parse.proofs.rules.Steps.{goes_in, no_room}
-use Rattle.scad_parse.proofs.rules.Expressions.{no_rules, more_rules, opens_rule, passes_rule, expression_by}
-use Rattle.scad_parse.proofs.rules.Expressions.{expression_is}
-use Rattle.scad_parse.proofs.rules.Expressions.{not_function, not_assert, not_echo, unbound, chosen, choice_by}
-use Rattle.scad_parse.proofs.rules.Expressions.{choice_is}
-use Rattle.scad_parse.proofs.rules.Expressions.{operand_is, operand_by, alone, chain_ends, chain_looser, chain_by}
-use Rattle.scad_parse.proofs.rules.Expressions.{one_less, links_by}
-use Rattle.scad_parse.proofs.rules.Expressions.{link_by}
-use Rattle.scad_parse.proofs.rules.Expressions.{links_are, linked, unary_by, unary_is, not_bang, not_plus, unprefixed}
-use Rattle.scad_parse.proofs.rules.Expressions.{posts_by, posts_is, index_by, not_square, member_by_word, not_dot}
-use Rattle.scad_parse.proofs.rules.Expressions.{primary_by, primary_is, not_round, not_bracket, by_literal, named_by}
-use Rattle.scad_parse.proofs.rules.Expressions.{named_is, behind_name, call_by, ranged_by, ranged_is, stepping, ended}
-use Rattle.scad_parse.proofs.rules.Expressions.{element_by, element_is, not_for, not_each, not_if, plain, each_by}
-use Rattle.scad_parse.proofs.rules.Expressions.{if_by}
-use Rattle.scad_parse.proofs.rules.Expressions.{let_by, else_by, else_is, other_by, head_by, head_is, in_parts}
-use Rattle.scad_parse.proofs.rules.Expressions.{steps_by}
-use Rattle.scad_parse.proofs.rules.Expressions.{argument_by, argument_is, range_reads, range_refused}
+use Rattle.scad_parse.proofs.rules.Steps.{closed_by, taking, by_taken, round_opens, round_stops, goes_in, no_room}
+use Rattle.scad_parse.proofs.rules.Expressions.{no_rules, more_rules, opens_rule, passes_rule, past_function, past_let}
+use Rattle.scad_parse.proofs.rules.Expressions.{past_assert, past_bang, past_plus, past_round, past_bracket, past_for}
+use Rattle.scad_parse.proofs.rules.Expressions.{past_each, past_if, not_assert, not_echo, unbound, chosen, choice_by}
+use Rattle.scad_parse.proofs.rules.Expressions.{choice_is, operand_is, operand_by, alone, chain_ends, chain_looser}
+use Rattle.scad_parse.proofs.rules.Expressions.{chain_by, one_less, links_by, link_by, links_are, linked, unary_by}
+use Rattle.scad_parse.proofs.rules.Expressions.{unary_is, not_bang, not_plus, unprefixed, posts_by, posts_is, index_by}
+use Rattle.scad_parse.proofs.rules.Expressions.{not_square, member_by_word, not_dot, primary_by, primary_is, not_round}
+use Rattle.scad_parse.proofs.rules.Expressions.{not_bracket, by_literal, named_by, named_is, behind_name, call_by}
+use Rattle.scad_parse.proofs.rules.Expressions.{ranged_by, ranged_is, stepping, ended, element_by, element_is, not_for}
+use Rattle.scad_parse.proofs.rules.Expressions.{not_each, not_if, plain, each_by, if_by, let_by, else_by, else_is}
+use Rattle.scad_parse.proofs.rules.Expressions.{other_by, head_by, head_is, in_parts, steps_by, argument_by}
+use Rattle.scad_parse.proofs.rules.Expressions.{argument_is, range_reads, range_refused}
 use Rattle.scad_parse.proofs.+expression.Goals as goal
 
 pub expression::expression-returns-in-Some : goal.expression::expression-returns-in-Some
 expression::expression-returns-in-Some t c =
-    same_rule (λ e ts. expr_of e (below e c.args.room) ts) (expression_by c.args.room) (expression_is c.args.room)
-    (follows (λ e ts. left_out (is_key Function) FunctionForm ts)
-    (λ e _. not_function e c.args.room) c.leaves_out.ensures
+    past_function c.args.room c.leaves_out.ensures
     (opens_rule (is_key Let) (λ e. bound_by letting) (λ e. not_assert e c.args.room) c.in-Some.is
     c.opens_key.ensures.opens
-    c.bound.ensures))
+    c.bound.ensures)
 
 pub expression::expression-returns-in-Some-opens_key : goal.expression::expression-returns-in-Some-opens_key
 expression::expression-returns-in-Some-opens_key t c =
-    same_rule (λ e ts. expr_of e (below e c.args.room) ts) (expression_by c.args.room) (expression_is c.args.room)
-    (follows (λ e ts. left_out (is_key Function) FunctionForm ts)
-    (λ e _. not_function e c.args.room) c.leaves_out.ensures
-    (passes_rule (is_key Let) (λ e. bound_by letting) (λ e. not_assert e c.args.room) c.in_default.is
-    c.opens_key.ensures.opens
+    past_function c.args.room c.leaves_out.ensures
+    (past_let c.args.room c.in_default.is c.opens_key.ensures.opens
     (opens_rule (is_key Assert) (λ e. bound_by asserting) (λ e. not_echo e c.args.room) c.in-Some-opens_key.is
     c.opens_key-2.ensures.opens
-    c.bound-in-Some-opens_key.ensures)))
+    c.bound-in-Some-opens_key.ensures))
 
 pub expression::expression-returns-in-Some-opens_key-2 : goal.expression::expression-returns-in-Some-opens_key-2
 expression::expression-returns-in-Some-opens_key-2 t c =
-    same_rule (λ e ts. expr_of e (below e c.args.room) ts) (expression_by c.args.room) (expression_is c.args.room)
-    (follows (λ e ts. left_out (is_key Function) FunctionForm ts)
-    (λ e _. not_function e c.args.room) c.leaves_out.ensures
-    (passes_rule (is_key Let) (λ e. bound_by letting) (λ e. not_assert e c.args.room) c.in_default.is
-    c.opens_key.ensures.opens
-    (passes_rule (is_key Assert) (λ e. bound_by asserting)
-    (λ e. not_echo e c.args.room) c.in_default-opens_key.is c.opens_key-2.ensures.opens
+    past_function c.args.room c.leaves_out.ensures
+    (past_let c.args.room c.in_default.is c.opens_key.ensures.opens
+    (past_assert c.args.room c.in_default-opens_key.is c.opens_key-2.ensures.opens
     (opens_rule (is_key Echo) (λ e. bound_by echoing) (λ e. unbound e c.args.room) c.in-Some-opens_key-2.is
     c.opens_key-3.ensures.opens
-    c.bound-in-Some-opens_key-2.ensures))))
+    c.bound-in-Some-opens_key-2.ensures)))
 
 pub expression::expression-returns : goal.expression::expression-returns
 expression::expression-returns t c =
-    same_rule (λ e ts. expr_of e (below e c.args.room) ts) (expression_by c.args.room) (expression_is c.args.room)
-    (follows (λ e ts. left_out (is_key Function) FunctionForm ts)
-    (λ e _. not_function e c.args.room) c.leaves_out.ensures
-    (passes_rule (is_key Let) (λ e. bound_by letting) (λ e. not_assert e c.args.room) c.in_default.is
-    c.opens_key.ensures.opens
-    (passes_rule (is_key Assert) (λ e. bound_by asserting)
-    (λ e. not_echo e c.args.room) c.in_default-opens_key.is c.opens_key-2.ensures.opens
+    past_function c.args.room c.leaves_out.ensures
+    (past_let c.args.room c.in_default.is c.opens_key.ensures.opens
+    (past_assert c.args.room c.in_default-opens_key.is c.opens_key-2.ensures.opens
     (passes_rule (is_key Echo) (λ e. bound_by echoing) (λ e. unbound e c.args.room) c.in_default-opens_key-2.is
     c.opens_key-3.ensures.opens
     (follows (λ e ts. operand_of e (below e c.args.room) 6 ts) (λ e. choice_of e (below e c.args.room))
-    c.operand-test.ensures c.choice.ensures)))))
+    c.operand-test.ensures c.choice.ensures))))
 
 pub expression::bound-returns : goal.expression::bound-returns
 expression::bound-returns t c =
@@ -261,36 +241,28 @@ operand::unary-returns-in-Some t c =
 
 pub operand::unary-returns-in-Some-opens : goal.operand::unary-returns-in-Some-opens
 operand::unary-returns-in-Some-opens t c =
-    same_rule (λ e ts. unary_of e (below e c.args.room) ts) (unary_by c.args.room) (unary_is c.args.room)
-    (passes_rule (is_sign Bang) (λ e. prefixed_by Not) (λ e. not_bang e c.args.room) c.in_default.is
-    c.opens.ensures.opens
+    past_bang c.args.room c.in_default.is c.opens.ensures.opens
     (opens_rule (is_sign Plus) (λ e. prefixed_by UnaryPlus)
     (λ e. not_plus e c.args.room) c.in-Some-opens.is c.opens-2.ensures.opens
-    c.prefixed-in-Some-opens.ensures))
+    c.prefixed-in-Some-opens.ensures)
 
 pub operand::unary-returns-in-Some-opens-2 : goal.operand::unary-returns-in-Some-opens-2
 operand::unary-returns-in-Some-opens-2 t c =
-    same_rule (λ e ts. unary_of e (below e c.args.room) ts) (unary_by c.args.room) (unary_is c.args.room)
-    (passes_rule (is_sign Bang) (λ e. prefixed_by Not) (λ e. not_bang e c.args.room) c.in_default.is
-    c.opens.ensures.opens
-    (passes_rule (is_sign Plus) (λ e. prefixed_by UnaryPlus)
-    (λ e. not_plus e c.args.room) c.in_default-opens.is c.opens-2.ensures.opens
+    past_bang c.args.room c.in_default.is c.opens.ensures.opens
+    (past_plus c.args.room c.in_default-opens.is c.opens-2.ensures.opens
     (opens_rule (is_sign Minus) (λ e. prefixed_by UnaryMinus)
     (λ e. unprefixed e c.args.room) c.in-Some-opens-2.is c.opens-3.ensures.opens
-    c.prefixed-in-Some-opens-2.ensures)))
+    c.prefixed-in-Some-opens-2.ensures))
 
 pub operand::unary-returns : goal.operand::unary-returns
 operand::unary-returns t c =
-    same_rule (λ e ts. unary_of e (below e c.args.room) ts) (unary_by c.args.room) (unary_is c.args.room)
-    (passes_rule (is_sign Bang) (λ e. prefixed_by Not) (λ e. not_bang e c.args.room) c.in_default.is
-    c.opens.ensures.opens
-    (passes_rule (is_sign Plus) (λ e. prefixed_by UnaryPlus)
-    (λ e. not_plus e c.args.room) c.in_default-opens.is c.opens-2.ensures.opens
+    past_bang c.args.room c.in_default.is c.opens.ensures.opens
+    (past_plus c.args.room c.in_default-opens.is c.opens-2.ensures.opens
     (passes_rule (is_sign Minus) (λ e. prefixed_by UnaryMinus)
     (λ e. unprefixed e c.args.room) c.in_default-opens-2.is c.opens-3.ensures.opens
     (follows (λ e ts. prim_at e (below e c.args.room) ts) (λ e. posts_of e (below e c.args.room))
     c.primary-value.ensures
-    c.posts.ensures))))
+    c.posts.ensures)))
 
 pub operand::prefixed-returns : goal.operand::prefixed-returns
 operand::prefixed-returns t c =
@@ -357,33 +329,25 @@ primary::primary-returns-in-Some t c =
 
 pub primary::primary-returns-in-Some-opens : goal.primary::primary-returns-in-Some-opens
 primary::primary-returns-in-Some-opens t c =
-    same_rule (λ e ts. prim_at e (below e c.args.room) ts) (primary_by c.args.room) (primary_is c.args.room)
-    (passes_rule (is_sign OpenRound) (λ e at r. expr_to e CloseRound r.expr)
-    (λ e. not_round e c.args.room) c.in_default.is c.opens.ensures.opens
+    past_round c.args.room c.in_default.is c.opens.ensures.opens
     (opens_rule (is_sign OpenSquare) (λ e at r. r.brackets at)
     (λ e. not_bracket e c.args.room) c.in-Some-opens.is c.opens-2.ensures.opens
-    c.brackets.ensures))
+    c.brackets.ensures)
 
 pub primary::primary-returns-in-Some-literal : goal.primary::primary-returns-in-Some-literal
 primary::primary-returns-in-Some-literal t c =
-    same_rule (λ e ts. prim_at e (below e c.args.room) ts) (primary_by c.args.room) (primary_is c.args.room)
-    (passes_rule (is_sign OpenRound) (λ e at r. expr_to e CloseRound r.expr)
-    (λ e. not_round e c.args.room) c.in_default.is c.opens.ensures.opens
-    (passes_rule (is_sign OpenSquare) (λ e at r. r.brackets at)
-    (λ e. not_bracket e c.args.room) c.in_default-opens.is c.opens-2.ensures.opens
+    past_round c.args.room c.in_default.is c.opens.ensures.opens
+    (past_bracket c.args.room c.in_default-opens.is c.opens-2.ensures.opens
     (taking (λ e ts. literal_here ts) (λ e. by_literal e c.args.room)
-    (ap (option_map expression_of) c.in-Some-literal.is) c.literal.ensures stay)))
+    (ap (option_map expression_of) c.in-Some-literal.is) c.literal.ensures stay))
 
 pub primary::primary-returns : goal.primary::primary-returns
 primary::primary-returns t c =
-    same_rule (λ e ts. prim_at e (below e c.args.room) ts) (primary_by c.args.room) (primary_is c.args.room)
-    (passes_rule (is_sign OpenRound) (λ e at r. expr_to e CloseRound r.expr)
-    (λ e. not_round e c.args.room) c.in_default.is c.opens.ensures.opens
-    (passes_rule (is_sign OpenSquare) (λ e at r. r.brackets at)
-    (λ e. not_bracket e c.args.room) c.in_default-opens.is c.opens-2.ensures.opens
+    past_round c.args.room c.in_default.is c.opens.ensures.opens
+    (past_bracket c.args.room c.in_default-opens.is c.opens-2.ensures.opens
     (taking (λ e ts. literal_here ts) (λ e. by_literal e c.args.room)
     (ap (option_map expression_of) c.in_default-literal.is) c.literal.ensures
-    c.named.ensures)))
+    c.named.ensures))
 
 pub primary::named-returns-in_default : goal.primary::named-returns-in_default
 primary::named-returns-in_default t c =
@@ -477,21 +441,16 @@ element::element-returns-in-Some t c =
 
 pub element::element-returns-in-Some-opens_key : goal.element::element-returns-in-Some-opens_key
 element::element-returns-in-Some-opens_key t c =
-    same_rule (λ e ts. elem_of e (below e c.args.room) ts) (element_by c.args.room) (element_is c.args.room)
-    (passes_rule (is_key For) (λ e at r. r.for_behind at) (λ e. not_for e c.args.room) c.in_default.is
-    c.opens_key.ensures.opens
+    past_for c.args.room c.in_default.is c.opens_key.ensures.opens
     (opens_rule (is_key Each) (λ e. each_by) (λ e. not_each e c.args.room) c.in-Some-opens_key.is
     c.opens_key-2.ensures.opens
     (follows (λ e ts. (rules_at e c.in-Some-opens_key.open.room).elem ts)
-    (λ e el us. Ok (each c.in-Some-opens_key.open.at el, us)) c.element-elem.ensures c.each.ensures)))
+    (λ e el us. Ok (each c.in-Some-opens_key.open.at el, us)) c.element-elem.ensures c.each.ensures))
 
 pub element::element-returns-in-Some-opens_key-2 : goal.element::element-returns-in-Some-opens_key-2
 element::element-returns-in-Some-opens_key-2 t c =
-    same_rule (λ e ts. elem_of e (below e c.args.room) ts) (element_by c.args.room) (element_is c.args.room)
-    (passes_rule (is_key For) (λ e at r. r.for_behind at) (λ e. not_for e c.args.room) c.in_default.is
-    c.opens_key.ensures.opens
-    (passes_rule (is_key Each) (λ e. each_by) (λ e. not_each e c.args.room) c.in_default-opens_key.is
-    c.opens_key-2.ensures.opens
+    past_for c.args.room c.in_default.is c.opens_key.ensures.opens
+    (past_each c.args.room c.in_default-opens_key.is c.opens_key-2.ensures.opens
     (opens_rule (is_key If) (λ e. if_by) (λ e. not_if e c.args.room) c.in-Some-opens_key-2.is
     c.opens_key-3.ensures.opens
     (follows (λ e ts. (rules_at e c.in-Some-opens_key-2.open.room).round_expr ts)
@@ -500,17 +459,13 @@ element::element-returns-in-Some-opens_key-2 t c =
     c.round_expression-test.ensures
     (follows (λ e ts. (rules_at e c.in-Some-opens_key-2.open.room).elem ts)
     (λ e. (rules_at e c.in-Some-opens_key-2.open.room).else_end c.in-Some-opens_key-2.open.at
-    (expression_of c.round_expression-test.result)) c.element-held.ensures c.otherwise.ensures)))))
+    (expression_of c.round_expression-test.result)) c.element-held.ensures c.otherwise.ensures))))
 
 pub element::element-returns-in-Some-opens_key-3 : goal.element::element-returns-in-Some-opens_key-3
 element::element-returns-in-Some-opens_key-3 t c =
-    same_rule (λ e ts. elem_of e (below e c.args.room) ts) (element_by c.args.room) (element_is c.args.room)
-    (passes_rule (is_key For) (λ e at r. r.for_behind at) (λ e. not_for e c.args.room) c.in_default.is
-    c.opens_key.ensures.opens
-    (passes_rule (is_key Each) (λ e. each_by) (λ e. not_each e c.args.room) c.in_default-opens_key.is
-    c.opens_key-2.ensures.opens
-    (passes_rule (is_key If) (λ e. if_by) (λ e. not_if e c.args.room) c.in_default-opens_key-2.is
-    c.opens_key-3.ensures.opens
+    past_for c.args.room c.in_default.is c.opens_key.ensures.opens
+    (past_each c.args.room c.in_default-opens_key.is c.opens_key-2.ensures.opens
+    (past_if c.args.room c.in_default-opens_key-2.is c.opens_key-3.ensures.opens
     (opens_rule (is_key Let) (λ e. let_by) (λ e. plain e c.args.room) c.in-Some-opens_key-3.is
     c.opens_key-4.ensures.opens
     (follows (λ e ts. (rules_at e c.in-Some-opens_key-3.open.room).round_args ts)
@@ -518,20 +473,16 @@ element::element-returns-in-Some-opens_key-3 t c =
     (λ el vs. Ok (let_of c.in-Some-opens_key-3.open.at all el, vs))) c.round_arguments-args.ensures
     (follows (λ e ts. (rules_at e c.in-Some-opens_key-3.open.room).elem ts)
     (λ e el vs. Ok (let_of c.in-Some-opens_key-3.open.at (arguments_seen c.round_arguments-args.result) el, vs))
-    c.element-body.ensures c.let_element.ensures))))))
+    c.element-body.ensures c.let_element.ensures)))))
 
 pub element::element-returns : goal.element::element-returns
 element::element-returns t c =
-    same_rule (λ e ts. elem_of e (below e c.args.room) ts) (element_by c.args.room) (element_is c.args.room)
-    (passes_rule (is_key For) (λ e at r. r.for_behind at) (λ e. not_for e c.args.room) c.in_default.is
-    c.opens_key.ensures.opens
-    (passes_rule (is_key Each) (λ e. each_by) (λ e. not_each e c.args.room) c.in_default-opens_key.is
-    c.opens_key-2.ensures.opens
-    (passes_rule (is_key If) (λ e. if_by) (λ e. not_if e c.args.room) c.in_default-opens_key-2.is
-    c.opens_key-3.ensures.opens
+    past_for c.args.room c.in_default.is c.opens_key.ensures.opens
+    (past_each c.args.room c.in_default-opens_key.is c.opens_key-2.ensures.opens
+    (past_if c.args.room c.in_default-opens_key-2.is c.opens_key-3.ensures.opens
     (passes_rule (is_key Let) (λ e. let_by) (λ e. plain e c.args.room) c.in_default-opens_key-3.is
     c.opens_key-4.ensures.opens
-    (follows (λ e ts. expr_of e (below e c.args.room) ts) (λ e x us. Ok (item x, us)) c.expression.ensures stay)))))
+    (follows (λ e ts. expr_of e (below e c.args.room) ts) (λ e x us. Ok (item x, us)) c.expression.ensures stay))))
 
 pub element::otherwise-returns-in_default : goal.element::otherwise-returns-in_default
 element::otherwise-returns-in_default t c =

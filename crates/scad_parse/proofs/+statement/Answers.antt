@@ -1,6 +1,6 @@
 use Rattle.std.proofs.Common.{ap, sym, ◌∙◌, true, false, Ok}
 use Rattle.scad_lex.specs.declared.token.Sign.TheVariants.{Star, Percent, Hash, Bang, Semicolon, OpenCurly, Assign}
-use Rattle.scad_lex.specs.declared.token.Key.TheVariants.{Else, If, Include, Use, Module, Function}
+use Rattle.scad_lex.specs.declared.token.Key.TheVariants.{Else, If, Module, Function}
 use Rattle.scad_ast.specs.Tree.{choice, call_of, assignment, module_of, no_items}
 use Rattle.scad_ast.specs.Scope.{items}
 use Rattle.scad_ast.specs.View.{expression_of}
@@ -9,25 +9,21 @@ use Rattle.scad_grammar.specs.Tokens.{is_sign, is_key}
 use Rattle.scad_grammar.specs.Lists.{with_item, with_statement, no_marks, starred, percented, hashed}
 use Rattle.scad_grammar.specs.Rules.{then_read, deeper, expr_of, expr_to}
 use Rattle.scad_grammar.specs.StatementRules.{statement_of, child_of, otherwise_of}
-use Rattle.scad_parse.specs.declared.fault.Form.TheVariants.{Include as IncludeForm, Use as UseForm, Root}
+use Rattle.scad_parse.specs.declared.fault.Form.TheVariants.{Root}
 use Rattle.scad_parse.specs.Reading.{below, rules_at, arguments_seen}
 use Rattle.scad_parse.specs.ReadingStatements.{below_statements, statement_rules_at, parameters_seen, marks_of}
-use Rattle.scad_parse.specs.ReadingStatements.{heading_read}
-use Rattle.scad_parse.specs.ReadingStatements.{other_of, unmarked_of, first_at, definition_at, word_at, call_at}
-use Rattle.scad_parse.specs.ReadingStatements.{callee_here}
-use Rattle.scad_parse.specs.ReadingStatements.{marks_here}
+use Rattle.scad_parse.specs.ReadingStatements.{heading_read, other_of, unmarked_of, first_at, definition_at, word_at}
+use Rattle.scad_parse.specs.ReadingStatements.{call_at, callee_here, marks_here}
 use Rattle.scad_parse.specs.Standing.{left_out, took, took_at, word_here}
 use Rattle.scad_parse.proofs.loops.Groups.{group_next, group_fewer_come, group_ended}
 use Rattle.scad_parse.proofs.rules.Steps.{follows, same_rule, stay, made_as, made_same, taking, by_taken, by_place}
 use Rattle.scad_parse.proofs.rules.Steps.{goes_in, no_room, given_as}
 use Rattle.scad_parse.proofs.rules.Statements.{no_statements, more_statements, opens_statement, passes_statement}
-use Rattle.scad_parse.proofs.rules.Statements.{by_marks}
-use Rattle.scad_parse.proofs.rules.Statements.{when_at, unless_at, is_word, statement_by, statement_is, not_semicolon}
-use Rattle.scad_parse.proofs.rules.Statements.{not_curly, not_word, not_word_as, definition_by, definition_is}
-use Rattle.scad_parse.proofs.rules.Statements.{not_module}
-use Rattle.scad_parse.proofs.rules.Statements.{first_by, first_is, not_include, not_use, not_star, not_percent}
-use Rattle.scad_parse.proofs.rules.Statements.{not_hash}
-use Rattle.scad_parse.proofs.rules.Statements.{not_root, marked_by, marked_is, run_by, run_is, not_left_out, called_by}
+use Rattle.scad_parse.proofs.rules.Statements.{past_semicolon, past_curly, past_word, past_module, past_files}
+use Rattle.scad_parse.proofs.rules.Statements.{past_star, past_percent, past_hash, past_root, by_marks, when_at}
+use Rattle.scad_parse.proofs.rules.Statements.{is_word, statement_by, statement_is, not_semicolon, not_curly, not_word}
+use Rattle.scad_parse.proofs.rules.Statements.{definition_by, definition_is, not_module, not_star, not_percent}
+use Rattle.scad_parse.proofs.rules.Statements.{not_hash, marked_by, marked_is, run_by, run_is, not_left_out, called_by}
 use Rattle.scad_parse.proofs.rules.Statements.{other_by, other_is, otherwise_other, child_by, child_is, not_ended}
 use Rattle.scad_parse.proofs.rules.Statements.{word_behind_by, word_behind_is, assigned_by, module_by, module_is}
 use Rattle.scad_parse.proofs.+statement.Goals as goal
@@ -42,59 +38,32 @@ statement::statement-returns-then-takes t c =
 
 pub statement::statement-returns-in-Some : goal.statement::statement-returns-in-Some
 statement::statement-returns-in-Some t c =
-    same_rule (λ e ts. statement_of e (below_statements e c.args.room) c.args.definitions (items c.args.scope.items) ts)
-    (statement_by c.args.definitions c.args.room (items c.args.scope.items))
-    (statement_is c.args.definitions c.args.room (items c.args.scope.items))
-    (taking (λ e ts. took (is_sign Semicolon) ts) (λ e. by_taken (λ us. Ok (items c.args.scope.items, us))
-    (not_semicolon c.args.definitions c.args.room (items c.args.scope.items) e)) c.if-takes.false c.takes.ensures
+    past_semicolon c.args.definitions c.args.room (items c.args.scope.items) c.if-takes.false c.takes.ensures
     (opens_statement (is_sign OpenCurly) (λ e at r. r.group c.args.definitions (items c.args.scope.items))
     (not_curly c.args.definitions c.args.room (items c.args.scope.items)) c.in-Some.is c.opens.ensures.opens
-    c.group.ensures))
+    c.group.ensures)
 
 pub statement::statement-returns-then-begins_with_word : goal.statement::statement-returns-then-begins_with_word
 statement::statement-returns-then-begins_with_word t c =
-    same_rule (λ e ts. statement_of e (below_statements e c.args.room) c.args.definitions (items c.args.scope.items) ts)
-    (statement_by c.args.definitions c.args.room (items c.args.scope.items))
-    (statement_is c.args.definitions c.args.room (items c.args.scope.items))
-    (taking (λ e ts. took (is_sign Semicolon) ts) (λ e. by_taken (λ us. Ok (items c.args.scope.items, us))
-    (not_semicolon c.args.definitions c.args.room (items c.args.scope.items) e)) c.if-takes.false c.takes.ensures
-    (passes_statement (is_sign OpenCurly) (λ e at r. r.group c.args.definitions (items c.args.scope.items))
-    (not_curly c.args.definitions c.args.room (items c.args.scope.items)) c.in_default.is c.opens.ensures.opens
+    past_semicolon c.args.definitions c.args.room (items c.args.scope.items) c.if-takes.false c.takes.ensures
+    (past_curly c.args.definitions c.args.room (items c.args.scope.items) c.in_default.is c.opens.ensures.opens
     (when_at is_word (λ e. word_at e (below_statements e c.args.room) (items c.args.scope.items))
     (not_word c.args.definitions c.args.room (items c.args.scope.items))
-    (sym c.begins_with_word.ensures ∙ c.if-begins_with_word.true) c.worded.ensures)))
+    (sym c.begins_with_word.ensures ∙ c.if-begins_with_word.true) c.worded.ensures))
 
 pub statement::statement-returns-then-definitions : goal.statement::statement-returns-then-definitions
 statement::statement-returns-then-definitions t c =
-    same_rule (λ e ts. statement_of e (below_statements e c.args.room) c.args.definitions (items c.args.scope.items) ts)
-    (statement_by c.args.definitions c.args.room (items c.args.scope.items))
-    (statement_is c.args.definitions c.args.room (items c.args.scope.items))
-    (taking (λ e ts. took (is_sign Semicolon) ts) (λ e. by_taken (λ us. Ok (items c.args.scope.items, us))
-    (not_semicolon c.args.definitions c.args.room (items c.args.scope.items) e)) c.if-takes.false c.takes.ensures
-    (passes_statement (is_sign OpenCurly) (λ e at r. r.group c.args.definitions (items c.args.scope.items))
-    (not_curly c.args.definitions c.args.room (items c.args.scope.items)) c.in_default.is c.opens.ensures.opens
-    (unless_at is_word
-    (λ e. word_at e (below_statements e c.args.room) (items c.args.scope.items))
-    (not_word c.args.definitions c.args.room (items c.args.scope.items))
-    (sym c.begins_with_word.ensures ∙ c.if-begins_with_word.false)
-    (not_word_as c.args.definitions true c.args.room (items c.args.scope.items) c.if-definitions.true
-    c.definition.ensures))))
+    past_semicolon c.args.definitions c.args.room (items c.args.scope.items) c.if-takes.false c.takes.ensures
+    (past_curly c.args.definitions c.args.room (items c.args.scope.items) c.in_default.is c.opens.ensures.opens
+    (past_word c.args.definitions true c.args.room (items c.args.scope.items) c.if-definitions.true
+    (sym c.begins_with_word.ensures ∙ c.if-begins_with_word.false) c.definition.ensures))
 
 pub statement::statement-returns : goal.statement::statement-returns
 statement::statement-returns t c =
-    same_rule (λ e ts. statement_of e (below_statements e c.args.room) c.args.definitions (items c.args.scope.items) ts)
-    (statement_by c.args.definitions c.args.room (items c.args.scope.items))
-    (statement_is c.args.definitions c.args.room (items c.args.scope.items))
-    (taking (λ e ts. took (is_sign Semicolon) ts) (λ e. by_taken (λ us. Ok (items c.args.scope.items, us))
-    (not_semicolon c.args.definitions c.args.room (items c.args.scope.items) e)) c.if-takes.false c.takes.ensures
-    (passes_statement (is_sign OpenCurly) (λ e at r. r.group c.args.definitions (items c.args.scope.items))
-    (not_curly c.args.definitions c.args.room (items c.args.scope.items)) c.in_default.is c.opens.ensures.opens
-    (unless_at is_word
-    (λ e. word_at e (below_statements e c.args.room) (items c.args.scope.items))
-    (not_word c.args.definitions c.args.room (items c.args.scope.items))
-    (sym c.begins_with_word.ensures ∙ c.if-begins_with_word.false)
-    (not_word_as c.args.definitions false c.args.room (items c.args.scope.items) c.if-definitions.false
-    c.first.ensures))))
+    past_semicolon c.args.definitions c.args.room (items c.args.scope.items) c.if-takes.false c.takes.ensures
+    (past_curly c.args.definitions c.args.room (items c.args.scope.items) c.in_default.is c.opens.ensures.opens
+    (past_word c.args.definitions false c.args.room (items c.args.scope.items) c.if-definitions.false
+    (sym c.begins_with_word.ensures ∙ c.if-begins_with_word.false) c.first.ensures))
 
 pub statement::group-statements-preserved : goal.statement::group-statements-preserved
 statement::group-statements-preserved t c =
@@ -195,110 +164,68 @@ statement::definition-returns-in-Some t c =
 
 pub statement::definition-returns-in-Some-opens_key : goal.statement::definition-returns-in-Some-opens_key
 statement::definition-returns-in-Some-opens_key t c =
-    same_rule (λ e ts. definition_at e (below_statements e c.args.room) (items c.args.scope.items) ts)
-    (definition_by c.args.room (items c.args.scope.items)) (definition_is c.args.room (items c.args.scope.items))
-    (passes_statement (is_key Module) (λ e at r. r.module_behind at (items c.args.scope.items))
-    (not_module c.args.room (items c.args.scope.items)) c.in_default.is c.opens_key.ensures.opens
+    past_module c.args.room (items c.args.scope.items) c.in_default.is c.opens_key.ensures.opens
     (opens_statement (is_key Function) (λ e at r. r.function_behind at (items c.args.scope.items))
     (λ e. first_at e (below_statements e c.args.room) (items c.args.scope.items)) c.in-Some-opens_key.is
-    c.opens_key-2.ensures.opens c.function.ensures))
+    c.opens_key-2.ensures.opens c.function.ensures)
 
 pub statement::definition-returns : goal.statement::definition-returns
 statement::definition-returns t c =
-    same_rule (λ e ts. definition_at e (below_statements e c.args.room) (items c.args.scope.items) ts)
-    (definition_by c.args.room (items c.args.scope.items)) (definition_is c.args.room (items c.args.scope.items))
-    (passes_statement (is_key Module) (λ e at r. r.module_behind at (items c.args.scope.items))
-    (not_module c.args.room (items c.args.scope.items)) c.in_default.is c.opens_key.ensures.opens
+    past_module c.args.room (items c.args.scope.items) c.in_default.is c.opens_key.ensures.opens
     (passes_statement (is_key Function) (λ e at r. r.function_behind at (items c.args.scope.items))
     (λ e. first_at e (below_statements e c.args.room) (items c.args.scope.items)) c.in_default-opens_key.is
-    c.opens_key-2.ensures.opens c.first.ensures))
+    c.opens_key-2.ensures.opens c.first.ensures)
 
 pub instance::first-returns-in-Some : goal.instance::first-returns-in-Some
 instance::first-returns-in-Some t c =
-    same_rule (λ e ts. first_at e (below_statements e c.args.room) (items c.args.scope.items) ts)
-    (first_by c.args.room (items c.args.scope.items)) (first_is c.args.room (items c.args.scope.items))
-    (follows (λ e ts. left_out (is_key Include) IncludeForm ts)
-    (λ e _. not_include c.args.room (items c.args.scope.items) e) c.leaves_out.ensures
-    (follows (λ e ts. left_out (is_key Use) UseForm ts) (λ e _. not_use c.args.room (items c.args.scope.items) e)
-    c.leaves_out-2.ensures
+    past_files c.args.room (items c.args.scope.items) c.leaves_out.ensures c.leaves_out-2.ensures
     (opens_statement (is_sign Star) (λ e at r. r.marked (starred no_marks) (items c.args.scope.items))
     (not_star c.args.room (items c.args.scope.items)) c.in-Some.is c.opens.ensures.opens (by_marks
     (λ m e ts. (statement_rules_at e c.in-Some.open.room).marked m (items c.args.scope.items) ts)
-    (c.starred.ensures ∙ ap starred c.unmarked-none.ensures) c.marked.ensures))))
+    (c.starred.ensures ∙ ap starred c.unmarked-none.ensures) c.marked.ensures))
 
 pub instance::first-returns-in-Some-opens : goal.instance::first-returns-in-Some-opens
 instance::first-returns-in-Some-opens t c =
-    same_rule (λ e ts. first_at e (below_statements e c.args.room) (items c.args.scope.items) ts)
-    (first_by c.args.room (items c.args.scope.items)) (first_is c.args.room (items c.args.scope.items))
-    (follows (λ e ts. left_out (is_key Include) IncludeForm ts)
-    (λ e _. not_include c.args.room (items c.args.scope.items) e) c.leaves_out.ensures
-    (follows (λ e ts. left_out (is_key Use) UseForm ts) (λ e _. not_use c.args.room (items c.args.scope.items) e)
-    c.leaves_out-2.ensures
-    (passes_statement (is_sign Star) (λ e at r. r.marked (starred no_marks) (items c.args.scope.items))
-    (not_star c.args.room (items c.args.scope.items)) c.in_default.is c.opens.ensures.opens
+    past_files c.args.room (items c.args.scope.items) c.leaves_out.ensures c.leaves_out-2.ensures
+    (past_star c.args.room (items c.args.scope.items) c.in_default.is c.opens.ensures.opens
     (opens_statement (is_sign Percent) (λ e at r. r.marked (percented no_marks) (items c.args.scope.items))
     (not_percent c.args.room (items c.args.scope.items)) c.in-Some-opens.is c.opens-2.ensures.opens (by_marks
     (λ m e ts. (statement_rules_at e c.in-Some-opens.open.room).marked m (items c.args.scope.items) ts)
-    (c.percented.ensures ∙ ap percented c.unmarked-none.ensures) c.marked-in-Some-opens.ensures)))))
+    (c.percented.ensures ∙ ap percented c.unmarked-none.ensures) c.marked-in-Some-opens.ensures)))
 
 pub instance::first-returns-in-Some-opens-2 : goal.instance::first-returns-in-Some-opens-2
 instance::first-returns-in-Some-opens-2 t c =
-    same_rule (λ e ts. first_at e (below_statements e c.args.room) (items c.args.scope.items) ts)
-    (first_by c.args.room (items c.args.scope.items)) (first_is c.args.room (items c.args.scope.items))
-    (follows (λ e ts. left_out (is_key Include) IncludeForm ts)
-    (λ e _. not_include c.args.room (items c.args.scope.items) e) c.leaves_out.ensures
-    (follows (λ e ts. left_out (is_key Use) UseForm ts) (λ e _. not_use c.args.room (items c.args.scope.items) e)
-    c.leaves_out-2.ensures
-    (passes_statement (is_sign Star) (λ e at r. r.marked (starred no_marks) (items c.args.scope.items))
-    (not_star c.args.room (items c.args.scope.items)) c.in_default.is c.opens.ensures.opens
-    (passes_statement (is_sign Percent) (λ e at r. r.marked (percented no_marks) (items c.args.scope.items))
-    (not_percent c.args.room (items c.args.scope.items)) c.in_default-opens.is c.opens-2.ensures.opens
+    past_files c.args.room (items c.args.scope.items) c.leaves_out.ensures c.leaves_out-2.ensures
+    (past_star c.args.room (items c.args.scope.items) c.in_default.is c.opens.ensures.opens
+    (past_percent c.args.room (items c.args.scope.items) c.in_default-opens.is c.opens-2.ensures.opens
     (opens_statement (is_sign Hash) (λ e at r. r.marked (hashed no_marks) (items c.args.scope.items))
     (not_hash c.args.room (items c.args.scope.items)) c.in-Some-opens-2.is c.opens-3.ensures.opens (by_marks
     (λ m e ts. (statement_rules_at e c.in-Some-opens-2.open.room).marked m (items c.args.scope.items) ts)
-    (c.hashed.ensures ∙ ap hashed c.unmarked-none.ensures) c.marked-in-Some-opens-2.ensures))))))
+    (c.hashed.ensures ∙ ap hashed c.unmarked-none.ensures) c.marked-in-Some-opens-2.ensures))))
 
 pub instance::first-returns-in-Some-opens_key : goal.instance::first-returns-in-Some-opens_key
 instance::first-returns-in-Some-opens_key t c =
-    same_rule (λ e ts. first_at e (below_statements e c.args.room) (items c.args.scope.items) ts)
-    (first_by c.args.room (items c.args.scope.items)) (first_is c.args.room (items c.args.scope.items))
-    (follows (λ e ts. left_out (is_key Include) IncludeForm ts)
-    (λ e _. not_include c.args.room (items c.args.scope.items) e) c.leaves_out.ensures
-    (follows (λ e ts. left_out (is_key Use) UseForm ts) (λ e _. not_use c.args.room (items c.args.scope.items) e)
-    c.leaves_out-2.ensures
-    (passes_statement (is_sign Star) (λ e at r. r.marked (starred no_marks) (items c.args.scope.items))
-    (not_star c.args.room (items c.args.scope.items)) c.in_default.is c.opens.ensures.opens
-    (passes_statement (is_sign Percent) (λ e at r. r.marked (percented no_marks) (items c.args.scope.items))
-    (not_percent c.args.room (items c.args.scope.items)) c.in_default-opens.is c.opens-2.ensures.opens
-    (passes_statement (is_sign Hash) (λ e at r. r.marked (hashed no_marks) (items c.args.scope.items))
-    (not_hash c.args.room (items c.args.scope.items)) c.in_default-opens-2.is c.opens-3.ensures.opens
-    (follows (λ e ts. left_out (is_sign Bang) Root ts) (λ e _. not_root c.args.room (items c.args.scope.items) e)
-    c.leaves_out_sign.ensures
+    past_files c.args.room (items c.args.scope.items) c.leaves_out.ensures c.leaves_out-2.ensures
+    (past_star c.args.room (items c.args.scope.items) c.in_default.is c.opens.ensures.opens
+    (past_percent c.args.room (items c.args.scope.items) c.in_default-opens.is c.opens-2.ensures.opens
+    (past_hash c.args.room (items c.args.scope.items) c.in_default-opens-2.is c.opens-3.ensures.opens
+    (past_root c.args.room (items c.args.scope.items) c.leaves_out_sign.ensures
     (opens_statement (is_key If) (λ e at r. r.choice_behind at no_marks (items c.args.scope.items))
     (λ e. call_at e (below_statements e c.args.room) (items c.args.scope.items)) c.in-Some-opens_key.is
     c.opens_key.ensures.opens (by_marks
     (λ m e ts. (statement_rules_at e c.in-Some-opens_key.open.room).choice_behind c.in-Some-opens_key.open.at m
-    (items c.args.scope.items) ts) c.unmarked-none.ensures c.choice.ensures))))))))
+    (items c.args.scope.items) ts) c.unmarked-none.ensures c.choice.ensures))))))
 
 pub instance::first-returns : goal.instance::first-returns
 instance::first-returns t c =
-    same_rule (λ e ts. first_at e (below_statements e c.args.room) (items c.args.scope.items) ts)
-    (first_by c.args.room (items c.args.scope.items)) (first_is c.args.room (items c.args.scope.items))
-    (follows (λ e ts. left_out (is_key Include) IncludeForm ts)
-    (λ e _. not_include c.args.room (items c.args.scope.items) e) c.leaves_out.ensures
-    (follows (λ e ts. left_out (is_key Use) UseForm ts) (λ e _. not_use c.args.room (items c.args.scope.items) e)
-    c.leaves_out-2.ensures
-    (passes_statement (is_sign Star) (λ e at r. r.marked (starred no_marks) (items c.args.scope.items))
-    (not_star c.args.room (items c.args.scope.items)) c.in_default.is c.opens.ensures.opens
-    (passes_statement (is_sign Percent) (λ e at r. r.marked (percented no_marks) (items c.args.scope.items))
-    (not_percent c.args.room (items c.args.scope.items)) c.in_default-opens.is c.opens-2.ensures.opens
-    (passes_statement (is_sign Hash) (λ e at r. r.marked (hashed no_marks) (items c.args.scope.items))
-    (not_hash c.args.room (items c.args.scope.items)) c.in_default-opens-2.is c.opens-3.ensures.opens
-    (follows (λ e ts. left_out (is_sign Bang) Root ts) (λ e _. not_root c.args.room (items c.args.scope.items) e)
-    c.leaves_out_sign.ensures
+    past_files c.args.room (items c.args.scope.items) c.leaves_out.ensures c.leaves_out-2.ensures
+    (past_star c.args.room (items c.args.scope.items) c.in_default.is c.opens.ensures.opens
+    (past_percent c.args.room (items c.args.scope.items) c.in_default-opens.is c.opens-2.ensures.opens
+    (past_hash c.args.room (items c.args.scope.items) c.in_default-opens-2.is c.opens-3.ensures.opens
+    (past_root c.args.room (items c.args.scope.items) c.leaves_out_sign.ensures
     (passes_statement (is_key If) (λ e at r. r.choice_behind at no_marks (items c.args.scope.items))
     (λ e. call_at e (below_statements e c.args.room) (items c.args.scope.items)) c.in_default-opens_key.is
-    c.opens_key.ensures.opens c.called_first.ensures)))))))
+    c.opens_key.ensures.opens c.called_first.ensures)))))
 
 pub instance::marked-returns : goal.instance::marked-returns
 instance::marked-returns t c =

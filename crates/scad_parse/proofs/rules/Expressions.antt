@@ -1,20 +1,19 @@
 -- The rules of expressions, step by step as the descent takes them.
-use Rattle.std.proofs.Common.{◌≡◌, ℕ, zero, suc, Bool, true, false, List, [], ◌∷◌, Option, Some, None, Ok, Err}
-use Rattle.std.proofs.Common.{refl, sym, ap, subst, ◌∙◌, ◌-◌, arith}
+use Rattle.std.proofs.Common.{◌≡◌, ℕ, zero, suc, Bool, true, false, List, [], ◌∷◌, Option, Some, None, Ok, Err, refl}
+use Rattle.std.proofs.Common.{sym, ap, subst, ◌∙◌, ◌-◌, arith}
 use Rattle.std.specs.Prelude.{if◌then◌else◌, codes, is_some, ◌≢◌}
 use Rattle.scad_fault.specs.declared.place.Place.{Place}
 use Rattle.scad_lex.specs.declared.token.Token.{Token}
 use Rattle.scad_lex.specs.declared.token.TokenKind.{TokenKind}
-use Rattle.scad_lex.specs.declared.token.TokenKind.TheVariants.{Number as NumberKind, Str as StrKind}
-use Rattle.scad_lex.specs.declared.token.TokenKind.TheVariants.{Word as WordKind, Sign as SignKind, Key as KeyKind}
+use Rattle.scad_lex.specs.declared.token.TokenKind.TheVariants.{Number as NumberKind, Str as StrKind, Word as WordKind}
+use Rattle.scad_lex.specs.declared.token.TokenKind.TheVariants.{Sign as SignKind, Key as KeyKind}
 use Rattle.scad_lex.specs.declared.token.Sign.TheVariants.{OpenRound, OpenSquare, CloseRound, CloseSquare, Question}
 use Rattle.scad_lex.specs.declared.token.Sign.TheVariants.{Colon, Bang, Plus, Minus, Dot, Caret, Semicolon}
 use Rattle.scad_lex.specs.declared.token.Key.TheVariants.{Function, If, Else, For, Let, Assert, Echo, Each}
 use Rattle.scad_ast.specs.declared.operator.UnOp.TheVariants.{Not, Plus as UnaryPlus, Minus as UnaryMinus}
 use Rattle.scad_ast.specs.declared.operator.BinOp.{BinOp}
 use Rattle.scad_ast.specs.Tree.{Expression, name, call, choose, index, member, range, stepped, binary, Element, item}
-use Rattle.scad_ast.specs.Tree.{each, Elements}
-use Rattle.scad_ast.specs.Tree.{if_element, if_else, Arguments}
+use Rattle.scad_ast.specs.Tree.{each, Elements, if_element, if_else, Arguments}
 use Rattle.scad_grammar.specs.Tokens.{is_sign, is_key, word_of, operator, operator_kind, operator_sign, on_line}
 use Rattle.scad_grammar.specs.Lists.{let_of}
 use Rattle.scad_grammar.specs.Behind.{letting, asserting, echoing}
@@ -22,21 +21,19 @@ use Rattle.scad_grammar.specs.Steps.{literal, range_start}
 use Rattle.scad_grammar.specs.Grammar.{begins_named}
 use Rattle.scad_grammar.specs.Machine.{syntax_at, left_out_at}
 use Rattle.scad_grammar.specs.Rules.{Read, Rules, then_read, behind_sign, deeper, expr_of, operand_of, unary_of}
-use Rattle.scad_grammar.specs.Rules.{prim_of}
-use Rattle.scad_grammar.specs.Rules.{posts_of, links_of, link_of, choice_of, expr_to, word_rule, call_or_name}
-use Rattle.scad_grammar.specs.Rules.{literal_rule, member_by, member_of}
-use Rattle.scad_grammar.specs.Rules.{elem_of, else_of, range_by, range_end, head_end, Head, for_all, for_steps}
-use Rattle.scad_grammar.specs.Rules.{args_closed_of}
+use Rattle.scad_grammar.specs.Rules.{prim_of, posts_of, links_of, link_of, choice_of, expr_to, word_rule, call_or_name}
+use Rattle.scad_grammar.specs.Rules.{literal_rule, member_by, member_of, elem_of, else_of, range_by, range_end}
+use Rattle.scad_grammar.specs.Rules.{head_end, Head, for_all, for_steps, args_closed_of}
 use Rattle.scad_parse.specs.declared.fault.Form.TheVariants.{Function as FunctionForm, Power}
 use Rattle.scad_parse.specs.Reading.{below, rules_at, bound_by, prefixed_by, prim_at, name_at, no_value, behind}
-use Rattle.scad_parse.specs.Reading.{place_of, is_operator, is_operator_kind, chain_of}
-use Rattle.scad_parse.specs.Reading.{range_at, name_before, first_word, argument_of}
+use Rattle.scad_parse.specs.Reading.{place_of, is_operator, is_operator_kind, chain_of, range_at, name_before}
+use Rattle.scad_parse.specs.Reading.{first_word, argument_of}
 use Rattle.scad_parse.specs.declared.reader.Reader.{Reader}
 use Rattle.scad_parse.specs.declared.reader.Open.{Open}
-use Rattle.scad_parse.specs.Standing.{Standing, Turn, Reads, Opens, standing, passed, operator_at, left_out}
-use Rattle.scad_parse.specs.Standing.{stands_at}
+use Rattle.scad_parse.specs.Standing.{Standing, Turn, Reads, Opens, standing, passed, operator_at, left_out, stands_at}
 use Rattle.scad_parse.specs.Standing.{literal_here, literal_by, word_here, word_by, took}
-use Rattle.scad_parse.proofs.rules.Steps.{opened_or, opens, passes, follows, turn_refused, out, by_taken, taken}
+use Rattle.scad_parse.proofs.rules.Steps.{opened_or, opens, passes, follows, same_rule, turn_refused, out, by_taken}
+use Rattle.scad_parse.proofs.rules.Steps.{taken}
 
 pub no_rules : (e : Place) → below e 0 ≡ None
 unfolding below
@@ -80,6 +77,21 @@ pub expression_is : (room : ℕ) (e : Place) (ts : List Token) → expr_of e (be
 unfolding expr_of operand_of unary_of
 expression_is room e [] = refl
 expression_is room e (t ∷ ts) = out (is_key Function) FunctionForm t ts (not_function e room)
+
+-- what doesn't come at the front is passed over
+module _ (room : ℕ) {q r s : Reader} {b : Expression} where
+  pub past_function : Reads (λ e ts. left_out (is_key Function) FunctionForm ts) q r no_value →
+      Reads (λ e. not_function e room) r s b → Reads (λ e ts. expr_of e (below e room) ts) q s b
+  past_function x y = same_rule (λ e ts. expr_of e (below e room) ts) (expression_by room) (expression_is room)
+      (follows (λ e ts. left_out (is_key Function) FunctionForm ts) (λ e _. not_function e room) x y)
+
+  pub past_let : {found : Option Open} → found ≡ None → Opens (is_key Let) room q r found →
+      Reads (λ e. not_assert e room) r s b → Reads (λ e. not_function e room) q s b
+  past_let is x y = passes_rule (is_key Let) (λ e. bound_by letting) (λ e. not_assert e room) is x y
+
+  pub past_assert : {found : Option Open} → found ≡ None → Opens (is_key Assert) room q r found →
+      Reads (λ e. not_echo e room) r s b → Reads (λ e. not_assert e room) q s b
+  past_assert is x y = passes_rule (is_key Assert) (λ e. bound_by asserting) (λ e. not_echo e room) is x y
 
 -- ---- a choice
 abbrev pub choice_by : Expression → Place → Place → Rules → List Token → Read Expression
@@ -217,6 +229,16 @@ unfolding unary_of prim_at
 unary_is room e [] = refl
 unary_is room e (t ∷ ts) = refl
 
+module _ (room : ℕ) {q r s : Reader} {b : Expression} {found : Option Open} where
+  pub past_bang : found ≡ None → Opens (is_sign Bang) room q r found → Reads (λ e. not_bang e room) r s b →
+      Reads (λ e ts. unary_of e (below e room) ts) q s b
+  past_bang is x y = same_rule (λ e ts. unary_of e (below e room) ts) (unary_by room) (unary_is room)
+      (passes_rule (is_sign Bang) (λ e. prefixed_by Not) (λ e. not_bang e room) is x y)
+
+  pub past_plus : found ≡ None → Opens (is_sign Plus) room q r found → Reads (λ e. not_plus e room) r s b →
+      Reads (λ e. not_bang e room) q s b
+  past_plus is x y = passes_rule (is_sign Plus) (λ e. prefixed_by UnaryPlus) (λ e. not_plus e room) is x y
+
 -- ---- operands without operators
 abbrev pub by_literal : Place → ℕ → Option Expression → List Token → Read Expression
 by_literal e room (Some v) us = Ok (v, us)
@@ -245,6 +267,16 @@ primary_is room e (t ∷ ts) = ap (λ r. if is_sign OpenRound t then deeper (bel
     (λ r. expr_to e CloseRound r.expr ts)
     else (if is_sign OpenSquare t then deeper (below e room) t.at (λ r. r.brackets t.at ts) else r))
     (by_literal_is e room t ts (literal t))
+
+module _ (room : ℕ) {q r s : Reader} {b : Expression} {found : Option Open} where
+  pub past_round : found ≡ None → Opens (is_sign OpenRound) room q r found → Reads (λ e. not_round e room) r s b →
+      Reads (λ e ts. prim_at e (below e room) ts) q s b
+  past_round is x y = same_rule (λ e ts. prim_at e (below e room) ts) (primary_by room) (primary_is room)
+      (passes_rule (is_sign OpenRound) (λ e at r. expr_to e CloseRound r.expr) (λ e. not_round e room) is x y)
+
+  pub past_bracket : found ≡ None → Opens (is_sign OpenSquare) room q r found →
+      Reads (λ e. not_bracket e room) r s b → Reads (λ e. not_round e room) q s b
+  past_bracket is x y = passes_rule (is_sign OpenSquare) (λ e at r. r.brackets at) (λ e. not_bracket e room) is x y
 
 -- ---- names and calls
 abbrev pub call_by : Place × List ℕ → Place → Rules → List Token → Read Expression
@@ -410,6 +442,20 @@ pub element_is : (room : ℕ) (e : Place) (ts : List Token) → elem_of e (below
 unfolding elem_of expr_of
 element_is room e [] = refl
 element_is room e (t ∷ ts) = refl
+
+module _ (room : ℕ) {q r s : Reader} {b : Element} {found : Option Open} where
+  pub past_for : found ≡ None → Opens (is_key For) room q r found → Reads (λ e. not_for e room) r s b →
+      Reads (λ e ts. elem_of e (below e room) ts) q s b
+  past_for is x y = same_rule (λ e ts. elem_of e (below e room) ts) (element_by room) (element_is room)
+      (passes_rule (is_key For) (λ e at r. r.for_behind at) (λ e. not_for e room) is x y)
+
+  pub past_each : found ≡ None → Opens (is_key Each) room q r found → Reads (λ e. not_each e room) r s b →
+      Reads (λ e. not_for e room) q s b
+  past_each is x y = passes_rule (is_key Each) (λ e. each_by) (λ e. not_each e room) is x y
+
+  pub past_if : found ≡ None → Opens (is_key If) room q r found → Reads (λ e. not_if e room) r s b →
+      Reads (λ e. not_each e room) q s b
+  past_if is x y = passes_rule (is_key If) (λ e. if_by) (λ e. not_if e room) is x y
 
 abbrev pub other_by : Place → Expression → Element → Place → Rules → List Token → Read Element
 other_by at x held at' r ts = then_read (r.elem ts) (λ other us. Ok (if_else at x held other, us))

@@ -1,6 +1,6 @@
 -- The rules of statements and definitions, step by step as the descent takes them.
-use Rattle.std.proofs.Common.{◌≡◌, ℕ, suc, ◌++◌, Bool, true, false, List, [], ◌∷◌, Option, Some, None, Ok, Err}
-use Rattle.std.proofs.Common.{refl, sym, ap, subst, ◌∙◌, length, ◌<◌, arith}
+use Rattle.std.proofs.Common.{◌≡◌, ℕ, suc, ◌++◌, Bool, true, false, List, [], ◌∷◌, Option, Some, None, Ok, Err, refl}
+use Rattle.std.proofs.Common.{sym, ap, subst, ◌∙◌, length, ◌<◌, arith}
 use Rattle.std.specs.Prelude.{if◌then◌else◌, codes, is_some}
 use Rattle.scad_fault.specs.declared.place.Place.{Place}
 use Rattle.scad_lex.specs.declared.token.Token.{Token}
@@ -16,23 +16,21 @@ use Rattle.scad_grammar.specs.StatementSteps.{callee}
 use Rattle.scad_grammar.specs.Machine.{left_out_at}
 use Rattle.scad_grammar.specs.Rules.{Read, then_read, behind_sign, deeper, expr_of, expr_to, in_round_of}
 use Rattle.scad_grammar.specs.StatementRules.{StatementRules, statement_of, start_of, definition_of, first_of}
-use Rattle.scad_grammar.specs.StatementRules.{marked_first}
-use Rattle.scad_grammar.specs.StatementRules.{call_first, call_by, child_of, otherwise_of, heading_of, heading_by}
-use Rattle.scad_grammar.specs.StatementRules.{marked_of}
-use Rattle.scad_grammar.specs.StatementRules.{choice_behind_of}
+use Rattle.scad_grammar.specs.StatementRules.{marked_first, call_first, call_by, child_of, otherwise_of, heading_of}
+use Rattle.scad_grammar.specs.StatementRules.{heading_by, marked_of, choice_behind_of}
 use Rattle.scad_parse.specs.declared.fault.Form.TheVariants.{Include as IncludeForm, Use as UseForm, Root}
 use Rattle.scad_parse.specs.declared.reader.Reader.{Reader}
 use Rattle.scad_parse.specs.declared.reader.Open.{Open}
-use Rattle.scad_parse.specs.Reading.{below, rules_at, behind}
+use Rattle.scad_parse.specs.Reading.{below, rules_at, behind, no_value}
 use Rattle.scad_parse.specs.ReadingStatements.{below_statements, statement_rules_at, heading_read, other_of}
-use Rattle.scad_parse.specs.ReadingStatements.{unmarked_of}
-use Rattle.scad_parse.specs.ReadingStatements.{begins_with_mark, with_first_mark, marks_here, first_at, definition_at}
-use Rattle.scad_parse.specs.ReadingStatements.{word_at}
-use Rattle.scad_parse.specs.ReadingStatements.{call_at, callee_here, default_of, parameter_of, parameter_by}
+use Rattle.scad_parse.specs.ReadingStatements.{unmarked_of, begins_with_mark, with_first_mark, marks_here, first_at}
+use Rattle.scad_parse.specs.ReadingStatements.{definition_at, word_at, call_at, callee_here, default_of, parameter_of}
+use Rattle.scad_parse.specs.ReadingStatements.{parameter_by}
 use Rattle.scad_parse.specs.Standing.{Standing, Given, Turn, Reads, Opens, standing, stands_at, left_out, took, took_at}
 use Rattle.scad_parse.specs.Standing.{word_here, word_by, standing_of}
 use Rattle.scad_parse.specs.declared.fault.Fault.{Fault}
-use Rattle.scad_parse.proofs.rules.Steps.{opened_or, opens, passes, out, by_taken, taken, by_place, taken_at}
+use Rattle.scad_parse.proofs.rules.Steps.{opened_or, opens, passes, follows, same_rule, taking, out, by_taken, taken}
+use Rattle.scad_parse.proofs.rules.Steps.{by_place, taken_at}
 
 pub no_statements : (e : Place) → below_statements e 0 ≡ None
 unfolding below_statements
@@ -132,9 +130,31 @@ statement_is d room all e (t ∷ ts) =
     (start_is d room all e t ts (word_of t))
     ∙ taken (is_sign Semicolon) (λ us. Ok (all, us)) (not_semicolon d room all e) t ts
 
-pub not_word_as : (d c : Bool) (room : ℕ) (all : Items) {q s : Reader} {b : Items} → d ≡ c →
+not_word_as : (d c : Bool) (room : ℕ) (all : Items) {q s : Reader} {b : Items} → d ≡ c →
     Reads (not_word c room all) q s b → Reads (not_word d room all) q s b
 not_word_as d c room all {q} {s} {b} same x = subst (λ c. Reads (not_word c room all) q s b) (sym same) x
+
+-- what doesn't come at the front is passed over
+module _ (d : Bool) (room : ℕ) (all : Items) {q r s : Reader} {b : Items} where
+  pub past_semicolon : {x : Bool} → x ≡ false → Reads (λ e ts. took (is_sign Semicolon) ts) q r x →
+      Reads (not_semicolon d room all) r s b →
+      Reads (λ e ts. statement_of e (below_statements e room) d all ts) q s b
+  past_semicolon is x y =
+      same_rule (λ e ts. statement_of e (below_statements e room) d all ts) (statement_by d room all)
+      (statement_is d room all)
+      (taking (λ e ts. took (is_sign Semicolon) ts)
+      (λ e. by_taken (λ us. Ok (all, us)) (not_semicolon d room all e)) is x y)
+
+  pub past_curly : {found : Option Open} → found ≡ None → Opens (is_sign OpenCurly) room q r found →
+      Reads (not_curly d room all) r s b → Reads (not_semicolon d room all) q s b
+  past_curly is x y =
+      passes_statement (is_sign OpenCurly) (λ e at r. r.group d all) (not_curly d room all) is x y
+
+pub past_word : (d c : Bool) (room : ℕ) (all : Items) {q s : Reader} {b : Items} → d ≡ c →
+    stands_at is_word (standing q) ≡ false → Reads (not_word c room all) q s b → Reads (not_curly d room all) q s b
+past_word d c room all same none x =
+    unless_at is_word (λ e. word_at e (below_statements e room) all) (not_word d room all) none
+    (not_word_as d c room all same x)
 
 -- ---- definitions
 abbrev pub not_module : ℕ → Items → Place → List Token → Read Items
@@ -151,6 +171,15 @@ pub definition_is : (room : ℕ) (all : Items) (e : Place) (ts : List Token) →
 unfolding definition_at first_at definition_of
 definition_is room all e [] = refl
 definition_is room all e (t ∷ ts) = refl
+
+module _ (room : ℕ) (all : Items) {q r s : Reader} {b : Items} where
+  pub past_module : {found : Option Open} → found ≡ None → Opens (is_key Module) room q r found →
+      Reads (not_module room all) r s b →
+      Reads (λ e ts. definition_at e (below_statements e room) all ts) q s b
+  past_module is x y =
+      same_rule (λ e ts. definition_at e (below_statements e room) all ts) (definition_by room all)
+      (definition_is room all)
+      (passes_statement (is_key Module) (λ e at r. r.module_behind at all) (not_module room all) is x y)
 
 -- ---- what a statement runs
 abbrev pub not_root : ℕ → Items → Place → List Token → Read Items
@@ -207,6 +236,34 @@ first_is room all e (t ∷ ts) =
     ∙ (ap (λ x. if is_key Include t then Err (left_out_at t.at (codes "include")) else x)
     (out (is_key Use) UseForm t ts (not_use room all e))
     ∙ out (is_key Include) IncludeForm t ts (not_include room all e))
+
+module _ (room : ℕ) (all : Items) {q r s : Reader} {b : Items} where
+  pub past_files : {p : Reader} → Reads (λ e ts. left_out (is_key Include) IncludeForm ts) q p no_value →
+      Reads (λ e ts. left_out (is_key Use) UseForm ts) p r no_value → Reads (not_use room all) r s b →
+      Reads (λ e ts. first_at e (below_statements e room) all ts) q s b
+  past_files x y z =
+      same_rule (λ e ts. first_at e (below_statements e room) all ts) (first_by room all) (first_is room all)
+      (follows (λ e ts. left_out (is_key Include) IncludeForm ts) (λ e _. not_include room all e) x
+      (follows (λ e ts. left_out (is_key Use) UseForm ts) (λ e _. not_use room all e) y z))
+
+  pub past_star : {found : Option Open} → found ≡ None → Opens (is_sign Star) room q r found →
+      Reads (not_star room all) r s b → Reads (not_use room all) q s b
+  past_star is x y =
+      passes_statement (is_sign Star) (λ e at r. r.marked (starred no_marks) all) (not_star room all) is x y
+
+  pub past_percent : {found : Option Open} → found ≡ None → Opens (is_sign Percent) room q r found →
+      Reads (not_percent room all) r s b → Reads (not_star room all) q s b
+  past_percent is x y =
+      passes_statement (is_sign Percent) (λ e at r. r.marked (percented no_marks) all) (not_percent room all) is x y
+
+  pub past_hash : {found : Option Open} → found ≡ None → Opens (is_sign Hash) room q r found →
+      Reads (not_hash room all) r s b → Reads (not_percent room all) q s b
+  past_hash is x y =
+      passes_statement (is_sign Hash) (λ e at r. r.marked (hashed no_marks) all) (not_hash room all) is x y
+
+  pub past_root : Reads (λ e ts. left_out (is_sign Bang) Root ts) q r no_value → Reads (not_root room all) r s b →
+      Reads (not_hash room all) q s b
+  past_root x y = follows (λ e ts. left_out (is_sign Bang) Root ts) (λ e _. not_root room all e) x y
 
 -- ---- behind marks
 abbrev pub called_by : ℕ → Marks → Items → Place → List Token → Read Items

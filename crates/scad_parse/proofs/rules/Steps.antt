@@ -5,7 +5,7 @@ use Rattle.std.specs.Prelude.{if◌then◌else◌, is_some}
 use Rattle.scad_fault.specs.declared.place.Place.{Place}
 use Rattle.scad_lex.specs.declared.token.Token.{Token}
 use Rattle.scad_lex.specs.declared.token.Sign.{Sign as SignName}
-use Rattle.scad_lex.specs.declared.token.Sign.TheVariants.{OpenRound}
+use Rattle.scad_lex.specs.declared.token.Sign.TheVariants.{OpenRound, Comma}
 use Rattle.scad_grammar.specs.Tokens.{is_sign}
 use Rattle.scad_grammar.specs.Machine.{Refusal, syntax_at, left_out_at}
 use Rattle.scad_grammar.specs.Rules.{Read, then_read, behind_sign, deeper, in_round_of}
@@ -13,7 +13,7 @@ use Rattle.scad_parse.specs.declared.fault.Fault.TheVariants.{Memory}
 use Rattle.scad_parse.specs.declared.fault.Form.{Form}
 use Rattle.scad_parse.specs.declared.reader.Reader.{Reader}
 use Rattle.scad_parse.specs.declared.reader.Open.{Open}
-use Rattle.scad_parse.specs.Reading.{no_value}
+use Rattle.scad_parse.specs.Reading.{no_value, comma_or}
 use Rattle.scad_parse.specs.Standing.{Standing, standing, Given, Turn, Reads, Opens, Within, Kept, stands_at, opened}
 use Rattle.scad_parse.specs.Standing.{open_at}
 use Rattle.scad_parse.specs.Standing.{within, room_in, made, failed, needed, left_out, form_name, took, took_at}
@@ -157,6 +157,25 @@ taken_at test there absent t ts = by (test t)
         ≡ then_read (if b then Ok (Some t.at, ts) else Ok (None, t ∷ ts)) (by_place there absent)
     by true = refl
     by false = refl
+
+-- ---- behind a member of a list
+abbrev comma_by : (Token → Bool) → Place → List Token → Read (Unit {0})
+comma_by ends e ts = then_read (took (is_sign Comma) ts) (by_taken (λ us. Ok (no_value, us)) (needed ends e))
+
+comma_is : (ends : Token → Bool) (e : Place) (ts : List Token) → comma_or ends e no_value ts ≡ comma_by ends e ts
+comma_is ends e [] = refl
+comma_is ends e (t ∷ ts) = taken (is_sign Comma) (λ us. Ok (no_value, us)) (needed ends e) t ts
+
+module _ (ends : Token → Bool) {q r : Reader} {x : Bool} where
+  pub comma_comes : x ≡ true → Reads (λ e ts. took (is_sign Comma) ts) q r x →
+      Reads (λ e ts. comma_or ends e no_value ts) q r no_value
+  comma_comes is y = same_rule (λ e ts. comma_or ends e no_value ts) (comma_by ends) (comma_is ends)
+      (taking (λ e ts. took (is_sign Comma) ts) (λ e. by_taken (λ us. Ok (no_value, us)) (needed ends e)) is y stay)
+
+  pub end_comes : {s : Reader} → x ≡ false → Reads (λ e ts. took (is_sign Comma) ts) q r x →
+      Reads (needed ends) r s no_value → Reads (λ e ts. comma_or ends e no_value ts) q s no_value
+  end_comes is y z = same_rule (λ e ts. comma_or ends e no_value ts) (comma_by ends) (comma_is ends)
+      (taking (λ e ts. took (is_sign Comma) ts) (λ e. by_taken (λ us. Ok (no_value, us)) (needed ends e)) is y z)
 
 -- ---- a construct that opens
 -- a token opens a construct, or what stands there is read
