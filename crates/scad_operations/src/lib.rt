@@ -19,7 +19,7 @@ pub use loans::{builtin_on, lone_name, member_in};
 pub use operation::{Bounds, Operation, operate};
 pub use operations::{binary_at, builtin_at, in_memory};
 pub use part::Part;
-pub use pieces::add_parts;
+pub use pieces::{add_parts, append};
 pub use remainder::{Remainder, next_value, run_over};
 pub use requirements::{asserted, judge_named, judge_variables};
 pub use sequence::next_number;

@@ -1,6 +1,6 @@
 //! Parts of a vector that is being made: what `each` puts there, and the values that they are in the end.
 
-ghost use Rattle.std.specs.Prelude.{◌≡◌, ◌++◌, IfOk, OnOk};
+ghost use Rattle.std.specs.Prelude.{◌≡◌, ◌++◌, ◌∷◌, [], IfOk, OnOk};
 ghost use Rattle.std.specs.List.{flat_map};
 ghost use Rattle.scad_value.specs.Datum.{range};
 ghost use Rattle.scad_value.specs.View.{datum_of, data_in};
@@ -14,12 +14,22 @@ use scad_num::Num;
 use scad_value::Value;
 use std::alloc::{AllocError, Global};
 
+/// A value behind others. Where there is no memory it is let go by one call, since its type is a parameter.
+#[inline(always)]
+pub fn append<T: Drop>(all: &mut Vec<T>, value: T) -> Result<(), AllocError>
+    ensures { OnOk result (all.new.items ≡ all.old.items ++ value ∷ []) }
+{
+    all.reserve(1)?;
+    all.push_reserved(value);
+    Ok(())
+}
+
 /// Values behind other parts.
 fn add_ones(out: &mut Vec<Part>, all: Vec<Value>) -> Result<(), AllocError>
     ensures { OnOk result (parts_in out.new ≡ parts_in out.old ++ data_in all) }
 {
     'values: for value in all {
-        out.push(Part::One(value))?;
+        append(out, Part::One(value))?;
     }
     Ok(())
 }
@@ -30,10 +40,7 @@ fn add_each(alloc: Global, out: &mut Vec<Part>, value: &Value) -> Result<(), All
     ensures { OnOk result (parts_in out.new ≡ parts_in out.old ++ items (datum_of value.now)) }
 {
     match value {
-        Value::Range(start, step, end) => {
-            out.push(Part::Run(*start, *step, *end))?;
-            Ok(())
-        }
+        Value::Range(start, step, end) => append(out, Part::Run(*start, *step, *end)),
         value => {
             let all = items_of(alloc, value)?;
             add_ones(out, all)
@@ -48,10 +55,7 @@ fn add_part(alloc: Global, out: &mut Vec<Part>, part: Part) -> Result<(), AllocE
 {
     match part {
         Part::One(value) => add_each(alloc, out, &value),
-        Part::Run(start, step, end) => {
-            out.push(Part::Run(start, step, end))?;
-            Ok(())
-        }
+        Part::Run(start, step, end) => append(out, Part::Run(start, step, end)),
     }
 }
 
