@@ -8,7 +8,8 @@ use scad_ast::Param;
 use scad_bindings::NameMap;
 use std::alloc::{AllocError, Global};
 
-/// Of how many parameters or arguments names are compared one by one. Most calls have few, and a table takes memory.
+/// Up to so many parameters, or so many arguments, names are compared one by one: most calls have few, and a
+/// table takes memory.
 const FEW_NAMES: usize = 8;
 
 /// Parameters with a table of their names.

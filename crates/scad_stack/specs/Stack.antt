@@ -292,6 +292,11 @@ abbrev pub Leads : Outcome Whole → Result Focus EvalFault → Stack → Machin
 Leads whole result stack m = (o : Outcome Whole) → o ≡ whole
     → Goes o result (rest stack) (held m) (made_in stack) (state_of m)
 
+-- the same of what the stack alone goes on with, whatever is held and done so far
+abbrev pub LeadsOn : (Held → Action Whole) → Result Focus EvalFault → Stack → Type 0
+LeadsOn whole result stack = (h : Held) (s : State) (o : Outcome Whole) → o ≡ whole h s
+    → Goes o result (rest stack) h (made_in stack) s
+
 -- what follows a value
 abbrev pub followed : Action Datum → Stack → Machine → Outcome Whole
 followed a stack m = and_then (a (state_of m)) (rest stack (held m) (made_in stack))
@@ -325,6 +330,10 @@ size f stack m = rank f + 2 * height stack + 16 * m.steps_left
 abbrev pub Below_by : ℕ → Result Focus EvalFault → Stack → Machine → Stack → Machine → Type 0
 Below_by n result stack m stack_new m_new = IfOk result
     (λ f. size f stack_new m_new ≤ 2 * height stack + 16 * m.steps_left + n)
+
+-- the same where no step is taken
+abbrev pub Adds_by : ℕ → Result Focus EvalFault → Stack → Stack → Type 0
+Adds_by n result stack stack_new = IfOk result (λ f. rank f + 2 * height stack_new ≤ 2 * height stack + n)
 
 -- a value that is given without more frames or steps
 abbrev pub Lessens : Result Value EvalFault → Result Focus EvalFault → Type 0

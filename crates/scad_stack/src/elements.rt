@@ -190,7 +190,7 @@ fn for_element<'p>(
 {
     m.step(at)?;
     judge_variables(stack.alloc(), at, b"for", args)?;
-    variables(at, args, e, depth, stack, m)
+    variables(at, args, e, depth, stack)
 }
 
 /// `for (start; test; step) element`

@@ -11,7 +11,7 @@ ghost use Rattle.scad_stack.specs.Meaning.{meaning};
 ghost use Rattle.scad_operations.specs.Parts.{parts_in};
 ghost use Rattle.scad_stack.specs.Pieces.{chosen_element};
 ghost use Rattle.scad_operations.specs.Runs.{items};
-ghost use Rattle.scad_stack.specs.Stack.{Rest, Leads, Below_by, added, gathers, goes_on, rank, rest, made_in};
+ghost use Rattle.scad_stack.specs.Stack.{Rest, Leads, LeadsOn, Below_by, Adds_by, added, gathers, goes_on, rank, rest, made_in};
 
 use crate::elements::more_elements;
 use crate::frame::{Focus, Gathering, at_work};
@@ -41,23 +41,18 @@ pub fn gathered<'p>(
         }
         Gathering::Elements(more, depth) => more_elements(more, depth, stack, m),
         Gathering::Item => stack.add(v),
-        Gathering::Each(outer) => spread(outer, stack, m),
+        Gathering::Each(outer) => spread(outer, stack),
         Gathering::If(e, other, depth) => Ok(chosen(&v, e, other, depth)),
     }
 }
 
 /// What an `each` gives in place of what was added.
 #[tactic(auto, using(crate::proofs::StackTurns::nodes), unfolding(crate::specs::Stack::goes_on))]
-fn spread<'p>(
-    outer: Vec<Part>,
-    stack: &mut Stack<'p>,
-    m: &mut Machine<'p>,
-) -> Result<Focus<'p>, EvalFault>
-    ensures goes { Leads (added (rest stack.old) (held m.old) (parts_in outer ++ flat_map items (made_in stack.old))
-        (state_of m.old)) result stack.new m.new }
-    ensures less { Below_by 4 result stack.old m.old stack.new m.new }
+fn spread<'p>(outer: Vec<Part>, stack: &mut Stack<'p>) -> Result<Focus<'p>, EvalFault>
+    ensures goes { LeadsOn (λ h. added (rest stack.old) h (parts_in outer ++ flat_map items (made_in stack.old)))
+        result stack.new }
+    ensures less { Adds_by 4 result stack.old stack.new }
 {
-    let _steps = m.steps_left;
     let found = stack.set_aside();
     let all = add_parts(stack.alloc(), outer, found)?;
     let _none = stack.exchange(all);

@@ -8,7 +8,7 @@ ghost use Rattle.scad_machine.specs.Machine.{held, state_of};
 ghost use Rattle.scad_machine.specs.Answers.{Does, nothing, done_at};
 ghost use Rattle.scad_machine.specs.OpenFrames.{left};
 ghost use Rattle.scad_stack.specs.Pieces.{named_of};
-ghost use Rattle.scad_stack.specs.Stack.{Leads, Below_by, behind, set_first, inside, binding, looping, renewing, turning, rest, made_in};
+ghost use Rattle.scad_stack.specs.Stack.{Leads, LeadsOn, Below_by, Adds_by, behind, set_first, inside, binding, looping, renewing, turning, rest, made_in};
 
 use crate::frame::{Focus, Frame, Inside, Loop, Round, Within};
 use crate::stack::Stack;
@@ -70,7 +70,7 @@ pub fn bind_more<'p>(
             let depth = within.depth;
             stack.wait(Frame::Bind(n.from, within), n.value, depth)
         }
-        None => enter(within, stack, m),
+        None => enter(within, stack),
     }
 }
 
@@ -111,14 +111,9 @@ fn set_first<'p>(args: &'p [Arg], v: Value, m: &mut Machine<'p>) -> Result<&'p [
 
 /// What stands inside names that are bound.
 #[tactic(auto, using(crate::proofs::StackTurns::nodes), unfolding(crate::specs::Stack::inside_of, crate::specs::Stack::onto, crate::specs::Stack::goes_on))]
-fn enter<'p>(
-    within: Within<'p>,
-    stack: &mut Stack<'p>,
-    m: &mut Machine<'p>,
-) -> Result<Focus<'p>, EvalFault>
-    ensures goes { Leads (inside within.entry (rest stack.old) (made_in stack.old) (held m.old) (state_of m.old))
-        result stack.new m.new }
-    ensures less { Below_by 5 result stack.old m.old stack.new m.new }
+fn enter<'p>(within: Within<'p>, stack: &mut Stack<'p>) -> Result<Focus<'p>, EvalFault>
+    ensures goes { LeadsOn (inside within.entry (rest stack.old) (made_in stack.old)) result stack.new }
+    ensures less { Adds_by 5 result stack.old stack.new }
 {
     let Within {
         inside,
@@ -131,7 +126,7 @@ fn enter<'p>(
             stack.push(Frame::Leave(back))?;
             Ok(Focus::Element(e, depth))
         }
-        Inside::Turns(all) => repeat(all, back, depth, stack, m),
+        Inside::Turns(all) => repeat(all, back, depth, stack),
     }
 }
 
@@ -142,11 +137,9 @@ fn repeat<'p>(
     back: u32,
     depth: u32,
     stack: &mut Stack<'p>,
-    m: &mut Machine<'p>,
 ) -> Result<Focus<'p>, EvalFault>
-    ensures goes { Leads (looping all.entry.value back depth (rest stack.old) (made_in stack.old) (held m.old)
-        (state_of m.old)) result stack.new m.new }
-    ensures less { Below_by 5 result stack.old m.old stack.new m.new }
+    ensures goes { LeadsOn (looping all.entry.value back depth (rest stack.old) (made_in stack.old)) result stack.new }
+    ensures less { Adds_by 5 result stack.old stack.new }
 {
     let Loop {
         at,
@@ -178,8 +171,8 @@ pub(crate) fn tested<'p>(
 {
     if truth(v) {
         let Loop { at, body, .. } = *all;
-        m.step(at)?;
         stack.push(Frame::Round(Round::Body(all, back, depth)))?;
+        m.step(at)?;
         Ok(Focus::Element(body, depth))
     } else {
         m.leave(back);

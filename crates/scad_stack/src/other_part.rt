@@ -8,7 +8,7 @@ ghost use Rattle.scad_machine.specs.Machine.{Held, held, env_in, along_in};
 ghost use Rattle.scad_machine.specs.State.{State, and_then, pure};
 ghost use Rattle.scad_stack.specs.Meaning.{meaning, right_side, truth_of};
 ghost use Rattle.scad_stack.specs.Pieces.{side};
-ghost use Rattle.scad_stack.specs.Stack.{Rest, Leads, Below_by, followed, goes_further, goes_on, rank};
+ghost use Rattle.scad_stack.specs.Stack.{Rest, Leads, LeadsOn, Below_by, Adds_by, followed, goes_further, goes_on, rank, rest, made_in};
 
 use crate::frame::{Focus, Frame, Further, Right};
 use crate::stack::Stack;
@@ -47,7 +47,7 @@ pub fn further<'p>(
             bounds.step = v;
             stack.wait(Frame::Operation(Operation::Stepped(at, bounds)), end, depth)
         }
-        Further::Right(right) => right_side(right, depth, v, stack, m),
+        Further::Right(right) => right_side(right, depth, v, stack),
         Further::Sides(a, b) => Ok(side(&v, a, b, depth)),
         Further::IndexOf(i) => stack.wait(Frame::Operation(Operation::Indexed(v)), i, depth),
     }
@@ -60,16 +60,16 @@ fn right_side<'p>(
     depth: u32,
     v: Value,
     stack: &mut Stack<'p>,
-    m: &mut Machine<'p>,
 ) -> Result<Focus<'p>, EvalFault>
-    ensures goes { Leads (followed (right_side (meaning depth) (env_in (held m.old)) (along_in (held m.old)) right.entry.at
-        right.entry.op (datum_of v) (expression_of right.entry.b.now)) stack.old m.old) result stack.new m.new }
-    ensures less { Below_by 4 result stack.old m.old stack.new m.new }
+    ensures goes { LeadsOn (λ h s. and_then (right_side (meaning depth) (env_in h) (along_in h) right.entry.at
+        right.entry.op (datum_of v) (expression_of right.entry.b.now) s) (rest stack.old h (made_in stack.old)))
+        result stack.new }
+    ensures less { Adds_by 4 result stack.old stack.new }
 {
     let Right { at, op, b } = right;
     match op {
-        BinOp::Or => unless(truth(&v), true, b, depth, stack, m),
-        BinOp::And => unless(!truth(&v), false, b, depth, stack, m),
+        BinOp::Or => unless(truth(&v), true, b, depth, stack),
+        BinOp::And => unless(!truth(&v), false, b, depth, stack),
         _ => stack.wait(Frame::Operand(at, op, v), b, depth),
     }
 }
@@ -82,13 +82,11 @@ fn unless<'p>(
     b: &'p Expr,
     depth: u32,
     stack: &mut Stack<'p>,
-    m: &mut Machine<'p>,
 ) -> Result<Focus<'p>, EvalFault>
-    ensures goes { Leads (followed (if decided then pure (boolean is) else truth_of (meaning depth) (env_in (held m.old))
-        (along_in (held m.old)) (expression_of b.now)) stack.old m.old) result stack.new m.new }
-    ensures less { Below_by 4 result stack.old m.old stack.new m.new }
+    ensures goes { LeadsOn (λ h s. and_then ((if decided then pure (boolean is) else truth_of (meaning depth) (env_in h)
+        (along_in h) (expression_of b.now)) s) (rest stack.old h (made_in stack.old))) result stack.new }
+    ensures less { Adds_by 4 result stack.old stack.new }
 {
-    let _steps = m.steps_left;
     if decided {
         Ok(Focus::Given(Value::Bool(is)))
     } else {

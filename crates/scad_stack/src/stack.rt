@@ -1,11 +1,9 @@
 //! The stack of an evaluation.
 
-ghost use Rattle.std.specs.Prelude.{◌≡◌, ◌++◌, ◌∷◌, [], OnOk};
-
 use crate::frame::{Focus, Frame};
 use scad_ast::Expr;
 use scad_machine::EvalFault;
-use scad_operations::Part;
+use scad_operations::{Part, append};
 use scad_value::Value;
 use std::alloc::{AllocError, Global};
 use std::mem::replace;
@@ -16,16 +14,6 @@ pub struct Stack<'p> {
     alloc: Global,
     frames: Vec<Frame<'p>>,
     made: Vec<Part>,
-}
-
-/// A value behind others. Where there is no memory it is let go by one call, since its type is a parameter.
-#[inline(always)]
-fn append<T: Drop>(all: &mut Vec<T>, value: T) -> Result<(), AllocError>
-    ensures { OnOk result (all.new.items ≡ all.old.items ++ value ∷ []) }
-{
-    all.reserve(1)?;
-    all.push_reserved(value);
-    Ok(())
 }
 
 impl<'p> Stack<'p> {

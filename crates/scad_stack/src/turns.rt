@@ -4,9 +4,10 @@ ghost use Rattle.std.specs.Prelude.{◌∷◌};
 ghost use Rattle.scad_ast.specs.View.{arguments, element_of};
 ghost use Rattle.scad_value.specs.View.{datum_of};
 ghost use Rattle.scad_machine.specs.Machine.{held, env_in, along_in};
+ghost use Rattle.scad_machine.specs.State.{and_then};
 ghost use Rattle.scad_stack.specs.Meaning.{for_variables, meaning};
 ghost use Rattle.scad_operations.specs.Runs.{left_in};
-ghost use Rattle.scad_stack.specs.Stack.{Leads, Below_by, followed_list, turns_of, made_in};
+ghost use Rattle.scad_stack.specs.Stack.{Leads, LeadsOn, Below_by, Adds_by, added, followed_list, turns_of, rest, made_in};
 
 use crate::frame::{Focus, Frame, Round, Turning, Variable};
 use crate::name_bindings::named;
@@ -25,13 +26,11 @@ pub(crate) fn variables<'p>(
     body: &'p Elem,
     depth: u32,
     stack: &mut Stack<'p>,
-    m: &mut Machine<'p>,
 ) -> Result<Focus<'p>, EvalFault>
-    ensures goes { Leads (followed_list (for_variables (meaning depth) at (arguments args.now) (element_of body.now)
-        (env_in (held m.old)) (along_in (held m.old)) (made_in stack.old)) stack.old m.old) result stack.new m.new }
-    ensures less { Below_by 3 result stack.old m.old stack.new m.new }
+    ensures goes { LeadsOn (λ h s. and_then (for_variables (meaning depth) at (arguments args.now) (element_of body.now)
+        (env_in h) (along_in h) (made_in stack.old) s) (added (rest stack.old) h)) result stack.new }
+    ensures less { Adds_by 3 result stack.old stack.new }
 {
-    let _steps = m.steps_left;
     match named(args) {
         Some(n) => {
             let variable = Variable {
@@ -87,15 +86,16 @@ fn turn_on<'p>(
 {
     let mut turning = turning;
     let variable = turning.variable;
-    m.step(variable.at)?;
-    turning.back = m.open_with(variable.name, value)?;
+    turning.back = m.here;
+    // It is on the stack before a step may fail, so nothing has to let it go then.
     stack.push(Frame::Round(Round::Turns(turning)))?;
+    m.step(variable.at)?;
+    let _back = m.open_with(variable.name, value)?;
     variables(
         variable.at,
         variable.more,
         variable.body,
         variable.depth,
         stack,
-        m,
     )
 }

@@ -1,6 +1,6 @@
 use Rattle.std.proofs.Common.{sym, ap, ◌∙◌}
 use Rattle.scad_ast.specs.View.{expression_of, element_of, arguments}
-use Rattle.scad_machine.specs.Machine.{held, env_in, along_in, state_of}
+use Rattle.scad_machine.specs.Machine.{env_in, along_in}
 use Rattle.scad_machine.specs.State.{and_then}
 use Rattle.scad_stack.specs.declared.frame.Turning.{Turning}
 use Rattle.scad_stack.specs.Meaning.{meaning}
@@ -11,10 +11,8 @@ use Rattle.scad_stack.proofs.turns.variables.Goals as goal
 
 pub returns-in_ok-turning-in-Some-clause-goes : goal.returns-in_ok-turning-in-Some-clause-goes
 unfolding onto goes_round
-returns-in_ok-turning-in-Some-clause-goes c = λ o is.
+returns-in_ok-turning-in-Some-clause-goes c = λ h s o is.
     let n = c.in-Some.n in
-    let h = held c.args.m.now in
-    let s = state_of c.args.m.now in
     let k = rest c.args.stack.now in
     c.wait.ensures.goes h s o (is ∙ variables-some (meaning c.args.depth) c.args.at
     (arguments c.args.args.now) (arguments n.more.now) n.name.now (expression_of n.value.now)
