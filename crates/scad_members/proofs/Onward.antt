@@ -1,5 +1,7 @@
 -- What is at work and what follows it, as the parts of a statement begin.
-use Rattle.std.proofs.Common.{◌≡◌, ℕ, ◌+◌, ◌<◌, ◌≤◌, Bool, true, false, if◌then◌else◌, List, [], ◌∷◌, ◌++◌, length, get_or, drop, Option, Some, None, Result, Ok, Err, IfErr, Vec, Global, refl, sym, ap, ap₂, ◌∙◌, arith}
+use Rattle.std.proofs.Common.{◌≡◌, ℕ, ◌+◌, ◌<◌, ◌≤◌, Bool, true, false, if◌then◌else◌, List, [], ◌∷◌, ◌++◌, length}
+use Rattle.std.proofs.Common.{get_or, drop, Option, Some, None, Result, Ok, Err, IfErr, Vec, Global, refl, sym, ap, ap₂}
+use Rattle.std.proofs.Common.{◌∙◌, arith}
 use Rattle.std.proofs.lemmas.List.{drop_all}
 use Rattle.std.specs.Borrow.{Bor}
 use Rattle.scad_fault.specs.declared.place.Place.{Place}
@@ -42,7 +44,8 @@ use Rattle.scad_members.specs.declared.work.Focus.{Focus}
 use Rattle.scad_members.specs.declared.work.Focus.TheVariants.{Members, Children, Variables, Turns}
 use Rattle.scad_members.specs.Choice.{child_named}
 use Rattle.scad_members.specs.Frames.{below_of}
-use Rattle.scad_members.specs.Meaning.{Below, statements_meaning, assigned, opened_scope, member, members_from, members, combined, run_children, chosen, children_by, child, turns, for_variables}
+use Rattle.scad_members.specs.Meaning.{Below, statements_meaning, assigned, opened_scope, member, members_from, members}
+use Rattle.scad_members.specs.Meaning.{combined, run_children, chosen, children_by, child, turns, for_variables}
 use Rattle.scad_members.specs.ChildRange.{NameAlike}
 use Rattle.scad_members.specs.Scopes.{is_marked}
 use Rattle.scad_expr.specs.Runs.{left_in}
@@ -163,7 +166,8 @@ same-alike scope few all same = record {
 pub ruleset alike = (same-alike)
 
 -- those that are chosen
-module _ (h : Held) (w : Where) (scope : Bor (Vec Item Global)) (k : Rest) (ss : List Solid) (s : State) (none : ss ≡ []) where
+module _ (h : Held) (w : Where) (scope : Bor (Vec Item Global)) (k : Rest) (ss : List Solid) (s : State)
+    (none : ss ≡ []) where
   pub chosen-by : (d : Datum) (more : Remainder) → NameAlike (items scope.now.items) (left_in more) (run_over d)
       → and_then (chosen (below_of h) w (env_in h) (along_in h) (items scope.now.items) (Some d) s) (listed k w h)
       ≡ goes_on (Children scope more) k w h ss s

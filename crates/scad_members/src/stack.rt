@@ -95,14 +95,14 @@ impl<'p> Stack<'p> {
         replace(&mut self.made, other)
     }
 
-    /// Statements stand at a place from now on.
+    /// Statements stand there from now on.
     #[tactic(auto, unfolding(crate::specs::Stack::rest, crate::specs::Stack::made_in))]
-    pub fn go_to(&mut self, place: Where)
-        ensures stands { self.new.stands ≡ place }
+    pub fn go_to(&mut self, there: Where)
+        ensures stands { self.new.stands ≡ there }
         ensures rest { rest self.new ≡ rest self.old }
         ensures made { made_in self.new ≡ made_in self.old }
     {
-        self.stands = place;
+        self.stands = there;
     }
 
     /// Statements stand at another place until their tree is given.
