@@ -27,7 +27,8 @@ use Rattle.scad_leaves.specs.Where.{at_first}
 use Rattle.scad_members.specs.declared.work.Frame.TheVariants.{Mark, Hull, Leave}
 use Rattle.scad_members.specs.declared.work.Focus.TheVariants.{Members}
 use Rattle.scad_members.specs.Frames.{below_of, with_depth}
-use Rattle.scad_members.specs.Meaning.{statements_meaning, statement_layer, node, opened_scope, members_from, members, combined, called_own, program_of}
+use Rattle.scad_members.specs.Meaning.{statements_meaning, statement_layer, node, opened_scope, members_from, members}
+use Rattle.scad_members.specs.Meaning.{combined, called_own, program_of}
 use Rattle.scad_members.specs.Modules.{Found}
 use Rattle.scad_members.specs.Scopes.{item_place, is_marked}
 use Rattle.scad_members.specs.Stack.{Rest, onto, listed, ended, goes_on}
@@ -140,7 +141,8 @@ own-begins at w w2 m args found all back h h2 h3 k k2 ss ms s s2 s3 vals kept op
     (along_in h3) s3) (k2 x h3 ms)) (sym (depth-left back h3 h2 is_left ∙ ap (λ (x : Held). x.depth) kept)) (sym stands)
 
 -- ---- a program
-module _ (scope : Bor (Vec Item Global)) (h : Held) (s : State) (env : env_in h ≡ first_env) (along : along_in h ≡ first_along) (deep : h.depth ≡ depth_limit) where
+module _ (scope : Bor (Vec Item Global)) (h : Held) (s : State) (env : env_in h ≡ first_env)
+    (along : along_in h ≡ first_along) (deep : h.depth ≡ depth_limit) where
   abbrev opens : Outcome Opened
   opens = opened_scope (below_of h) (items scope.now.items) (env_in h) (along_in h) s
 

@@ -50,7 +50,7 @@ pub(crate) fn built_in<'p>(
         Module::Difference => combined(Operation::Subtract, call.at, call.all, stack, m),
         Module::Intersection => combined(Operation::Intersect, call.at, call.all, stack, m),
         Module::Hull => hull(call, stack, m),
-        Module::Children => { children(call.at, taken(Some(0), b"i", call.args, found), stack, m) }
+        Module::Children => children(call.at, taken(Some(0), b"i", call.args, found), stack, m),
         Module::Echo => echo(call, found, stack, m),
         Module::Assert => assert(call, found, stack, m),
     }
