@@ -12,7 +12,7 @@ use Rattle.slice_snap.specs.Spots.{point_of, is_same_spot}
 use Rattle.slice_snap.specs.Pieces.{way_of, ways_of}
 use Rattle.slice_snap.specs.Merging.{joined, MeetAlone, AreMerged, all_joined, two_join}
 use Rattle.slice_snap.specs.Cancelling.{AreCancelled}
-use Rattle.slice_bool.specs.Outlines.{AreMadeOf}
+use Rattle.slice_border.specs.Outlines.{AreMadeOf}
 use Rattle.outline_laws.specs.Sameness.{AreSameSpot, AreSamePiece, ArePiecesSame}
 use Rattle.outline_laws.proofs.Zips.{zip_permuted}
 use Rattle.outline_laws.proofs.Same.{spot_turned, spot_chain, pieces_turned, edges_same}

@@ -3,8 +3,8 @@ use Rattle.std.proofs.Common.{length, refl}
 use Rattle.std.proofs.lemmas.List.Elements.{All-from_recursion}
 use Rattle.slice_slab.specs.Bundles.{edge_at}
 use Rattle.slice_snap.specs.Pieces.{IsPieceWithin}
-use Rattle.slice_bool.proofs.PieceNames.{pieces_are_named}
-use Rattle.slice_bool.proofs.OneOutlines.{made_are_one}
+use Rattle.slice_border.proofs.PieceNames.{pieces_are_named}
+use Rattle.slice_border.proofs.OneOutlines.{made_are_one}
 use Rattle.outline_laws.specs.Sameness.{ArePiecesSame}
 use Rattle.outline_laws.specs.Outlines.{OutlinesAreOne, AlikeHaveOneOutlines}
 use Rattle.outline_laws.proofs.Same.{pieces_chain}

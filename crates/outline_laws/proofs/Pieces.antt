@@ -17,7 +17,7 @@ use Rattle.slice_slab.proofs.Bundling.{Rises}
 use Rattle.slice_snap.specs.declared.piece.Spot.{Spot}
 use Rattle.slice_snap.specs.declared.piece.Piece.{Piece}
 use Rattle.slice_snap.specs.Spots.{point_of}
-use Rattle.slice_bool.specs.Pieces.{spot_on, piece_between, middle, bundle_piece, slab_pieces, covers, stretch_piece, flat_pieces, AreStops, AreLevelPieces}
+use Rattle.slice_border.specs.Pieces.{spot_on, piece_between, middle, bundle_piece, slab_pieces, covers, stretch_piece, flat_pieces, AreStops, AreLevelPieces}
 use Rattle.outline_laws.specs.Sameness.{AreSameSpot, AreSamePiece, ArePiecesSame, HoldAlike}
 use Rattle.outline_laws.specs.Outlines.{PiecesAreSame}
 use Rattle.outline_laws.proofs.Zips.{zip_append}
@@ -26,8 +26,8 @@ use Rattle.outline_laws.proofs.Lines.{below_test, above_test, flat_test}
 use Rattle.outline_laws.proofs.Ranks.{bundles_one, bundles_rise}
 use Rattle.outline_laws.proofs.Values.{value_same}
 use Rattle.outline_laws.proofs.Stops.{place, passing_same, stops_same}
-use Rattle.slice_bool.proofs.Winding.{IsSpotAt, stops_at}
-use Rattle.slice_bool.proofs.Middle.{middle_positive}
+use Rattle.slice_border.proofs.Winding.{IsSpotAt, stops_at}
+use Rattle.slice_border.proofs.Middle.{middle_positive}
 
 -- ---- a piece between two spots
 between_same : (left right : Bool) (s t s' t' : Spot) (k : ℕ) → AreSameSpot s s' → AreSameSpot t t'

@@ -18,10 +18,10 @@ use Rattle.slice_snap.specs.Pieces.{way_of, ways_of, ArePiecesBalanced}
 use Rattle.slice_snap.specs.Rounding.{rounded_edges}
 use Rattle.slice_snap.proofs.Balance.{merged_balanced, left_balanced}
 use Rattle.slice_loops.specs.Outlines.{outlines_of}
-use Rattle.slice_bool.specs.Outlines.{AreMadeOf, AreOutlinesOf}
-use Rattle.slice_bool.proofs.BalanceLevels.{pieces_are_balanced}
-use Rattle.slice_bool.proofs.Membership.{pieces_are_placed}
-use Rattle.slice_bool.proofs.PieceWinding.{IsPlaced, placed_proper, merged_placed}
+use Rattle.slice_border.specs.Outlines.{AreMadeOf, AreOutlinesOf}
+use Rattle.slice_border.proofs.BalanceLevels.{pieces_are_balanced}
+use Rattle.slice_border.proofs.Membership.{pieces_are_placed}
+use Rattle.slice_border.proofs.PieceWinding.{IsPlaced, placed_proper, merged_placed}
 use Rattle.outline_laws.proofs.SomePieces.{HasPieces, pieces_of}
 use Rattle.outline_laws.proofs.MergeTotal.{HasMerged, pieces_merged}
 use Rattle.outline_laws.proofs.CancelTotal.{HasCancelled, edges_cancelled}

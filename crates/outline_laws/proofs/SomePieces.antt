@@ -6,9 +6,9 @@ use Rattle.scad_geom.specs.declared.level.LeafEdge.{LeafEdge}
 use Rattle.scad_geom.specs.declared.shape.Shape.{Shape}
 use Rattle.slice_snap.specs.declared.piece.Spot.{Spot}
 use Rattle.slice_snap.specs.declared.piece.Piece.{Piece}
-use Rattle.slice_bool.specs.Pieces.{across, spots_at, GoRight, HasSpot, IsOneOf, AreStops}
-use Rattle.slice_bool.specs.Pieces.{flat_pieces, slab_pieces, AreLevelPieces, ArePieces}
-use Rattle.slice_bool.proofs.Winding.{IsSpotAt, spots_are_at}
+use Rattle.slice_border.specs.Pieces.{across, spots_at, GoRight, HasSpot, IsOneOf, AreStops}
+use Rattle.slice_border.specs.Pieces.{flat_pieces, slab_pieces, AreLevelPieces, ArePieces}
+use Rattle.slice_border.proofs.Winding.{IsSpotAt, spots_are_at}
 use Rattle.outline_laws.proofs.Distinct.{weaker, each_is_in, HasDivisor, Climbs, Reaches, HasDistinct, distinct}
 use Rattle.outline_laws.proofs.SomeLevels.{HasLevels, levels_of}
 use Rattle.outline_laws.proofs.SomeBundles.{HasBundles, bundles_of}

@@ -28,13 +28,13 @@ use Rattle.slice_snap.specs.declared.piece.Piece.{Piece}
 use Rattle.slice_snap.specs.Spots.{IsSpotWithin}
 use Rattle.slice_snap.specs.Pieces.{ends_of, IsPieceWithin}
 use Rattle.slice_snap.proofs.Ends.{joined}
-use Rattle.slice_bool.specs.Pieces.{flat_pieces, slab_pieces, AreLevelPieces, ArePieces}
-use Rattle.slice_bool.proofs.Ends.{flat_ends, slab_ends, AtBoth, each_of}
+use Rattle.slice_border.specs.Pieces.{flat_pieces, slab_pieces, AreLevelPieces, ArePieces}
+use Rattle.slice_border.proofs.Ends.{flat_ends, slab_ends, AtBoth, each_of}
 use Rattle.outline_laws.specs.Sameness.{AreSameSpot, ArePiecesSame}
 use Rattle.outline_laws.proofs.Rising.{HasDivisor}
 use Rattle.outline_laws.proofs.Stops.{same_placed}
-use Rattle.slice_bool.proofs.Winding.{IsSpotAt, stops_at}
-use Rattle.slice_bool.proofs.Within.{size_above}
+use Rattle.slice_border.proofs.Winding.{IsSpotAt, stops_at}
+use Rattle.slice_border.proofs.Within.{size_above}
 use Rattle.slice_snap.proofs.SameSpots.{run_above}
 
 -- ---- the heights of edges in range

@@ -6,8 +6,8 @@ use Rattle.scad_geom.specs.declared.shape.Shape.{Shape}
 use Rattle.scad_geom.specs.Limits.{coordinate_limit}
 use Rattle.scad_geom.specs.Within.{IsEdgeWithin}
 use Rattle.slice_snap.specs.declared.piece.Piece.{Piece}
-use Rattle.slice_bool.specs.Pieces.{ArePieces}
-use Rattle.slice_bool.specs.Outlines.{AreOutlinesOf}
+use Rattle.slice_border.specs.Pieces.{ArePieces}
+use Rattle.slice_border.specs.Outlines.{AreOutlinesOf}
 use Rattle.outline_laws.specs.Sameness.{ArePiecesSame, HoldAlike}
 
 -- ---- the laws

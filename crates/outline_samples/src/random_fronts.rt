@@ -6,7 +6,7 @@ ghost use Rattle.scad_geom.specs.Level.{IsLevelWithin};
 ghost use Rattle.slice_events.specs.Levels.{AreLevels};
 ghost use Rattle.slice_slab.specs.Active.{IsReadyFor as IsActiveFor, StandsAt};
 ghost use Rattle.slice_sweep.specs.Front.{IsReadyFor};
-ghost use Rattle.slice_bool.specs.Parts.{level_at};
+ghost use Rattle.slice_border.specs.Levels.{level_at};
 
 use crate::cases::expect;
 use crate::grid::roll_point;

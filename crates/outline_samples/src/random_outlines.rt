@@ -12,7 +12,7 @@ use crate::numbers::{number_with, number_with_loops, number_with_pieces};
 use plan_sides::sides;
 use sample_dice::Dice;
 use scad_geom::{Edge, LeafEdge, Loop, Pt, Shape};
-use slice_bool::BoolFault;
+use slice_border::BoolFault;
 use std::alloc::{AllocError, AllocGlobal, Global};
 use std::process::Abort;
 use std::slice::from_ref;

@@ -10,7 +10,7 @@ use plan_walls::walls;
 use sample_dice::{Dice, roll_outlines};
 use scad_geom::{Loop, Path};
 use scad_words::Settings;
-use slice_bool::BoolFault;
+use slice_border::BoolFault;
 use std::alloc::{AllocError, Global};
 
 fn number_with_runs(before: i64, runs: &[Run]) -> i64 {

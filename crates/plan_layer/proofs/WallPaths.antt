@@ -6,8 +6,8 @@ use Rattle.std.proofs.lemmas.List.{append-nil}
 use Rattle.scad_geom.specs.declared.point.Pt.{Pt}
 use Rattle.slice_events.specs.Limits.{crossing_limit}
 use Rattle.slice_events.specs.Levels.{crossings}
-use Rattle.slice_bool.specs.declared.fault.BoolFault.{BoolFault}
-use Rattle.slice_bool.specs.declared.fault.BoolFault.TheVariants.{Memory, Edges, Crossings}
+use Rattle.slice_border.specs.declared.fault.BoolFault.{BoolFault}
+use Rattle.slice_border.specs.declared.fault.BoolFault.TheVariants.{Memory, Edges, Crossings}
 use Rattle.plan_walls.specs.Walls.{wall_edges, AreWalls}
 use Rattle.plan_walls.specs.Refusal.{wall_edge_limit, IsRefusal}
 use Rattle.scad_words.specs.declared.settings.Settings.{Settings}

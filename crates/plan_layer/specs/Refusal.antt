@@ -3,9 +3,9 @@ use Rattle.std.specs.Prelude.{◌≡◌, ◌≢◌, ◌⊎◌, ℕ, ◌<◌, ◌
 use Rattle.scad_geom.specs.declared.point.Pt.{Pt}
 use Rattle.slice_events.specs.Limits.{crossing_limit}
 use Rattle.slice_events.specs.Levels.{crossings}
-use Rattle.slice_bool.specs.declared.fault.BoolFault.{BoolFault}
-use Rattle.slice_bool.specs.declared.fault.BoolFault.TheVariants.{Memory as NoMemory, Edges as ManyEdges}
-use Rattle.slice_bool.specs.declared.fault.BoolFault.TheVariants.{Crossings as ManyCrossings}
+use Rattle.slice_border.specs.declared.fault.BoolFault.{BoolFault}
+use Rattle.slice_border.specs.declared.fault.BoolFault.TheVariants.{Memory as NoMemory, Edges as ManyEdges}
+use Rattle.slice_border.specs.declared.fault.BoolFault.TheVariants.{Crossings as ManyCrossings}
 use Rattle.plan_walls.specs.Walls.{wall_edges}
 use Rattle.plan_walls.specs.Refusal as of_walls
 use Rattle.plan_walls.specs.Refusal.{wall_edge_limit}

@@ -3,7 +3,7 @@ ghost use Rattle.std.specs.Prelude.{◌≡◌};
 ghost use Rattle.plan_layer.specs.Refusal.{fault_of};
 ghost use Rattle.plan_layer.specs.declared.fault.PlanFault.TheVariants.{Memory};
 
-use slice_bool::BoolFault;
+use slice_border::BoolFault;
 use std::alloc::AllocError;
 
 /// Why a layer has no plan.

@@ -9,7 +9,7 @@ use Rattle.scad_geom.specs.Point.{Point}
 use Rattle.scad_geom.specs.Loop.{sides}
 use Rattle.scad_geom.specs.Sign.{is_zero}
 use Rattle.plan_sides.proofs.Closure.{sides_balanced}
-use Rattle.slice_bool.proofs.NearBorder.{outlines_are_near_border}
+use Rattle.slice_border.proofs.NearBorder.{outlines_are_near_border}
 use Rattle.plan_walls.specs.Walls.{with_rings}
 use Rattle.plan_walls.specs.Laws.{WallsStayApart, WallsKeepClear}
 use Rattle.plan_walls.proofs.Off.{IsOff, held_off}

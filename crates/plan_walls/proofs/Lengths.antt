@@ -18,7 +18,7 @@ use Rattle.slice_snap.specs.Pieces.{ways_of}
 use Rattle.slice_snap.specs.Rounding.{rounded_edges}
 use Rattle.slice_loops.specs.Lengths.{HasLength}
 use Rattle.slice_loops.proofs.Lengths.{sides_have_lengths}
-use Rattle.slice_bool.specs.Outlines.{AreOutlinesOf}
+use Rattle.slice_border.specs.Outlines.{AreOutlinesOf}
 use Rattle.plan_walls.specs.Walls.{with_rings}
 use Rattle.plan_walls.specs.Lengths.{WallsHaveLengths}
 

@@ -1,8 +1,8 @@
 -- When walls are refused.
 use Rattle.std.specs.Prelude.{ℕ}
-use Rattle.slice_bool.specs.declared.fault.BoolFault.{BoolFault}
-use Rattle.slice_bool.specs.declared.fault.BoolFault.TheVariants.{Memory}
-use Rattle.slice_bool.specs.Fault.{IsRefusal as IsBorderRefusal}
+use Rattle.slice_border.specs.declared.fault.BoolFault.{BoolFault}
+use Rattle.slice_border.specs.declared.fault.BoolFault.TheVariants.{Memory}
+use Rattle.slice_border.specs.Fault.{IsRefusal as IsBorderRefusal}
 
 -- the shape of a wall has at most so many edges
 abbrev pub wall_edge_limit : ℕ

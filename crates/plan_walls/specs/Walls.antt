@@ -9,7 +9,7 @@ use Rattle.scad_geom.specs.declared.shape.Shape.{Shape}
 use Rattle.scad_geom.specs.Loop.{sides}
 use Rattle.scad_geom.specs.Shape.{shape_holds}
 use Rattle.scad_ring.specs.Corners.{corners_of}
-use Rattle.slice_bool.specs.Outlines.{AreOutlinesOf}
+use Rattle.slice_border.specs.Outlines.{AreOutlinesOf}
 
 -- edges as those of one leaf
 abbrev pub of_leaf : ℕ → List Edge → List LeafEdge

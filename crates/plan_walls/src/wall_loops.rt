@@ -15,7 +15,7 @@ use crate::edges::{edge_count, edges};
 use crate::shape::first_without;
 use plan_sides::sides;
 use scad_geom::{Edge, LeafEdge, Loop, Shape};
-use slice_bool::BoolFault;
+use slice_border::BoolFault;
 use slice_outlines::outlines;
 use std::alloc::{AllocError, Global};
 

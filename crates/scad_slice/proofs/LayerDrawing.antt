@@ -12,7 +12,7 @@ use Rattle.scad_tree.specs.Solids.{AreSolids}
 use Rattle.scad_tree.specs.Sections.{tree_section}
 use Rattle.scad_words.specs.declared.settings.Settings.{Settings}
 use Rattle.scad_words.specs.Settings.{AreInRange}
-use Rattle.slice_bool.specs.declared.fault.BoolFault.TheVariants.{Edges, Crossings}
+use Rattle.slice_border.specs.declared.fault.BoolFault.TheVariants.{Edges, Crossings}
 use Rattle.slice_layer.specs.Refusal.{IsRefusal}
 use Rattle.slice_layer.specs.Outlines.{AreLayerOutlines}
 use Rattle.slice_events.specs.Limits.{crossing_limit}

@@ -21,7 +21,7 @@ use plan_support::supports;
 use scad_fault::{Budget, BudgetKind};
 use scad_geom::{Loop, Path};
 use scad_io::Gate;
-use slice_bool::BoolFault;
+use slice_border::BoolFault;
 use slice_layer::layer_outlines;
 use slice_work::{LayerEnd, LayerPlan, LayerWork, Want};
 use std::alloc::{AllocError, Global};

@@ -18,15 +18,14 @@ use Rattle.scad_geom.proofs.Heights.{at_most_then_lower}
 use Rattle.slice_slab.specs.Bundles.{edge_at}
 use Rattle.slice_snap.specs.declared.piece.Spot.{Spot}
 use Rattle.slice_snap.specs.Spots.{point_of}
-use Rattle.slice_bool.specs.declared.stop.Stop.{Stop}
-use Rattle.slice_bool.specs.Pieces.{IsLeft, GoRight, across, piece_between, stretch_piece}
-use Rattle.slice_bool.specs.Stops.{spots_in}
-use Rattle.slice_bool.specs.Beside.{RisesFirst, passing, is_right_of}
-use Rattle.slice_bool.specs.BothSides.{TellBeside}
+use Rattle.slice_border.specs.declared.stop.Stop.{Stop}
+use Rattle.slice_border.specs.Pieces.{IsLeft, GoRight, across, piece_between, stretch_piece}
+use Rattle.slice_border.specs.Stops.{spots_in}
+use Rattle.slice_border.specs.Beside.{RisesFirst, passing, is_right_of, TellBeside}
 use Rattle.slice_bool.specs.Along.{GoAlong, AreBeside, AreAlong, covered_piece}
-use Rattle.slice_bool.proofs.RightOf.{right_of}
-use Rattle.slice_bool.proofs.Telling.{pass_on, pass_here}
-use Rattle.slice_bool.proofs.Winding.{IsSpotAt}
+use Rattle.slice_border.proofs.RightOf.{right_of}
+use Rattle.slice_bool.proofs.BothSides.{pass_on, pass_here}
+use Rattle.slice_border.proofs.Winding.{IsSpotAt}
 
 -- ---- bundles that don't lie to the right of a spot
 not_more : (x y : ℤ) → int_lt x y ≡ false → y ≤ℤ x

@@ -19,8 +19,9 @@ use Rattle.slice_slab.proofs.Times.{AreStrict, same_counts, times_permuted, filt
 use Rattle.slice_slab.proofs.Choice.{numbers_where, touching_is, StandFrom, stand_from_first, next_from, first_from, filtered, all_where, strict_where}
 use Rattle.slice_slab.proofs.Standing.{touch_both}
 use Rattle.slice_snap.specs.declared.piece.Spot.{Spot}
-use Rattle.slice_bool.specs.Pieces.{is_flat_at, passes_at, edge_spots, spots_at, AreStops, IsOneOf, HasSpot, whole_spot, spot_on}
-use Rattle.slice_bool.specs.Near.{picked, touching_at, flats_from}
+use Rattle.slice_border.specs.Pieces.{is_flat_at, passes_at, edge_spots, spots_at, AreStops, IsOneOf, HasSpot, whole_spot, spot_on}
+use Rattle.slice_bool.specs.Near.{picked, touching_at}
+use Rattle.slice_border.specs.Flats.{flats_from}
 use Rattle.slice_bool.proofs.SomeStops.{empty_list}
 
 -- ---- edges that don't meet a level are neither flat on it nor pass it

@@ -11,11 +11,11 @@ use Rattle.scad_geom.specs.declared.level.LeafEdge.{LeafEdge}
 use Rattle.scad_geom.specs.declared.shape.Shape.{Shape}
 use Rattle.slice_snap.specs.declared.piece.Spot.{Spot}
 use Rattle.slice_snap.specs.declared.piece.Piece.{Piece}
-use Rattle.slice_bool.specs.Near.{flats_from, first_cover}
+use Rattle.slice_border.specs.Flats.{flats_from, first_cover}
 use Rattle.slice_bool.specs.Parts.{AreOnLevel, Extends}
-use Rattle.slice_bool.specs.Pieces.{IsLeft, IsSameAcross, GoRight, HasSpot, IsOneOf, AreStops, spots_at, covers, stretch_piece, flat_pieces}
-use Rattle.slice_bool.proofs.NearLevel.{flats_cover}
-use Rattle.slice_bool.proofs.Winding.{IsSpotAt, stops_at}
+use Rattle.slice_border.specs.Pieces.{IsLeft, IsSameAcross, GoRight, HasSpot, IsOneOf, AreStops, spots_at, covers, stretch_piece, flat_pieces}
+use Rattle.slice_border.proofs.Flats.{flats_cover}
+use Rattle.slice_border.proofs.Winding.{IsSpotAt, stops_at}
 
 -- ---- spots in order, each place once
 abbrev comes : Spot → Spot → Bool

@@ -1,30 +1,14 @@
 -- The pieces between neighbouring stops, one after the other.
-use Rattle.std.proofs.Common.{◌≡◌, ℕ, zero, suc, ◌+◌, ◌-◌, ◌<◌, ◌≤◌, Bool, true, false, cond, List, [], ◌∷◌, ◌++◌, length, get_or, drop, refl, ap, ◌∙◌, arith, append_assoc, length-drop}
-use Rattle.std.specs.Prelude.{Some}
-use Rattle.std.specs.List.{position, position_from}
-use Rattle.std.proofs.lemmas.List.{at_drop_more}
+use Rattle.std.proofs.Common.{◌≡◌, ℕ, zero, suc, ◌+◌, ◌-◌, ◌<◌, ◌≤◌, List, [], ◌∷◌, ◌++◌, length, get_or, drop, refl, ap, ◌∙◌, arith, append_assoc, length-drop}
+use Rattle.std.specs.List.{position}
 use Rattle.scad_geom.specs.declared.level.LeafEdge.{LeafEdge}
 use Rattle.scad_geom.specs.declared.shape.Shape.{Shape}
 use Rattle.slice_snap.specs.declared.piece.Spot.{Spot}
 use Rattle.slice_snap.specs.declared.piece.Piece.{Piece}
-use Rattle.slice_bool.specs.declared.stop.Stop.{Stop}
-use Rattle.slice_bool.specs.Pieces.{covers, stretch_piece, flat_pieces}
-use Rattle.slice_bool.specs.Stops.{spots_in}
+use Rattle.slice_border.specs.declared.stop.Stop.{Stop}
+use Rattle.slice_border.specs.Pieces.{covers, stretch_piece, flat_pieces}
+use Rattle.slice_border.specs.Stops.{spots_in}
 
--- ---- the first edge that passes a test
-pub position_more : (test : LeafEdge → Bool) (es : List LeafEdge) (i : ℕ) (d : LeafEdge) → i < length es
-    → test (get_or es i d) ≡ false
-    → position_from test i (drop i es) ≡ position_from test (i + 1) (drop (i + 1) es)
-position_more test es i d h e = at_drop_more (position_from test i) es i d h ∙ ap
-    (λ (b : Bool). cond b (Some i) (position_from test (i + 1) (drop (i + 1) es))) e
-
-pub position_here : (test : LeafEdge → Bool) (es : List LeafEdge) (i : ℕ) (d : LeafEdge) → i < length es
-    → test (get_or es i d) ≡ true
-    → position_from test i (drop i es) ≡ Some i
-position_here test es i d h e = at_drop_more (position_from test i) es i d h ∙ ap
-    (λ (b : Bool). cond b (Some i) (position_from test (i + 1) (drop (i + 1) es))) e
-
--- ---- stretches
 abbrev pub stretch : List LeafEdge → Shape → Spot → Spot → List Piece
 stretch es shape s t = stretch_piece es shape s t (position (covers s t) es)
 

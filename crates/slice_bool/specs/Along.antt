@@ -6,9 +6,9 @@ use Rattle.scad_geom.specs.Shape.{is_in_by}
 use Rattle.slice_snap.specs.declared.piece.Spot.{Spot}
 use Rattle.slice_snap.specs.declared.piece.Piece.{Piece}
 use Rattle.slice_snap.specs.Spots.{point_of}
-use Rattle.slice_bool.specs.declared.stop.Stop.{Stop}
-use Rattle.slice_bool.specs.Pieces.{IsLeft, piece_between}
-use Rattle.slice_bool.specs.Beside.{left_value, passing}
+use Rattle.slice_border.specs.declared.stop.Stop.{Stop}
+use Rattle.slice_border.specs.Pieces.{IsLeft, piece_between}
+use Rattle.slice_border.specs.Beside.{left_value, passing}
 
 -- spots of one level from left to right
 abbrev pub GoAlong : List Spot → Type 0

@@ -1,22 +1,13 @@
 -- The shape's values above and below a level, by the bundles between it and its neighbours.
-use Rattle.std.specs.Prelude.{Bool, true, false, List, [], ◌∷◌, ℕ, ◌<◌, ◌≡◌}
+use Rattle.std.specs.Prelude.{Bool, true, false, List, [], ◌∷◌, ◌≡◌}
 use Rattle.std.specs.List.{AllByRecursion}
 use Rattle.scad_geom.specs.declared.level.Level.{Level}
 use Rattle.scad_geom.specs.declared.level.LeafEdge.{LeafEdge}
 use Rattle.scad_geom.specs.declared.shape.Shape.{Shape}
-use Rattle.scad_geom.specs.Shape.{is_in_by}
-use Rattle.slice_snap.specs.declared.piece.Spot.{Spot}
-use Rattle.slice_snap.specs.Spots.{point_of}
 use Rattle.slice_bool.specs.declared.beside.Valued.{Valued}
 use Rattle.slice_bool.specs.declared.beside.Sides.{Sides}
-use Rattle.slice_bool.specs.Beside.{AreLeftValues, RisesFirst, left_value, passing}
-
--- hard by each spot of a level, above or below it, the shape has the value to the left of the bundles that lie to the
--- right of the spot
-abbrev pub TellBeside : Bool → List LeafEdge → Shape → Level → List (List ℕ) → Type 0
-TellBeside above edges shape at bundles = (s : Spot) → s.at ≡ at → 0 < s.run
-    → is_in_by above true edges shape (point_of s)
-    ≡ left_value edges shape (passing edges true (point_of s) bundles)
+use Rattle.slice_bool.specs.LeftValues.{AreLeftValues}
+use Rattle.slice_border.specs.Beside.{RisesFirst, TellBeside}
 
 -- bundles on one side of a level, with the values to their left
 pub record IsSide (above : Bool) (edges : List LeafEdge) (shape : Shape) (at : Level) (v : Valued) : Type 0 where

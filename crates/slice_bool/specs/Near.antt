@@ -1,14 +1,13 @@
 -- What of an edge list matters on a level: the edges that meet it, and the numbers of the flat ones that lie on it.
-use Rattle.std.specs.Prelude.{if◌then◌else◌, List, [], ◌∷◌, ℕ, ◌+◌, ◌<◌, ◌≡◌, length, map, slice_index_or, Option, None, Some, All}
+use Rattle.std.specs.Prelude.{if◌then◌else◌, List, [], ◌∷◌, ℕ, ◌<◌, ◌≡◌, length, map, slice_index_or, All}
 use Rattle.scad_geom.specs.Limits.{coordinate_limit}
 use Rattle.scad_geom.specs.declared.level.Level.{Level}
 use Rattle.scad_geom.specs.declared.level.LeafEdge.{LeafEdge}
 use Rattle.scad_geom.specs.Within.{IsEdgeWithin}
 use Rattle.slice_slab.specs.Bundles.{no_edge}
 use Rattle.slice_slab.specs.Touching.{touches}
-use Rattle.slice_snap.specs.declared.piece.Spot.{Spot}
 use Rattle.slice_bool.specs.declared.near.Near.{Near}
-use Rattle.slice_bool.specs.Pieces.{is_flat_at, covers}
+use Rattle.slice_border.specs.Flats.{flats_from}
 
 -- the edges of these numbers
 abbrev pub picked : List LeafEdge → List ℕ → List LeafEdge
@@ -18,17 +17,6 @@ picked edges ks = map (λ k. slice_index_or edges k no_edge) ks
 abbrev pub touching_at : List LeafEdge → Level → List LeafEdge
 touching_at [] at = []
 touching_at (e ∷ es) at = if touches e.edge at then e ∷ touching_at es at else touching_at es at
-
--- the numbers of the flat edges that lie on a level, counted from the first number on
-abbrev pub flats_from : ℕ → List LeafEdge → Level → List ℕ
-flats_from k [] at = []
-flats_from k (e ∷ es) at = if is_flat_at e.edge at then k ∷ flats_from (k + 1) es at else flats_from (k + 1) es at
-
--- the first of these numbers whose edge covers the stretch between two spots
-abbrev pub first_cover : List LeafEdge → Spot → Spot → List ℕ → Option ℕ
-first_cover edges s t [] = None
-first_cover edges s t (k ∷ ks) = if covers s t (slice_index_or edges k no_edge) then Some k else first_cover edges s t
-    ks
 
 -- these are the numbers of the flat edges that lie on a level
 pub record AreFlats (edges : List LeafEdge) (at : Level) (flats : List ℕ) : Type 0 where

@@ -1,16 +1,12 @@
 -- The parts of a border's list of pieces: those on a level, and those between two levels.
-use Rattle.std.specs.Prelude.{List, [], ◌∷◌, ◌++◌, ℕ, ◌≡◌, pos, slice_index_or}
+use Rattle.std.specs.Prelude.{List, [], ◌∷◌, ◌++◌, ℕ, ◌≡◌}
 use Rattle.scad_geom.specs.declared.level.Level.{Level}
 use Rattle.scad_geom.specs.declared.level.LeafEdge.{LeafEdge}
 use Rattle.scad_geom.specs.declared.shape.Shape.{Shape}
 use Rattle.slice_slab.specs.Bundles.{AreBundles}
 use Rattle.slice_snap.specs.declared.piece.Spot.{Spot}
 use Rattle.slice_snap.specs.declared.piece.Piece.{Piece}
-use Rattle.slice_bool.specs.Pieces.{AreStops, flat_pieces, slab_pieces}
-
--- the level of a number
-abbrev pub level_at : List Level → ℕ → Level
-level_at levels i = slice_index_or levels i (record { n = pos 0; d = pos 0 })
+use Rattle.slice_border.specs.Pieces.{AreStops, flat_pieces, slab_pieces}
 
 -- the pieces on a level
 abbrev pub AreOnLevel : List LeafEdge → Shape → Level → List Piece → Type 0

@@ -7,15 +7,16 @@ ghost use Rattle.scad_geom.specs.Within.{IsEdgeWithin};
 ghost use Rattle.scad_geom.specs.Winding.{is_beyond};
 ghost use Rattle.slice_snap.specs.Spots.{point_of};
 ghost use Rattle.slice_bool.specs.BothSides.{IsNothing};
-ghost use Rattle.slice_bool.specs.Stops.{spots_in};
-ghost use Rattle.slice_bool.specs.Beside.{AreLeftValues, RisesFirst, is_right_of};
+ghost use Rattle.slice_border.specs.Stops.{spots_in};
+ghost use Rattle.slice_bool.specs.LeftValues.{AreLeftValues};
+ghost use Rattle.slice_border.specs.Beside.{RisesFirst, is_right_of};
 ghost use Rattle.slice_bool.specs.Along.{GoAlong, AreBeside};
 
-use crate::stop::Stop;
 use crate::sweep::Sweep;
 use scad_geom::line::{rise, x_at};
 use scad_geom::wide::times;
 use scad_geom::{Edge, LeafEdge};
+use slice_border::Stop;
 use slice_slab::Bundle;
 use std::alloc::{AllocError, Global};
 

@@ -1,32 +1,32 @@
 //! All pieces of a border.
-ghost use Rattle.std.specs.Prelude.{◌≡◌, ◌<◌, ◌≤◌, ◌+◌, ◌^◌, length, drop, true, false, OnOk, IfOk, IfErr, All};
+ghost use Rattle.std.specs.Prelude.{◌<◌, ◌≤◌, ◌+◌, ◌^◌, [], length, drop, true, false, OnOk, IfOk, IfErr, All};
 ghost use Rattle.std.specs.List.Sorted.{IsPermutation};
 ghost use Rattle.scad_geom.specs.Limits.{coordinate_limit};
 ghost use Rattle.scad_geom.specs.Within.{IsEdgeWithin};
 ghost use Rattle.scad_geom.specs.Level.{IsLevelWithin};
 ghost use Rattle.slice_events.specs.Limits.{crossing_limit};
 ghost use Rattle.slice_events.specs.Levels.{crossings, AreLevels};
-ghost use Rattle.slice_bool.specs.Pieces.{AreLevelPieces, ArePieces};
+ghost use Rattle.slice_border.specs.Pieces.{AreLevelPieces, ArePieces};
 ghost use Rattle.scad_geom.specs.Leaves.{AreLeavesBalanced};
 ghost use Rattle.slice_slab.specs.Bundles.{edge_at, AreBundles};
 ghost use Rattle.slice_slab.specs.Touching.{touching};
 ghost use Rattle.slice_slab.specs.Active.{live_in, bundles_in, IsReadyFor, StandsAt};
 ghost use Rattle.slice_snap.specs.Pieces.{HaveOneLevel, IsPieceWithin, ArePiecesBalanced};
 ghost use Rattle.slice_snap.specs.Naming.{AreNamed};
-ghost use Rattle.slice_bool.specs.Centre.{AreCentresWound};
-ghost use Rattle.slice_bool.specs.Fault.{IsRefusal};
-ghost use Rattle.slice_bool.specs.Parts.{level_at, AreUpToNext, Extends};
-ghost use Rattle.slice_bool.specs.Keeping.{AreFor};
+ghost use Rattle.slice_border.specs.Centre.{AreCentresWound};
+ghost use Rattle.slice_border.specs.Fault.{IsRefusal};
+ghost use Rattle.slice_border.specs.Levels.{level_at};
+ghost use Rattle.slice_bool.specs.Parts.{AreUpToNext, Extends};
+ghost use Rattle.slice_border.specs.Keeping.{Tells};
 ghost use Rattle.slice_bool.specs.BothSides.{IsSide};
 
 use crate::beside::{Sides, Valued, nothing_beside};
-use crate::fault::BoolFault;
 use crate::flat::push_flat_pieces;
 use crate::near::edges_near;
 use crate::slab::{Slab, left_values, push_slab_pieces};
 use crate::sweep::Sweep;
-use crate::tally::{Tallies, no_tallies};
 use scad_geom::{LeafEdge, Level, Shape};
+use slice_border::{BoolFault, Tally};
 use slice_events::{EventFault, levels};
 use slice_slab::Active;
 use slice_snap::Piece;
@@ -89,7 +89,7 @@ fn all_pieces(
     };
     let mut climb = Climb {
         active: Active::new(alloc, edges)?,
-        tallies: no_tallies(alloc, edges, shape)?,
+        tally: Tally::new(alloc, edges, shape)?,
         below: nothing_beside(alloc)?,
     };
     let mut out = Vec::new(alloc);
@@ -99,11 +99,11 @@ fn all_pieces(
     Ok(out)
 }
 
-// What goes from level to level: the edges that meet one, the tallies, and what lies just below it.
+// What goes from level to level: the edges that meet one, the tally, and what lies just below it.
 #[derive(Drop)]
 struct Climb {
     active: Active,
-    tallies: Tallies,
+    tally: Tally,
     below: Valued,
 }
 
@@ -119,19 +119,19 @@ fn push_level(
     requires levels { AreLevels sweep.now.edges.now levels.now }
     requires there { i < length levels.now }
     requires active { IsReadyFor sweep.now.edges.now (level_at levels.now i) climb.old.active }
-    requires tallies { AreFor sweep.now.edges.now sweep.now.shape.now climb.old.tallies }
+    requires tally { Tells sweep.now.edges.now sweep.now.shape.now [] climb.old.tally }
     requires below { IsSide false sweep.now.edges.now sweep.now.shape.now (level_at levels.now i) climb.old.below }
     ensures pieces { OnOk result (Extends (AreUpToNext sweep.now.edges.now sweep.now.shape.now (drop i levels.now))
         out.old.items out.new.items) }
     ensures active { OnOk result (StandsAt sweep.now.edges.now (level_at levels.now i) climb.new.active) }
-    ensures tallies { OnOk result (AreFor sweep.now.edges.now sweep.now.shape.now climb.new.tallies) }
+    ensures tally { OnOk result (Tells sweep.now.edges.now sweep.now.shape.now [] climb.new.tally) }
     ensures below { OnOk result (i + 1 < length levels.now
         → IsSide false sweep.now.edges.now sweep.now.shape.now (level_at levels.now (i + 1)) climb.new.below) }
 {
     rise(sweep, &mut climb.active, levels, i)?;
     let at = &levels[i];
     let near = edges_near(sweep.alloc, sweep.edges, climb.active.touching(), at)?;
-    let above = side_above(sweep, &mut climb.active, &mut climb.tallies, levels, i)?;
+    let above = side_above(sweep, &mut climb.active, &mut climb.tally, levels, i)?;
     push_flat_pieces(
         sweep,
         &near,
@@ -158,7 +158,7 @@ fn push_level(
 fn side_above(
     sweep: &Sweep<'_>,
     active: &mut Active,
-    tallies: &mut Tallies,
+    tally: &mut Tally,
     levels: &[Level],
     i: usize,
 ) -> Result<Valued, AllocError>
@@ -167,18 +167,18 @@ fn side_above(
     requires bundles { i + 1 < length levels.now
         → AreBundles sweep.now.edges.now (level_at levels.now i) (level_at levels.now (i + 1)) (bundles_in active.old) }
     requires stands { StandsAt sweep.now.edges.now (level_at levels.now i) active.old }
-    requires tallies { AreFor sweep.now.edges.now sweep.now.shape.now tallies.old }
+    requires tally { Tells sweep.now.edges.now sweep.now.shape.now [] tally.old }
     ensures above { IfOk result (IsSide true sweep.now.edges.now sweep.now.shape.now (level_at levels.now i)) }
     ensures below { IfOk result (λ v. i + 1 < length levels.now
         → IsSide false sweep.now.edges.now sweep.now.shape.now (level_at levels.now (i + 1)) v) }
     ensures bundles { IfOk result (λ v. i + 1 < length levels.now
         → AreBundles sweep.now.edges.now (level_at levels.now i) (level_at levels.now (i + 1)) v.bundles.items) }
     ensures stands { IfOk result (λ v. StandsAt sweep.now.edges.now (level_at levels.now i) active.new) }
-    ensures tallies { IfOk result (λ v. AreFor sweep.now.edges.now sweep.now.shape.now tallies.new) }
+    ensures tally { IfOk result (λ v. Tells sweep.now.edges.now sweep.now.shape.now [] tally.new) }
 {
     if i + 1 < levels.len() {
         let bundles = active.take_bundles();
-        let values = left_values(sweep, tallies, &bundles)?;
+        let values = left_values(sweep, tally, &bundles)?;
         Ok(Valued { bundles, values })
     } else {
         nothing_beside(sweep.alloc)

@@ -1,6 +1,6 @@
 //! The piece between two spots.
 ghost use Rattle.std.specs.Prelude.{◌≡◌, ◌++◌, OnOk};
-ghost use Rattle.slice_bool.specs.Pieces.{piece_between};
+ghost use Rattle.slice_border.specs.Pieces.{piece_between};
 
 use slice_snap::{Piece, Spot};
 use std::alloc::AllocError;

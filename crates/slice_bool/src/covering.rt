@@ -3,13 +3,13 @@ ghost use Rattle.std.specs.Prelude.{◌≡◌, ◌<◌, ◌≤◌, ◌^◌, ◌&
 ghost use Rattle.std.specs.List.{position};
 ghost use Rattle.scad_geom.specs.Limits.{coordinate_limit};
 ghost use Rattle.scad_geom.specs.Within.{IsWithin, IsEdgeWithin};
-ghost use Rattle.slice_bool.specs.Pieces.{covers};
-ghost use Rattle.slice_bool.specs.Near.{flats_from};
+ghost use Rattle.slice_border.specs.Pieces.{covers};
+ghost use Rattle.slice_border.specs.Flats.{flats_from};
 
-use crate::stop::Stop;
 use crate::stops::is_flat_at;
 use scad_geom::wide::times;
 use scad_geom::{LeafEdge, Pt};
+use slice_border::Stop;
 
 /// The least number of a flat edge that covers the stretch between two stops, among those of the flat edges on their
 /// level.

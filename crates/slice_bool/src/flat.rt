@@ -2,8 +2,8 @@
 ghost use Rattle.std.specs.Prelude.{◌≡◌, ◌<◌, ◌++◌, true, false, length, OnOk, All};
 ghost use Rattle.scad_geom.specs.Limits.{coordinate_limit};
 ghost use Rattle.scad_geom.specs.Level.{IsLevelWithin};
-ghost use Rattle.slice_bool.specs.Pieces.{flat_pieces};
-ghost use Rattle.slice_bool.specs.Stops.{spots_in};
+ghost use Rattle.slice_border.specs.Pieces.{flat_pieces};
+ghost use Rattle.slice_border.specs.Stops.{spots_in};
 ghost use Rattle.slice_bool.specs.Near.{AreFlats, AreEdgesNear};
 ghost use Rattle.slice_bool.specs.BothSides.{AreSides};
 ghost use Rattle.slice_bool.specs.Parts.{AreOnLevel, Extends};
@@ -13,10 +13,10 @@ use crate::beside::{Sides, values_beside};
 use crate::border_piece::push_between;
 use crate::covering::covering_edge;
 use crate::near::Near;
-use crate::stop::Stop;
 use crate::stops::stops;
 use crate::sweep::Sweep;
 use scad_geom::Level;
+use slice_border::Stop;
 use slice_snap::Piece;
 use std::alloc::AllocError;
 

@@ -9,17 +9,13 @@ mod beside;
 mod border;
 mod border_piece;
 mod covering;
-mod fault;
 mod flat;
-pub mod laws;
 mod near;
 mod outlining;
 mod slab;
-mod stop;
 mod stops;
 mod sweep;
-mod tally;
 
 pub use border::pieces;
-pub use fault::BoolFault;
 pub use outlining::outlines;
+pub use slice_border::BoolFault;

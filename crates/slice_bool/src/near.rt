@@ -6,7 +6,7 @@ ghost use Rattle.scad_geom.specs.Within.{IsEdgeWithin};
 ghost use Rattle.scad_geom.specs.Level.{IsLevelWithin};
 ghost use Rattle.slice_slab.specs.Bundles.{edge_at};
 ghost use Rattle.slice_slab.specs.Touching.{touching};
-ghost use Rattle.slice_bool.specs.Pieces.{is_flat_at};
+ghost use Rattle.slice_border.specs.Pieces.{is_flat_at};
 ghost use Rattle.slice_bool.specs.Near.{picked, AreEdgesNear};
 
 use crate::stops::is_flat_at;

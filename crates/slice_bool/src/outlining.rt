@@ -6,14 +6,14 @@ ghost use Rattle.scad_geom.specs.Leaves.{AreLeavesBalanced};
 ghost use Rattle.slice_events.specs.Limits.{crossing_limit};
 ghost use Rattle.slice_events.specs.Levels.{crossings};
 ghost use Rattle.slice_snap.specs.Pieces.{HaveOneLevel, IsPieceWithin, ArePiecesBalanced};
-ghost use Rattle.slice_bool.specs.Outlines.{AreMadeOf, AreOutlinesOf};
-ghost use Rattle.slice_bool.specs.Membership.{HoldCentres};
-ghost use Rattle.slice_bool.specs.NearBorder.{AreNearBorder};
-ghost use Rattle.slice_bool.specs.Fault.{IsRefusal};
+ghost use Rattle.slice_border.specs.Outlines.{AreMadeOf, AreOutlinesOf};
+ghost use Rattle.slice_border.specs.Membership.{HoldCentres};
+ghost use Rattle.slice_border.specs.NearBorder.{AreNearBorder};
+ghost use Rattle.slice_border.specs.Fault.{IsRefusal};
 
 use crate::border::pieces;
-use crate::fault::BoolFault;
 use scad_geom::{LeafEdge, Loop, Shape};
+use slice_border::BoolFault;
 use slice_loops::join;
 use slice_snap::{Piece, cancel, merge, round};
 use std::alloc::{AllocError, Global};
@@ -26,7 +26,7 @@ use std::alloc::{AllocError, Global};
 /// one micrometre along both axes from a point hard by which the shape holds on one side and not on another.
 ///
 /// It is refused exactly where there are more edges than the limit, and then where more than 2,000,000 pairs cross.
-#[tactic(auto, using(crate::proofs::Membership::outlines_hold_centres))]
+#[tactic(auto, using(slice_border::proofs::Membership::outlines_hold_centres))]
 pub fn outlines(
     alloc: Global,
     edges: &[LeafEdge],

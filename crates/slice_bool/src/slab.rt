@@ -1,21 +1,22 @@
 //! The pieces between two neighbouring levels.
-ghost use Rattle.std.specs.Prelude.{◌≡◌, ◌<ℤ◌, ◌++◌, pos, OnOk, IfOk, All};
+ghost use Rattle.std.specs.Prelude.{◌≡◌, ◌<ℤ◌, ◌++◌, [], pos, OnOk, IfOk, All};
+ghost use Rattle.std.specs.List.{concat};
 ghost use Rattle.scad_geom.specs.Limits.{coordinate_limit};
 ghost use Rattle.scad_geom.specs.Line.{rise};
 ghost use Rattle.scad_geom.specs.Within.{IsEdgeWithin};
 ghost use Rattle.scad_geom.specs.Level.{IsLevelWithin};
 ghost use Rattle.scad_geom.specs.Heights.{AreNeighbours};
 ghost use Rattle.slice_slab.specs.Bundles.{AreBundles};
-ghost use Rattle.slice_bool.specs.Pieces.{spot_on, piece_between, slab_pieces};
-ghost use Rattle.slice_bool.specs.Beside.{AreMembers, AreLeftValues, RisesFirst, piece_of};
-ghost use Rattle.slice_bool.specs.Keeping.{AreFor};
+ghost use Rattle.slice_border.specs.Pieces.{spot_on, piece_between, slab_pieces};
+ghost use Rattle.slice_border.specs.Beside.{AreMembers, RisesFirst};
+ghost use Rattle.slice_bool.specs.LeftValues.{AreLeftValues, piece_of};
+ghost use Rattle.slice_border.specs.Keeping.{Tells};
 
 use crate::beside::Valued;
 use crate::border_piece::push_between;
-use crate::stop::spot_on;
 use crate::sweep::Sweep;
-use crate::tally::{Tallies, add_bundle, put_all_back};
 use scad_geom::{Edge, LeafEdge, Level};
+use slice_border::{Tally, spot_on};
 use slice_slab::Bundle;
 use slice_snap::Piece;
 use std::alloc::AllocError;
@@ -100,26 +101,32 @@ fn push_passage(
 /// The shape's values, from the right end to the left: outside, then to the left of each bundle.
 pub(crate) fn left_values(
     sweep: &Sweep<'_>,
-    tallies: &mut Tallies,
+    tally: &mut Tally,
     bundles: &[Bundle],
 ) -> Result<Vec<bool>, AllocError>
     requires members { AreMembers sweep.now.edges.now bundles.now }
-    requires tallies { AreFor sweep.now.edges.now sweep.now.shape.now tallies.old }
+    requires tally { Tells sweep.now.edges.now sweep.now.shape.now [] tally.old }
     ensures values { IfOk result (λ v. AreLeftValues sweep.now.edges.now sweep.now.shape.now bundles.now v.items) }
-    ensures tallies { IfOk result (λ v. AreFor sweep.now.edges.now sweep.now.shape.now tallies.new) }
+    ensures tally { IfOk result (λ v. Tells sweep.now.edges.now sweep.now.shape.now [] tally.new) }
 {
     let mut values = Vec::new(sweep.alloc);
     values.push(false)?;
     'bundles: for i in 0..bundles.len() {
         let bundle = &bundles[bundles.len() - 1 - i];
-        add_bundle(
-            &mut tallies.turns,
-            &mut tallies.held,
-            sweep.edges,
-            bundle.as_slice(),
-        );
-        values.push(tallies.held.value())?;
+        tally.add(sweep.edges, bundle.as_slice());
+        values.push(tally.value())?;
     }
-    put_all_back(&mut tallies.turns, &mut tallies.held, sweep.edges, bundles);
+    take_all(sweep, tally, bundles);
     Ok(values)
+}
+
+// Takes all bundles' edges away.
+fn take_all(sweep: &Sweep<'_>, tally: &mut Tally, bundles: &[Bundle])
+    requires members { AreMembers sweep.now.edges.now bundles.now }
+    requires tally { Tells sweep.now.edges.now sweep.now.shape.now (concat bundles.now) tally.old }
+    ensures { Tells sweep.now.edges.now sweep.now.shape.now [] tally.new }
+{
+    'bundles: for i in 0..bundles.len() {
+        tally.take(sweep.edges, bundles[i].as_slice());
+    }
 }

@@ -1,21 +1,17 @@
 //! The distinct places where edges meet a height, from left to right.
-ghost use Rattle.std.specs.Prelude.{◌≡◌, ◌<◌, ◌&&◌, ◌*ℤ◌, ◌<ℤ◌, pos, true, int_le, int_lt, [], ◌∷◌, ◌++◌, length, OnOk, IfOk, All};
-ghost use Rattle.std.specs.List.Sorted.{IsPermutation};
-ghost use Rattle.std.specs.Ordering.{is_lt, int_cmp};
+ghost use Rattle.std.specs.Prelude.{◌≡◌, ◌<ℤ◌, pos, true, [], ◌∷◌, ◌++◌, OnOk, IfOk, All};
 ghost use Rattle.scad_geom.specs.Limits.{coordinate_limit};
-ghost use Rattle.scad_geom.specs.Line.{low, high, rise};
+ghost use Rattle.scad_geom.specs.Line.{rise};
 ghost use Rattle.scad_geom.specs.Within.{IsEdgeWithin};
 ghost use Rattle.scad_geom.specs.Level.{IsLevelWithin};
-ghost use Rattle.slice_bool.specs.Pieces.{is_flat_at, passes_at, spots_at, AreStops, edge_spots};
-ghost use Rattle.slice_bool.specs.Stops.{spots_in, is_left, AreSorted};
-ghost use Rattle.slice_events.specs.Distinct.{distinct_by, stays_by};
+ghost use Rattle.slice_border.specs.Pieces.{is_flat_at, passes_at, spots_at, AreStops, edge_spots};
+ghost use Rattle.slice_border.specs.Stops.{spots_in};
 
-use crate::stop::{Stop, spot_on, whole_spot};
 use scad_geom::line::{ends_from, rise, starts_by};
 use scad_geom::wide::times;
 use scad_geom::{Edge, LeafEdge, Level};
+use slice_border::{Stop, distinct_stops, spot_on, whole_spot};
 use std::alloc::{AllocError, Global};
-use std::cmp::Ordering;
 
 pub(crate) fn stops(alloc: Global, edges: &[LeafEdge], at: &Level) -> Result<Vec<Stop>, AllocError>
     requires within { All (λ e. IsEdgeWithin coordinate_limit e.edge) edges.now }
@@ -23,8 +19,7 @@ pub(crate) fn stops(alloc: Global, edges: &[LeafEdge], at: &Level) -> Result<Vec
     ensures { IfOk result (λ v. AreStops edges.now at.now (spots_in v.items)) }
 {
     let mut all = spots(alloc, edges, at)?;
-    sort(&mut all)?;
-    distinct(alloc, &all)
+    distinct_stops(alloc, &mut all)
 }
 
 fn spots(alloc: Global, edges: &[LeafEdge], at: &Level) -> Result<Vec<Stop>, AllocError>
@@ -45,8 +40,8 @@ fn push_spots(out: &mut Vec<Stop>, e: &Edge, at: &Level) -> Result<(), AllocErro
     ensures ok { OnOk result (spots_in out.new.items ≡ spots_in out.old.items ++ edge_spots e.now at.now) }
 {
     if is_flat_at(e, at) {
-        push(out, whole_spot(e.a, at))?;
-        push(out, whole_spot(e.b, at))
+        push(out, whole_spot(e.a.x, at))?;
+        push(out, whole_spot(e.b.x, at))
     } else if passes_at(e, at) {
         push(out, spot_on(e, at))
     } else {
@@ -78,44 +73,4 @@ pub(crate) fn passes_at(e: &Edge, at: &Level) -> bool
     ensures rises { result ≡ true → pos 0 <ℤ rise e.now }
 {
     rise(e) > 0 && (starts_by(e, at) && ends_from(e, at))
-}
-
-fn sort(stops: &mut Vec<Stop>) -> Result<(), AllocError>
-    ensures permutation { IsPermutation stops.old.items stops.new.items }
-    ensures sorted { OnOk result (AreSorted (spots_in stops.new.items)) }
-{
-    stops.sort_by(compare)
-}
-
-fn compare(s: &Stop, t: &Stop) -> Ordering
-    ensures { result ≡ int_cmp (s.now.spot.x *ℤ pos t.now.spot.run) (t.now.spot.x *ℤ pos s.now.spot.run) }
-{
-    x_times_run(s, t).cmp(&x_times_run(t, s))
-}
-
-// The number over the run is at most 2^89 in size, the run 2^22.
-fn x_times_run(s: &Stop, t: &Stop) -> i128
-    ensures { result ≡ s.now.spot.x *ℤ pos t.now.spot.run }
-{
-    times::<89, 22>(s.spot.x, t.spot.run as i128)
-}
-
-fn distinct(alloc: Global, stops: &[Stop]) -> Result<Vec<Stop>, AllocError>
-    ensures { IfOk result (λ v. spots_in v.items ≡ distinct_by is_left (spots_in stops.now)) }
-{
-    let mut out = Vec::new(alloc);
-    'stops: for i in 0..stops.len() {
-        if stays(stops, i) {
-            out.push(stops[i])?;
-        }
-    }
-    Ok(out)
-}
-
-// Whether the stop is the last one or lies to the left of the next.
-fn stays(stops: &[Stop], i: usize) -> bool
-    requires { i < length stops.now }
-    ensures { result ≡ stays_by is_left (spots_in stops.now) i }
-{
-    i + 1 == stops.len() || compare(&stops[i], &stops[i + 1]).is_lt()
 }

@@ -12,8 +12,8 @@ use Rattle.scad_geom.specs.Sign.{is_zero}
 use Rattle.slice_section.specs.Section.{section_of}
 use Rattle.scad_tree.specs.Solid.{Solid}
 use Rattle.scad_tree.specs.Sections.{tree_section}
-use Rattle.slice_bool.specs.BorderPoints.{IsBorderPoint}
-use Rattle.slice_bool.specs.NearBorder.{IsNearBorder}
+use Rattle.slice_border.specs.BorderPoints.{IsBorderPoint}
+use Rattle.slice_border.specs.NearBorder.{IsNearBorder}
 use Rattle.slice_bool.proofs.NearBorder as border
 use Rattle.slice_layer.specs.Outlines.{StandsFor}
 use Rattle.slice_layer.specs.Border.{section_holds, IsSectionBorder, IsNearSectionBorder}

@@ -31,10 +31,10 @@ use Rattle.slice_snap.specs.Spots.{point_of}
 use Rattle.slice_snap.specs.Pieces.{way_of, ways_of}
 use Rattle.slice_snap.specs.Cancelling.{AreCancelled}
 use Rattle.slice_snap.specs.Rounding.{rounded_edges}
-use Rattle.slice_bool.specs.Outlines.{AreOutlinesOf}
-use Rattle.slice_bool.proofs.PieceWinding.{IsPlaced, placed_proper, merged_placed}
-use Rattle.slice_bool.proofs.Membership.{pieces_are_placed}
-use Rattle.slice_bool.proofs.Sides.{OfPoints, OfAllPoints, outlines_have}
+use Rattle.slice_border.specs.Outlines.{AreOutlinesOf}
+use Rattle.slice_border.proofs.PieceWinding.{IsPlaced, placed_proper, merged_placed}
+use Rattle.slice_border.proofs.Membership.{pieces_are_placed}
+use Rattle.slice_border.proofs.Sides.{OfPoints, OfAllPoints, outlines_have}
 use Rattle.scad_tree.specs.Sections.{tree_section}
 use Rattle.slice_layer.proofs.Surfaces.{section_in_range}
 use Rattle.slice_layer.specs.Within.{OutlinesAreWithin}

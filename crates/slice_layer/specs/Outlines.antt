@@ -9,7 +9,7 @@ use Rattle.scad_tree.specs.Order.{surfaces}
 use Rattle.scad_tree.specs.LeafNumbers.{surface_at}
 use Rattle.scad_tree.specs.Member.{holds}
 use Rattle.scad_tree.specs.Sections.{tree_section}
-use Rattle.slice_bool.specs.Outlines.{AreOutlinesOf}
+use Rattle.slice_border.specs.Outlines.{AreOutlinesOf}
 
 -- a shape over the numbers of a tree's surfaces, counted from 0 in tree order, holds what the tree holds, whatever the
 -- surfaces hold

@@ -13,7 +13,7 @@ ghost use Rattle.slice_layer.specs.Refusal.{IsRefusal};
 
 use scad_geom::Loop;
 use scad_tree::Tree;
-use slice_bool::BoolFault;
+use slice_border::BoolFault;
 use slice_outlines::outlines;
 use std::alloc::Global;
 

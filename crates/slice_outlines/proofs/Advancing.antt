@@ -26,10 +26,10 @@ use Rattle.slice_slab.proofs.Live.{IsLive, live_bundles}
 use Rattle.slice_snap.specs.declared.piece.Spot.{Spot}
 use Rattle.slice_snap.specs.Spots.{point_of}
 use Rattle.slice_snap.specs.Rounding.{rounded_edges}
-use Rattle.slice_bool.specs.Pieces.{whole_spot, passes_at, is_flat_at, spots_at, GoRight, HasSpot, IsOneOf}
-use Rattle.slice_bool.specs.Beside.{left_value, passing}
-use Rattle.slice_bool.specs.Tally.{headings, is_held}
-use Rattle.slice_bool.proofs.BundleValues.{are_members}
+use Rattle.slice_border.specs.Pieces.{whole_spot, passes_at, is_flat_at, spots_at, GoRight, HasSpot, IsOneOf}
+use Rattle.slice_border.specs.Beside.{left_value, passing}
+use Rattle.slice_border.specs.Tally.{headings, is_held}
+use Rattle.slice_border.proofs.BundleValues.{are_members}
 use Rattle.slice_sweep.specs.declared.change.Change.{Change}
 use Rattle.slice_sweep.specs.Changes.{Group, Tell, all_below, all_above, AreChanges}
 use Rattle.slice_sweep.specs.Front.{bundles_in, IsReadyFor, IsBegunTo}
@@ -49,7 +49,7 @@ use Rattle.slice_outlines.specs.declared.mark.Mark.{Mark}
 use Rattle.slice_outlines.specs.declared.flat.Flat.{Flat}
 use Rattle.slice_outlines.specs.declared.cursor.Cursor.{Cursor}
 use Rattle.slice_outlines.specs.declared.cursors.Cursors.{Cursors}
-use Rattle.slice_outlines.specs.declared.tally.Tally.{Tally}
+use Rattle.slice_border.specs.declared.tally.Tally.{Tally}
 use Rattle.slice_outlines.specs.declared.height.Height.{Height}
 use Rattle.slice_outlines.specs.declared.height.Open.{Open}
 use Rattle.slice_outlines.specs.declared.sweep.Sweep.{Sweep}
@@ -59,7 +59,7 @@ use Rattle.slice_outlines.specs.Above.{name_of, new_mark, IsTold, AreTaken}
 use Rattle.slice_outlines.specs.Above.AreTaken.{none as taken_none, stays as taken_stays, changes as taken_changes}
 use Rattle.slice_outlines.specs.Cursor.{StandsOn, IsShifted, IsMetFromBelow}
 use Rattle.slice_outlines.specs.Cursors.{StandOn, AreAbove}
-use Rattle.slice_outlines.specs.Tallies.{Tells}
+use Rattle.slice_border.specs.Keeping.{Tells}
 use Rattle.slice_outlines.specs.Flats.{AreFlats, LiesAside}
 use Rattle.slice_outlines.specs.Heights.{Onwards, IsOf}
 use Rattle.slice_outlines.specs.Along.{AreAtPlace, ArePlacesFrom, value_over}

@@ -11,9 +11,9 @@ use Rattle.scad_geom.proofs.Order.{front, back}
 use Rattle.slice_slab.specs.Bundles.{edge_at}
 use Rattle.slice_slab.specs.KeptOrder.{IsLeftAt}
 use Rattle.slice_snap.specs.declared.piece.Spot.{Spot}
-use Rattle.slice_bool.specs.Pieces.{spot_on, passes_at, spots_at, IsLeft, IsSameAcross, IsOneOf, GoRight}
-use Rattle.slice_bool.proofs.Middle.{size_of}
-use Rattle.slice_bool.proofs.Winding.{IsSpotAt}
+use Rattle.slice_border.specs.Pieces.{spot_on, passes_at, spots_at, IsLeft, IsSameAcross, IsOneOf, GoRight}
+use Rattle.slice_border.proofs.Middle.{size_of}
+use Rattle.slice_border.proofs.Winding.{IsSpotAt}
 use Rattle.slice_sweep.specs.Chains.{Chain}
 use Rattle.slice_sweep.specs.Changes.{Group, all_below, all_above, all_at, Stand, LiesLeftAt, AreGroups}
 use Rattle.sweep_laws.specs.Staying.{spot_of}

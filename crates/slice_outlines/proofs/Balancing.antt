@@ -6,8 +6,8 @@ use Rattle.scad_geom.specs.declared.level.LeafEdge.{LeafEdge}
 use Rattle.scad_geom.specs.declared.shape.Shape.{Shape}
 use Rattle.scad_geom.specs.Point.{Point}
 use Rattle.slice_sweep.specs.Front.{bundles_in}
-use Rattle.slice_bool.specs.Beside.{left_value, passing, is_right_of}
-use Rattle.slice_bool.proofs.BundleValues.{outside_right}
+use Rattle.slice_border.specs.Beside.{left_value, passing, is_right_of}
+use Rattle.slice_border.proofs.BundleValues.{outside_right}
 use Rattle.sweep_laws.specs.Fronts.{Strand, bundles_of, AreValued}
 use Rattle.slice_outlines.specs.declared.mark.Mark.{Mark}
 use Rattle.slice_outlines.specs.declared.height.Height.{Height}

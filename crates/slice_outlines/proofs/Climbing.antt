@@ -7,8 +7,8 @@ use Rattle.scad_geom.specs.declared.shape.Shape.{Shape}
 use Rattle.slice_sweep.specs.declared.change.Change.{Change}
 use Rattle.slice_sweep.specs.Changes.{all_below, all_above, AreChanges}
 use Rattle.slice_sweep.specs.Front.{bundles_in}
-use Rattle.slice_bool.specs.Beside.{AreMembers}
-use Rattle.slice_bool.proofs.BundleValues.{are_members}
+use Rattle.slice_border.specs.Beside.{AreMembers}
+use Rattle.slice_border.proofs.BundleValues.{are_members}
 use Rattle.sweep_laws.specs.Fronts.{Strand, bundles_of}
 use Rattle.slice_outlines.specs.declared.mark.Mark.{Mark}
 use Rattle.slice_outlines.specs.declared.sweep.Sweep.{Sweep}

@@ -20,9 +20,9 @@ use Rattle.winding_laws.proofs.Sameness.{cancel_mul}
 use Rattle.slice_slab.specs.Bundles.{no_edge, edge_at}
 use Rattle.slice_snap.specs.declared.piece.Spot.{Spot}
 use Rattle.slice_snap.specs.Spots.{point_of}
-use Rattle.slice_bool.specs.Pieces.{spot_on, whole_spot, is_flat_at, IsLeft}
-use Rattle.slice_bool.specs.Beside.{left_value, passing, lies_left, is_right_of}
-use Rattle.slice_bool.proofs.Winding.{IsSpotAt}
+use Rattle.slice_border.specs.Pieces.{spot_on, whole_spot, is_flat_at, IsLeft}
+use Rattle.slice_border.specs.Beside.{left_value, passing, lies_left, is_right_of}
+use Rattle.slice_border.proofs.Winding.{IsSpotAt}
 use Rattle.slice_sweep.specs.Changes.{Group, all_below, all_above}
 use Rattle.slice_sweep.specs.Front.{bundles_in}
 use Rattle.sweep_laws.specs.Fronts.{Strand, bundles_of}

@@ -30,9 +30,9 @@ use Rattle.slice_slab.specs.Bundles.{no_edge, edge_at, reaches}
 use Rattle.slice_slab.proofs.Live.{reaches_is}
 use Rattle.slice_snap.specs.Spots.{point_of, IsSpotWithin}
 use Rattle.slice_snap.proofs.SameSpots.{to_eq}
-use Rattle.slice_bool.specs.Pieces.{spot_on, passes_at}
-use Rattle.slice_bool.proofs.Middle.{size_of}
-use Rattle.slice_bool.proofs.Within.{by_weights, weights_add, size_above}
+use Rattle.slice_border.specs.Pieces.{spot_on, passes_at}
+use Rattle.slice_border.proofs.Middle.{size_of}
+use Rattle.slice_border.proofs.Within.{by_weights, weights_add, size_above}
 
 -- ---- within the limit
 pub weighed : (limit : ℕ) (x w : ℤ) → unsigned_abs x ≤ limit → unsigned_abs (x *ℤ w) ≤ limit * unsigned_abs w

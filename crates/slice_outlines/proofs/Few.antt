@@ -4,8 +4,8 @@ use Rattle.std.specs.List.{concat}
 use Rattle.scad_geom.specs.declared.level.Level.{Level}
 use Rattle.scad_geom.specs.declared.level.LeafEdge.{LeafEdge}
 use Rattle.slice_slab.specs.Bundles.{AreBundles, AreRanked}
-use Rattle.slice_bool.specs.Beside.{AreMembers}
-use Rattle.slice_bool.proofs.BundleValues.{are_members}
+use Rattle.slice_border.specs.Beside.{AreMembers}
+use Rattle.slice_border.proofs.BundleValues.{are_members}
 
 ranked_few : (es : List LeafEdge) (l : Level) (bs : List (List ℕ)) → AreRanked es l bs → length bs ≤ length (concat bs)
 ranked_few es l [] r = omega arith

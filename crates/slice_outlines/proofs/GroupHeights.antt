@@ -14,9 +14,9 @@ use Rattle.slice_slab.specs.Bundles.{edge_at}
 use Rattle.slice_slab.specs.KeptOrder.{IsSamePlaceAt}
 use Rattle.slice_snap.specs.declared.piece.Spot.{Spot}
 use Rattle.slice_snap.specs.Spots.{point_of}
-use Rattle.slice_bool.specs.Pieces.{spot_on, passes_at, IsSameAcross}
-use Rattle.slice_bool.proofs.Winding.{IsSpotAt}
-use Rattle.slice_bool.proofs.Middle.{size_of}
+use Rattle.slice_border.specs.Pieces.{spot_on, passes_at, IsSameAcross}
+use Rattle.slice_border.proofs.Winding.{IsSpotAt}
+use Rattle.slice_border.proofs.Middle.{size_of}
 use Rattle.slice_sweep.specs.Changes.{Group, all_below, all_above, all_at, Stand, IsTogetherAt, AreGroups}
 use Rattle.sweep_laws.specs.Staying.{spot_of}
 use Rattle.sweep_laws.proofs.Spots.{spot_at as edge_spot, same_place}

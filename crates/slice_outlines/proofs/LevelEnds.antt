@@ -14,8 +14,8 @@ use Rattle.scad_geom.specs.Limits.{coordinate_limit}
 use Rattle.slice_slab.specs.Bundles.{no_edge, edge_at}
 use Rattle.slice_snap.specs.declared.piece.Spot.{Spot}
 use Rattle.slice_snap.specs.Spots.{IsSpotWithin}
-use Rattle.slice_bool.specs.Pieces.{spot_on, whole_spot, passes_at, IsLeft}
-use Rattle.slice_bool.proofs.Middle.{size_of}
+use Rattle.slice_border.specs.Pieces.{spot_on, whole_spot, passes_at, IsLeft}
+use Rattle.slice_border.proofs.Middle.{size_of}
 use Rattle.slice_sweep.specs.declared.change.Change.{Change}
 use Rattle.slice_sweep.specs.Changes.{Group, all_below, all_above, all_at}
 use Rattle.slice_outlines.specs.declared.mark.Mark.{Mark}

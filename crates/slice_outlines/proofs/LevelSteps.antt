@@ -10,8 +10,8 @@ use Rattle.scad_geom.specs.declared.level.LeafEdge.{LeafEdge}
 use Rattle.scad_geom.specs.declared.shape.Shape.{Shape}
 use Rattle.scad_geom.specs.Heights.{AreNeighbours}
 use Rattle.slice_events.specs.Levels.{AreLevels}
-use Rattle.slice_bool.specs.Parts.{level_at}
-use Rattle.slice_bool.proofs.Climbing.{neighbours_at}
+use Rattle.slice_border.specs.Levels.{level_at}
+use Rattle.slice_border.proofs.Neighbours.{neighbours_at}
 use Rattle.sweep_laws.specs.Sweeps.{AreMergedEdges}
 use Rattle.sweep_laws.proofs.HeightByHeight.{sweeps_end}
 use Rattle.slice_outlines.specs.declared.sweep.Sweep.{Sweep}

@@ -9,8 +9,8 @@ use Rattle.scad_geom.specs.declared.level.LeafEdge.{LeafEdge}
 use Rattle.scad_geom.proofs.Order.{front, back}
 use Rattle.slice_slab.specs.Bundles.{edge_at}
 use Rattle.slice_snap.specs.declared.piece.Spot.{Spot}
-use Rattle.slice_bool.specs.Pieces.{whole_spot, passes_at, spots_at, IsLeft, GoRight, HasSpot, IsOneOf}
-use Rattle.slice_bool.proofs.Winding.{IsSpotAt, of_stops, spots_are_at}
+use Rattle.slice_border.specs.Pieces.{whole_spot, passes_at, spots_at, IsLeft, GoRight, HasSpot, IsOneOf}
+use Rattle.slice_border.proofs.Winding.{IsSpotAt, of_stops, spots_are_at}
 use Rattle.slice_sweep.specs.declared.change.Change.{Change}
 use Rattle.slice_sweep.specs.Changes.{Group, all_below, all_above}
 use Rattle.slice_sweep.specs.Front.{bundles_in}

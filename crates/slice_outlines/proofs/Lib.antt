@@ -2,11 +2,9 @@ mod Parts
 mod StrandStarts
 mod Ending
 mod EndPoints
-mod Tallying
 mod Standing
 mod Several
 mod Joining
-mod Stopping
 mod Shifting
 mod Taking
 mod Valuing

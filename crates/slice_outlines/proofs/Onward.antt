@@ -18,7 +18,7 @@ use Rattle.slice_snap.specs.declared.piece.Spot.{Spot}
 use Rattle.slice_snap.specs.Spots.{point_of}
 use Rattle.slice_snap.specs.Rounding.{rounded_edges}
 use Rattle.slice_sweep.specs.Front.{bundles_in}
-use Rattle.slice_bool.specs.Pieces.{spot_on, covers, IsSameAcross}
+use Rattle.slice_border.specs.Pieces.{spot_on, covers, IsSameAcross}
 use Rattle.sweep_laws.specs.Ways.{Way, pieces_of}
 use Rattle.sweep_laws.specs.Fronts.{Strand, bundles_of, value_before, ways_up, ways_from}
 use Rattle.sweep_laws.specs.Crossing.{Place, all_below, all_above, all_closed, way_along, flat_way, ins_to, outs_from, opens_after, ArePassed, MeetsAt}

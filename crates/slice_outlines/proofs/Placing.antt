@@ -13,8 +13,8 @@ use Rattle.slice_slab.specs.Bundles.{edge_at}
 use Rattle.slice_snap.specs.declared.piece.Spot.{Spot}
 use Rattle.slice_snap.specs.Spots.{point_of}
 use Rattle.slice_snap.specs.Rounding.{rounded_edges}
-use Rattle.slice_bool.specs.Pieces.{spot_on}
-use Rattle.slice_bool.proofs.Keeping.{same_leaf}
+use Rattle.slice_border.specs.Pieces.{spot_on}
+use Rattle.slice_border.proofs.Keeping.{same_leaf}
 use Rattle.sweep_laws.specs.Ways.{Way, way_between, pieces_of}
 use Rattle.sweep_laws.specs.Visits.{grown, IsOneCourse, OneGoesOn, Pass}
 use Rattle.sweep_laws.specs.Visits.Pass.{goes_on, all_end}

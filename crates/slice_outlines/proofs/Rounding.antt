@@ -14,13 +14,13 @@ use Rattle.winding_laws.specs.Nearness.{IsPoint}
 use Rattle.slice_slab.specs.Bundles.{edge_at}
 use Rattle.slice_snap.specs.declared.piece.Spot.{Spot}
 use Rattle.slice_snap.specs.Spots.{point_of}
-use Rattle.slice_bool.specs.Pieces.{passes_at, IsLeft, IsSameAcross}
-use Rattle.slice_bool.proofs.Winding.{IsSpotAt}
+use Rattle.slice_border.specs.Pieces.{passes_at, IsLeft, IsSameAcross}
+use Rattle.slice_border.proofs.Winding.{IsSpotAt}
 use Rattle.sweep_laws.proofs.Spots.{spot_at as edge_spot, same_place}
 use Rattle.sweep_laws.proofs.Edges.{same_spots_round_alike}
 use Rattle.slice_outlines.specs.declared.mark.Mark.{Mark}
 use Rattle.slice_outlines.specs.declared.run.Run.{Run}
-use Rattle.slice_outlines.specs.declared.spot.Stop.{Stop}
+use Rattle.slice_border.specs.declared.stop.Stop.{Stop}
 use Rattle.slice_outlines.specs.declared.height.Height.{Height}
 use Rattle.slice_outlines.specs.declared.stretch.Along.{Along}
 use Rattle.slice_outlines.specs.Marks.{spot_at}

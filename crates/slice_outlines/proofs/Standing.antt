@@ -7,13 +7,13 @@ use Rattle.std.proofs.lemmas.List.Elements.{All-from_recursion}
 use Rattle.scad_geom.specs.declared.level.LeafEdge.{LeafEdge}
 use Rattle.scad_geom.specs.declared.shape.Shape.{Shape}
 use Rattle.scad_geom.proofs.Order.{back}
-use Rattle.slice_bool.specs.Beside.{AreMembers}
+use Rattle.slice_border.specs.Beside.{AreMembers}
 use Rattle.slice_outlines.specs.declared.mark.Mark.{Mark}
 use Rattle.slice_outlines.specs.declared.cursor.Cursor.{Cursor}
 use Rattle.slice_outlines.specs.Marks.{IsNamed, AreThere}
-use Rattle.slice_outlines.specs.Tallies.{Tells, AreSmall}
+use Rattle.slice_border.specs.Keeping.{Tells, AreSmall}
 use Rattle.slice_outlines.specs.Cursor.{StandsOn}
-use Rattle.slice_outlines.proofs.Tallying.{are_small}
+use Rattle.slice_border.proofs.Tallying.{are_small}
 
 -- ---- sizes
 concat_drop : (n : ℕ) (bs : List (List ℕ)) → length (concat (drop n bs)) ≤ length (concat bs)

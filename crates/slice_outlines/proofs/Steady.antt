@@ -11,7 +11,7 @@ use Rattle.slice_slab.specs.Bundles.{edge_at}
 use Rattle.slice_snap.specs.declared.piece.Spot.{Spot}
 use Rattle.slice_snap.specs.Rounding.{rounded_edges}
 use Rattle.slice_sweep.specs.Front.{bundles_in}
-use Rattle.slice_bool.specs.Pieces.{spot_on, covers}
+use Rattle.slice_border.specs.Pieces.{spot_on, covers}
 use Rattle.sweep_laws.specs.Ways.{Way, way_between, pieces_of}
 use Rattle.sweep_laws.specs.Visits.{Pass}
 use Rattle.sweep_laws.specs.Visits.Pass.{goes_on, all_end}

@@ -18,12 +18,12 @@ use Rattle.scad_geom.proofs.Ring.{ring, ◌⊖◌, ◌⊗◌, v0, v1, v2}
 use Rattle.scad_geom.proofs.Signs.{at_least_mul}
 use Rattle.slice_slab.specs.Bundles.{edge_at}
 use Rattle.slice_snap.specs.declared.piece.Spot.{Spot}
-use Rattle.slice_bool.specs.Pieces.{across, passes_at, whole_spot, IsLeft}
-use Rattle.slice_bool.specs.Stops.{is_left}
-use Rattle.slice_bool.proofs.Within.{size_above}
+use Rattle.slice_border.specs.Pieces.{across, passes_at, whole_spot, IsLeft}
+use Rattle.slice_border.specs.Stops.{is_left}
+use Rattle.slice_border.proofs.Within.{size_above}
 use Rattle.slice_outlines.specs.declared.mark.Mark.{Mark}
 use Rattle.slice_outlines.specs.declared.height.Height.{Height}
-use Rattle.slice_outlines.specs.declared.spot.Stop.{Stop}
+use Rattle.slice_border.specs.declared.stop.Stop.{Stop}
 use Rattle.slice_outlines.specs.Marks.{spot_at, no_mark}
 use Rattle.slice_outlines.specs.Stops.{AllPass}
 use Rattle.slice_outlines.specs.Heights.{AreInOrder, IsNotRightOf}

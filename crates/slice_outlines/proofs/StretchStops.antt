@@ -17,17 +17,18 @@ use Rattle.slice_snap.specs.Rounding.{rounded_edges}
 use Rattle.slice_sweep.specs.Front.{bundles_in}
 use Rattle.sweep_laws.specs.Ways.{pieces_of}
 use Rattle.sweep_laws.specs.Crossing.{all_closed}
-use Rattle.slice_bool.specs.Pieces.{spot_on, whole_spot, passes_at, HasSpot}
-use Rattle.slice_bool.proofs.Winding.{of_stops}
+use Rattle.slice_border.specs.Pieces.{spot_on, whole_spot, passes_at, HasSpot}
+use Rattle.slice_border.proofs.Winding.{of_stops}
 use Rattle.slice_outlines.specs.declared.course.Course.{Course}
 use Rattle.slice_outlines.specs.declared.cursors.Cursors.{Cursors}
 use Rattle.slice_outlines.specs.declared.mark.Mark.{Mark}
 use Rattle.slice_outlines.specs.declared.run.Run.{Run}
-use Rattle.slice_outlines.specs.declared.spot.Stop.{Stop}
+use Rattle.slice_border.specs.declared.stop.Stop.{Stop}
 use Rattle.slice_outlines.specs.declared.flat.Flat.{Flat}
 use Rattle.slice_outlines.specs.declared.height.Height.{Height}
 use Rattle.slice_outlines.specs.Marks.{spot_at, names_in}
-use Rattle.slice_outlines.specs.Stops.{spots_in, mark_spots, flat_spots, AllPass, AreStopsOf}
+use Rattle.slice_border.specs.Stops.{spots_in, AreStopsOf}
+use Rattle.slice_outlines.specs.Stops.{mark_spots, flat_spots, AllPass}
 use Rattle.slice_outlines.specs.Cursors.{StandOn}
 use Rattle.slice_outlines.specs.Along.{HasComeOver}
 use Rattle.slice_outlines.specs.Heights.{Onwards, IsRunOf, marks_of}

@@ -13,18 +13,19 @@ use Rattle.scad_geom.specs.declared.level.LeafEdge.{LeafEdge}
 use Rattle.scad_geom.proofs.Order.{front, back}
 use Rattle.slice_slab.specs.Bundles.{no_edge, edge_at}
 use Rattle.slice_snap.specs.declared.piece.Spot.{Spot}
-use Rattle.slice_bool.specs.Pieces.{whole_spot, is_flat_at, edge_spots, passes_at, spots_at, covers, IsLeft, GoRight, HasSpot, IsOneOf}
-use Rattle.slice_bool.proofs.Winding.{IsSpotAt, of_stops}
+use Rattle.slice_border.specs.Pieces.{whole_spot, is_flat_at, edge_spots, passes_at, spots_at, covers, IsLeft, GoRight, HasSpot, IsOneOf}
+use Rattle.slice_border.proofs.Winding.{IsSpotAt, of_stops}
 use Rattle.sweep_laws.proofs.Stops.{spots_are_there}
 use Rattle.sweep_laws.proofs.Spots.{spot_at as edge_spot}
 use Rattle.slice_outlines.specs.declared.mark.Mark.{Mark}
 use Rattle.slice_outlines.specs.declared.run.Run.{Run}
-use Rattle.slice_outlines.specs.declared.spot.Stop.{Stop}
+use Rattle.slice_border.specs.declared.stop.Stop.{Stop}
 use Rattle.slice_outlines.specs.declared.flat.Flat.{Flat}
 use Rattle.slice_outlines.specs.declared.height.Height.{Height}
 use Rattle.slice_outlines.specs.Marks.{spot_at}
 use Rattle.slice_outlines.specs.Flats.{IsFlatOf, LiesOn}
-use Rattle.slice_outlines.specs.Stops.{spots_in, mark_spots, flat_spots, AllPass, AreStopsOf}
+use Rattle.slice_border.specs.Stops.{spots_in, AreStopsOf}
+use Rattle.slice_outlines.specs.Stops.{mark_spots, flat_spots, AllPass}
 use Rattle.slice_outlines.specs.Heights.{IsNotRightOf, IsRunOf}
 use Rattle.slice_outlines.specs.Along.{LieBetween}
 use Rattle.slice_outlines.specs.Stretch.{AreStopsAt, TellWays, stretch_spots}

@@ -12,13 +12,13 @@ use Rattle.scad_geom.specs.declared.level.LeafEdge.{LeafEdge}
 use Rattle.scad_geom.proofs.Order.{front}
 use Rattle.scad_geom.proofs.Ring.{ring, num, ◌⊗◌, ◌⊕◌, v0, v1}
 use Rattle.slice_snap.specs.declared.piece.Spot.{Spot}
-use Rattle.slice_bool.specs.Pieces.{whole_spot, passes_at, spots_at, IsLeft, IsOneOf}
+use Rattle.slice_border.specs.Pieces.{whole_spot, passes_at, spots_at, IsLeft, IsOneOf}
 use Rattle.slice_slab.specs.Bundles.{edge_at}
 use Rattle.sweep_laws.proofs.Spots.{spot_at as edge_spot}
 use Rattle.slice_outlines.proofs.EndPoints.{passes_then_rises}
 use Rattle.std.proofs.lemmas.List.Elements.{recursion_from_All}
 use Rattle.scad_geom.specs.declared.point.Edge.{Edge}
-use Rattle.slice_bool.proofs.Winding.{IsSpotAt, of_stops, spots_are_at}
+use Rattle.slice_border.proofs.Winding.{IsSpotAt, of_stops, spots_are_at}
 use Rattle.slice_sweep.specs.declared.change.Change.{Change}
 use Rattle.slice_sweep.specs.Changes.{Group, all_below, all_above}
 use Rattle.slice_sweep.specs.Front.{bundles_in}
@@ -28,7 +28,7 @@ use Rattle.slice_outlines.specs.declared.cursors.Cursors.{Cursors}
 use Rattle.slice_outlines.specs.declared.mark.Mark.{Mark}
 use Rattle.slice_outlines.specs.declared.flat.Flat.{Flat}
 use Rattle.slice_outlines.specs.declared.run.Run.{Run}
-use Rattle.slice_outlines.specs.declared.spot.Stop.{Stop}
+use Rattle.slice_border.specs.declared.stop.Stop.{Stop}
 use Rattle.slice_outlines.specs.declared.height.Height.{Height}
 use Rattle.slice_outlines.specs.declared.height.Open.{Open}
 use Rattle.slice_outlines.specs.declared.groups.Passed.{Passed}
@@ -36,7 +36,8 @@ use Rattle.slice_outlines.specs.Marks.{spot_at, names_in}
 use Rattle.slice_outlines.specs.Cursors.{StandOn, StayOn}
 use Rattle.slice_outlines.specs.Flats.{IsFlatOf, LiesOn, AreJoined, JoinOn, StartsBehind}
 use Rattle.slice_outlines.specs.Passing.{IsCourseOf, or_none}
-use Rattle.slice_outlines.specs.Stops.{spots_in, AllPass, AreStopsOf}
+use Rattle.slice_border.specs.Stops.{spots_in, AreStopsOf}
+use Rattle.slice_outlines.specs.Stops.{AllPass}
 use Rattle.slice_outlines.specs.Heights.{Onwards, IsOf, IsNotRightOf, IsRunOf, IsBalancedBefore, IsCountOf}
 use Rattle.slice_outlines.specs.Along.{HasComeOver, LieBetween}
 use Rattle.slice_outlines.specs.Stretch.{AreStopsAt, TellWays, stretch_spots, HasReachedStops}

@@ -25,9 +25,9 @@ use Rattle.slice_slab.proofs.KeptOrder.{bundles_keep_order}
 use Rattle.slice_snap.specs.declared.piece.Spot.{Spot}
 use Rattle.slice_snap.specs.Spots.{IsSpotWithin}
 use Rattle.slice_snap.specs.Rounding.{rounded_edges}
-use Rattle.slice_bool.specs.Pieces.{spot_on, whole_spot, passes_at, spots_at, IsOneOf}
-use Rattle.slice_bool.proofs.Winding.{of_stops}
-use Rattle.slice_bool.proofs.Middle.{size_of}
+use Rattle.slice_border.specs.Pieces.{spot_on, whole_spot, passes_at, spots_at, IsOneOf}
+use Rattle.slice_border.proofs.Winding.{of_stops}
+use Rattle.slice_border.proofs.Middle.{size_of}
 use Rattle.slice_sweep.specs.Front.{bundles_in}
 use Rattle.sweep_laws.specs.Ways.{pieces_of}
 use Rattle.sweep_laws.specs.Fronts.{Strand, bundles_of}
@@ -42,13 +42,14 @@ use Rattle.sweep_laws.proofs.HeightByHeight.{sweeps_end}
 use Rattle.slice_outlines.specs.declared.mark.Mark.{Mark}
 use Rattle.slice_outlines.specs.declared.flat.Flat.{Flat}
 use Rattle.slice_outlines.specs.declared.run.Run.{Run}
-use Rattle.slice_outlines.specs.declared.spot.Stop.{Stop}
+use Rattle.slice_border.specs.declared.stop.Stop.{Stop}
 use Rattle.slice_outlines.specs.declared.course.Course.{Course}
 use Rattle.slice_outlines.specs.declared.height.Height.{Height}
 use Rattle.slice_outlines.specs.declared.height.Open.{Open}
 use Rattle.slice_outlines.specs.declared.sweep.Sweep.{Sweep}
 use Rattle.slice_outlines.specs.Marks.{AreKept}
-use Rattle.slice_outlines.specs.Stops.{spots_in, mark_spots, flat_spots, AllPass, AreStopsOf}
+use Rattle.slice_border.specs.Stops.{spots_in, AreStopsOf}
+use Rattle.slice_outlines.specs.Stops.{mark_spots, flat_spots, AllPass}
 use Rattle.slice_outlines.specs.Flats.{IsFlatOf, LiesOn}
 use Rattle.slice_outlines.specs.Cursors.{StandOn}
 use Rattle.slice_outlines.specs.Heights.{Onwards, IsOf, IsNotRightOf, AreInOrder}

@@ -15,16 +15,17 @@ use Rattle.scad_geom.proofs.Order.{front, back}
 use Rattle.slice_snap.specs.Spots.{IsSpotWithin}
 use Rattle.slice_slab.specs.Bundles.{edge_at}
 use Rattle.slice_snap.specs.declared.piece.Spot.{Spot}
-use Rattle.slice_bool.specs.Pieces.{spot_on, across, whole_spot, passes_at, IsLeft, IsSameAcross, GoRight, HasSpot}
-use Rattle.slice_bool.specs.Stops.{is_left}
+use Rattle.slice_border.specs.Pieces.{spot_on, across, whole_spot, passes_at, IsLeft, IsSameAcross, GoRight, HasSpot}
+use Rattle.slice_border.specs.Stops.{is_left}
 use Rattle.slice_outlines.specs.declared.mark.Mark.{Mark}
 use Rattle.slice_outlines.specs.declared.run.Run.{Run}
-use Rattle.slice_outlines.specs.declared.spot.Stop.{Stop}
+use Rattle.slice_border.specs.declared.stop.Stop.{Stop}
 use Rattle.slice_outlines.specs.declared.flat.Flat.{Flat}
 use Rattle.slice_outlines.specs.declared.height.Height.{Height}
 use Rattle.slice_outlines.specs.declared.stretch.Along.{Along}
 use Rattle.slice_outlines.specs.Marks.{spot_at, mark_at, names_in, left_of_first}
-use Rattle.slice_outlines.specs.Stops.{spots_in, AllPass}
+use Rattle.slice_border.specs.Stops.{spots_in}
+use Rattle.slice_outlines.specs.Stops.{AllPass}
 use Rattle.slice_outlines.specs.Heights.{AreInOrder, IsNotRightOf, IsRunOf, marks_of}
 use Rattle.slice_outlines.specs.Stretch.{AreStopsAt, TellWays, Waits}
 use Rattle.slice_outlines.specs.Along.{IsWithinRun, IsNameTo, value_over, least, BeginsBy, goes_on, HasLive, IsNextStop, IsBehindStop, LiesRightOf}

@@ -11,14 +11,14 @@ use Rattle.winding_laws.specs.Edges.{rounded}
 use Rattle.slice_snap.specs.Spots.{point_of}
 use Rattle.slice_snap.specs.Rounding.{rounded_edges}
 use Rattle.slice_sweep.specs.Front.{bundles_in}
-use Rattle.slice_bool.specs.Pieces.{whole_spot, IsLeft, covers}
-use Rattle.slice_bool.specs.Stops.{is_left}
+use Rattle.slice_border.specs.Pieces.{whole_spot, IsLeft, covers}
+use Rattle.slice_border.specs.Stops.{is_left}
 use Rattle.sweep_laws.specs.Ways.{Way, pieces_of}
 use Rattle.sweep_laws.specs.Fronts.{bundles_of, value_before}
 use Rattle.sweep_laws.specs.Crossing.{Place, spots_of, all_below, all_above, all_closed, ArePassed, MeetsAt}
 use Rattle.slice_outlines.specs.declared.mark.Mark.{Mark}
 use Rattle.slice_outlines.specs.declared.run.Run.{Run}
-use Rattle.slice_outlines.specs.declared.spot.Stop.{Stop}
+use Rattle.slice_border.specs.declared.stop.Stop.{Stop}
 use Rattle.slice_outlines.specs.declared.flat.Flat.{Flat}
 use Rattle.slice_outlines.specs.declared.course.Course.{Course}
 use Rattle.slice_outlines.specs.declared.cursors.Cursors.{Cursors}

@@ -16,7 +16,7 @@ use Rattle.slice_outlines.specs.declared.cursor.Cursor.{Cursor}
 use Rattle.slice_outlines.specs.declared.flat.Flat.{Flat}
 use Rattle.slice_outlines.specs.Marks.{mark_at, spot_at}
 use Rattle.slice_outlines.specs.Flats.{LiesAside}
-use Rattle.slice_outlines.specs.Tallies.{Tells}
+use Rattle.slice_border.specs.Keeping.{Tells}
 
 -- a cursor on these bundles
 pub record StandsOn (es : List LeafEdge) (shape : Shape) (bundles : List (List ℕ)) (c : Cursor) : Type 0 where

@@ -9,7 +9,7 @@ use Rattle.scad_geom.specs.declared.level.Level.{Level}
 use Rattle.scad_geom.specs.declared.level.LeafEdge.{LeafEdge}
 use Rattle.slice_slab.specs.Bundles.{edge_at}
 use Rattle.slice_snap.specs.declared.piece.Spot.{Spot}
-use Rattle.slice_bool.specs.Pieces.{whole_spot, IsLeft}
+use Rattle.slice_border.specs.Pieces.{whole_spot, IsLeft}
 use Rattle.slice_outlines.specs.declared.flat.Flat.{Flat}
 
 -- the flat edge of its number, its ends from left to right

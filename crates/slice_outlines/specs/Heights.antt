@@ -11,8 +11,8 @@ use Rattle.slice_snap.specs.declared.piece.Spot.{Spot}
 use Rattle.slice_snap.specs.Spots.{point_of}
 use Rattle.slice_sweep.specs.declared.change.Change.{Change}
 use Rattle.slice_sweep.specs.Front.{bundles_in}
-use Rattle.slice_bool.specs.Beside.{left_value}
-use Rattle.slice_bool.specs.Pieces.{across, spot_on, passes_at, IsSameAcross}
+use Rattle.slice_border.specs.Beside.{left_value}
+use Rattle.slice_border.specs.Pieces.{across, spot_on, passes_at, IsSameAcross}
 use Rattle.scad_geom.specs.Level.{IsAtMost}
 use Rattle.sweep_laws.specs.Fronts.{Strand}
 use Rattle.slice_outlines.specs.declared.mark.Mark.{Mark}

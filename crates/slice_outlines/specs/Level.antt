@@ -9,8 +9,8 @@ use Rattle.slice_snap.specs.Spots.{point_of}
 use Rattle.slice_sweep.specs.declared.change.Change.{Change}
 use Rattle.slice_sweep.specs.Changes.{Group, Tell, AreGroups, all_below, all_above}
 use Rattle.slice_sweep.specs.Front.{bundles_in}
-use Rattle.slice_bool.specs.Beside.{AreMembers, left_value, passing}
-use Rattle.slice_bool.specs.Pieces.{whole_spot, is_flat_at, spots_at, GoRight, HasSpot, IsOneOf}
+use Rattle.slice_border.specs.Beside.{AreMembers, left_value, passing}
+use Rattle.slice_border.specs.Pieces.{whole_spot, is_flat_at, spots_at, GoRight, HasSpot, IsOneOf}
 use Rattle.sweep_laws.specs.Fronts.{bundles_of, AreValued}
 use Rattle.sweep_laws.specs.Balance.{StaysAside}
 use Rattle.slice_outlines.specs.declared.mark.Mark.{Mark}

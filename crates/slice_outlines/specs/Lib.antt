@@ -6,7 +6,6 @@ pub mod Passing
 pub mod Places
 pub mod Runs
 pub mod Above
-pub mod Tallies
 pub mod Cursor
 pub mod Cursors
 pub mod Flats

@@ -1,18 +1,13 @@
 -- The places of a stretch.
 use Rattle.std.specs.Prelude.{◌≡◌, List, [], ◌∷◌, map, true, All}
-use Rattle.std.specs.List.{AllByRecursion}
 use Rattle.scad_geom.specs.declared.level.Level.{Level}
 use Rattle.scad_geom.specs.declared.level.LeafEdge.{LeafEdge}
 use Rattle.slice_slab.specs.Bundles.{edge_at}
 use Rattle.slice_snap.specs.declared.piece.Spot.{Spot}
-use Rattle.slice_bool.specs.Pieces.{whole_spot, passes_at, GoRight, IsOneOf, HasSpot}
+use Rattle.slice_border.specs.Pieces.{whole_spot, passes_at}
 use Rattle.slice_outlines.specs.declared.mark.Mark.{Mark}
 use Rattle.slice_outlines.specs.declared.flat.Flat.{Flat}
-use Rattle.slice_outlines.specs.declared.spot.Stop.{Stop}
 use Rattle.slice_outlines.specs.Marks.{spot_at}
-
-abbrev pub spots_in : List Stop → List Spot
-spots_in ss = map (λ s. s.spot) ss
 
 -- those of strands, and of the ends of flat edges
 abbrev pub mark_spots : List LeafEdge → Level → List Mark → List Spot
@@ -25,9 +20,3 @@ flat_spots l (f ∷ fs) = whole_spot f.left l ∷ (whole_spot f.right l ∷ flat
 -- the edges of the names meet a height
 abbrev pub AllPass : List LeafEdge → Level → List Mark → Type 0
 AllPass es l ms = All (λ m. passes_at (edge_at es m.name) l ≡ true) ms
-
--- the distinct ones of some spots, from left to right
-pub record AreStopsOf (all stops : List Spot) : Type 0 where
-  pub rightwards : GoRight stops
-  pub sound : AllByRecursion (IsOneOf all) stops
-  pub complete : AllByRecursion (HasSpot stops) all

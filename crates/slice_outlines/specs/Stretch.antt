@@ -5,16 +5,17 @@ use Rattle.scad_geom.specs.declared.level.LeafEdge.{LeafEdge}
 use Rattle.scad_geom.specs.Limits.{coordinate_limit}
 use Rattle.slice_snap.specs.declared.piece.Spot.{Spot}
 use Rattle.slice_snap.specs.Spots.{IsSpotWithin}
-use Rattle.slice_bool.specs.Pieces.{GoRight, HasSpot, covers}
+use Rattle.slice_border.specs.Pieces.{GoRight, HasSpot, covers}
 use Rattle.slice_outlines.specs.declared.mark.Mark.{Mark}
 use Rattle.slice_outlines.specs.declared.run.Run.{Run}
-use Rattle.slice_outlines.specs.declared.spot.Stop.{Stop}
+use Rattle.slice_border.specs.declared.stop.Stop.{Stop}
 use Rattle.slice_outlines.specs.declared.flat.Flat.{Flat}
 use Rattle.slice_outlines.specs.declared.height.Height.{Height}
 use Rattle.slice_outlines.specs.declared.height.Open.{Open}
 use Rattle.slice_outlines.specs.declared.stretch.Along.{Along}
 use Rattle.slice_outlines.specs.Marks.{spot_at}
-use Rattle.slice_outlines.specs.Stops.{spots_in, mark_spots, flat_spots, AllPass}
+use Rattle.slice_border.specs.Stops.{spots_in}
+use Rattle.slice_outlines.specs.Stops.{mark_spots, flat_spots, AllPass}
 use Rattle.slice_outlines.specs.Heights.{Onwards, AreInOrder, KeepsMarks, AreValuedIn}
 use Rattle.slice_outlines.specs.Along.{HasComeOver, BeginsBy, StartsAfter, goes_on, least, IsWithinRun}
 

@@ -1,10 +1,10 @@
 //! Places beside the flat edges of a height.
 ghost use Rattle.std.specs.Prelude.{◌≡◌, true, None, All};
-ghost use Rattle.slice_bool.specs.Pieces.{IsLeft};
+ghost use Rattle.slice_border.specs.Pieces.{IsLeft};
 ghost use Rattle.slice_outlines.specs.Flats.{LiesAside};
 
 use crate::flat::Flat;
-use crate::spot::{Stop, compare, whole_spot};
+use slice_border::{Stop, compare, whole_spot};
 
 /// The first of some flat edges that lies neither to the left of a place nor to its right.
 pub(crate) fn in_way(flats: &[Flat], s: &Stop) -> Option<Flat>

@@ -1,8 +1,8 @@
 //! The values beside strands that are new above a height.
-ghost use Rattle.std.specs.Prelude.{◌≡◌, ◌<◌, ◌≤◌, ◌+◌, true, Bool, drop, length};
+ghost use Rattle.std.specs.Prelude.{◌≡◌, ◌<◌, ◌≤◌, ◌+◌, true, drop, length};
 ghost use Rattle.scad_geom.specs.declared.shape.Shape.{Shape};
 ghost use Rattle.slice_sweep.specs.Front.{bundles_in};
-ghost use Rattle.slice_bool.specs.Beside.{AreMembers, left_value};
+ghost use Rattle.slice_border.specs.Beside.{AreMembers, left_value};
 ghost use Rattle.slice_outlines.specs.Cursors.{StandOn, StandForSome, StayOn};
 ghost use Rattle.slice_outlines.specs.MarkValue.{valued};
 ghost use Rattle.slice_outlines.specs.Heights.{IsRunOf, IsBalancedBefore, AreValuedIn, KeepsMarks};

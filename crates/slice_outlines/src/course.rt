@@ -6,6 +6,7 @@ ghost use Rattle.slice_outlines.specs.declared.course.Course.{Course};
 ghost use Rattle.slice_outlines.specs.Passing.{alone, or_none, going_on, edges_to};
 
 use scad_geom::{Edge, Pt};
+use slice_snap::has_length;
 use std::alloc::AllocError;
 
 /// A piece by its name, whether it runs as the sweep does, with the inside on its left, and the point, rounded, where
@@ -89,10 +90,4 @@ fn push_edge(given: &mut Vec<Edge>, edge: &Edge) -> Result<(), AllocError>
         given.push(*edge)?;
     }
     Ok(())
-}
-
-fn has_length(e: &Edge) -> bool
-    ensures { result ≡ has_length e.now }
-{
-    e.a != e.b
 }

@@ -9,7 +9,7 @@ ghost use Rattle.scad_geom.specs.Level.{IsLevelWithin};
 ghost use Rattle.slice_slab.specs.Bundles.{edge_at};
 ghost use Rattle.slice_sweep.specs.Front.{bundles_in, IsReadyFor};
 ghost use Rattle.slice_sweep.specs.Changes.{Group, Tell};
-ghost use Rattle.slice_bool.specs.Beside.{AreMembers, left_value};
+ghost use Rattle.slice_border.specs.Beside.{AreMembers, left_value};
 ghost use Rattle.slice_outlines.specs.declared.mark.Mark.{Mark};
 ghost use Rattle.slice_outlines.specs.Flats.{LiesAside};
 ghost use Rattle.slice_outlines.specs.Marks.{mark_at, spot_at, AreThere, IsNamed};
@@ -20,10 +20,9 @@ use crate::aside::in_way;
 use crate::flat::Flat;
 use crate::mark::Mark;
 use crate::run::{Run, after, first};
-use crate::spot::{Stop, compare, whole_spot};
 use crate::stops::stop_of;
-use crate::tally::{Tally, no_turns};
 use scad_geom::{LeafEdge, Level, Shape, cmp_x_at};
+use slice_border::{Stop, Tally, compare, whole_spot};
 use slice_sweep::{Change, Front};
 use std::alloc::{AllocError, Global};
 
@@ -45,7 +44,7 @@ impl Cursor {
         ensures { IfOk result (λ c. (bundles : List (List ℕ)) → length bundles ≡ strands
             → StandsOn edges.now shape.now bundles c) }
     {
-        let tally = no_turns(alloc, edges, shape)?;
+        let tally = Tally::new(alloc, edges, shape)?;
         Ok(Cursor { tally, at: strands })
     }
 

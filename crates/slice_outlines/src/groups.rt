@@ -5,7 +5,7 @@ ghost use Rattle.winding_laws.specs.Edges.{rounded};
 ghost use Rattle.slice_snap.specs.Spots.{point_of};
 ghost use Rattle.slice_snap.specs.declared.piece.Spot.{Spot};
 ghost use Rattle.slice_sweep.specs.Front.{bundles_in};
-ghost use Rattle.slice_bool.specs.Beside.{AreMembers};
+ghost use Rattle.slice_border.specs.Beside.{AreMembers};
 ghost use Rattle.slice_outlines.specs.Marks.{AreThere, mark_at};
 ghost use Rattle.slice_outlines.specs.Stops.{AllPass};
 ghost use Rattle.slice_outlines.specs.Cursors.{StandOn, StandForSome, StayOn};

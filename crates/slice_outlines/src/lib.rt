@@ -22,6 +22,5 @@ mod spot;
 mod stops;
 mod stretch;
 mod sweep;
-mod tally;
 
 pub use outlining::outlines;

@@ -1,20 +1,18 @@
 //! The distinct places of a stretch of a height, from left to right.
-ghost use Rattle.std.specs.Prelude.{◌≡◌, ◌<◌, ◌++◌, ◌∷◌, [], true, length, IfOk, OnOk, All};
-ghost use Rattle.std.specs.List.Sorted.{IsPermutation};
+ghost use Rattle.std.specs.Prelude.{◌≡◌, ◌++◌, ◌∷◌, [], true, IfOk, OnOk, All};
 ghost use Rattle.scad_geom.specs.Limits.{coordinate_limit};
 ghost use Rattle.scad_geom.specs.Within.{IsEdgeWithin};
 ghost use Rattle.scad_geom.specs.Level.{IsLevelWithin};
-ghost use Rattle.slice_events.specs.Distinct.{distinct_by, stays_by};
 ghost use Rattle.slice_slab.specs.Bundles.{edge_at};
-ghost use Rattle.slice_bool.specs.Pieces.{whole_spot, passes_at};
-ghost use Rattle.slice_bool.specs.Stops.{is_left, AreSorted};
+ghost use Rattle.slice_border.specs.Pieces.{whole_spot, passes_at};
 ghost use Rattle.slice_outlines.specs.Marks.{spot_at};
-ghost use Rattle.slice_outlines.specs.Stops.{spots_in, mark_spots, flat_spots, AllPass, AreStopsOf};
+ghost use Rattle.slice_border.specs.Stops.{spots_in, AreStopsOf};
+ghost use Rattle.slice_outlines.specs.Stops.{mark_spots, flat_spots, AllPass};
 
 use crate::flat::Flat;
 use crate::mark::Mark;
-use crate::spot::{Stop, compare, spot_on, whole_spot};
 use scad_geom::{LeafEdge, Level};
+use slice_border::{Stop, distinct_stops, spot_on, whole_spot};
 use std::alloc::{AllocError, Global};
 
 /// The places of strands below the height and above it, and of the ends of flat edges.
@@ -34,8 +32,7 @@ pub(crate) fn stops(
         ++ (mark_spots edges.now at.now above.now ++ flat_spots at.now flats.now)) (spots_in v.items)) }
 {
     let mut all = all_stops(alloc, edges, at, below, above, flats)?;
-    sort(&mut all)?;
-    distinct(alloc, &all)
+    distinct_stops(alloc, &mut all)
 }
 
 fn all_stops(
@@ -106,31 +103,4 @@ fn push_ends(out: &mut Vec<Stop>, at: &Level, e: &Flat) -> Result<(), AllocError
     out.push(whole_spot(e.left, at))?;
     out.push(whole_spot(e.right, at))?;
     Ok(())
-}
-
-fn sort(stops: &mut Vec<Stop>) -> Result<(), AllocError>
-    ensures permutation { IsPermutation stops.old.items stops.new.items }
-    ensures sorted { OnOk result (AreSorted (spots_in stops.new.items)) }
-{
-    stops.sort_by(compare)
-}
-
-fn distinct(alloc: Global, stops: &[Stop]) -> Result<Vec<Stop>, AllocError>
-    ensures { IfOk result (λ v. spots_in v.items ≡ distinct_by is_left (spots_in stops.now)) }
-{
-    let mut out = Vec::new(alloc);
-    'stops: for i in 0..stops.len() {
-        if stays(stops, i) {
-            out.push(stops[i])?;
-        }
-    }
-    Ok(out)
-}
-
-// Whether the stop is the last one or lies to the left of the next.
-fn stays(stops: &[Stop], i: usize) -> bool
-    requires { i < length stops.now }
-    ensures { result ≡ stays_by is_left (spots_in stops.now) i }
-{
-    i + 1 == stops.len() || compare(&stops[i], &stops[i + 1]).is_lt()
 }

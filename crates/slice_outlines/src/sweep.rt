@@ -10,7 +10,7 @@ ghost use Rattle.scad_geom.specs.Leaves.{AreLeavesBalanced};
 ghost use Rattle.scad_geom.specs.Heights.{AreNeighbours};
 ghost use Rattle.slice_events.specs.Levels.{AreLevels};
 ghost use Rattle.slice_sweep.specs.Front.{bundles_in, IsReadyFor};
-ghost use Rattle.slice_bool.specs.Beside.{AreMembers};
+ghost use Rattle.slice_border.specs.Beside.{AreMembers};
 ghost use Rattle.sweep_laws.specs.Sweeps.{AreMergedEdges};
 ghost use Rattle.slice_outlines.specs.Sweep.{HasSwept, CanClimb, CanEnd};
 ghost use Rattle.slice_outlines.specs.Marks.{IsNamed};

@@ -43,7 +43,8 @@ fn rounded_edge(piece: &Piece) -> Edge
     }
 }
 
-fn has_length(e: &Edge) -> bool
+/// Whether the ends of an edge differ.
+pub fn has_length(e: &Edge) -> bool
     ensures { result ≡ has_length e.now }
 {
     e.a != e.b

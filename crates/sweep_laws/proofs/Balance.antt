@@ -34,12 +34,12 @@ use Rattle.winding_laws.proofs.Totals.{starts, ends, sums_apart, equal_by_gaps, 
 use Rattle.slice_slab.specs.Bundles.{no_edge, AreBundles}
 use Rattle.slice_snap.specs.declared.piece.Spot.{Spot}
 use Rattle.slice_snap.specs.Spots.{point_of}
-use Rattle.slice_bool.specs.Beside.{passing}
-use Rattle.slice_bool.specs.Tally.{headings}
-use Rattle.slice_bool.proofs.BalanceEdges.{IsAside}
-use Rattle.slice_bool.proofs.BalanceTurns.{gap, is_right, is_level, ahead, step_up, step_down}
-use Rattle.slice_bool.proofs.Middle.{scaled, lower_scaled, at_most_scaled, scaled_below, scaled_at_most}
-use Rattle.slice_bool.proofs.Passing.{Around}
+use Rattle.slice_border.specs.Beside.{passing}
+use Rattle.slice_border.specs.Tally.{headings}
+use Rattle.slice_border.proofs.BalanceEdges.{IsAside}
+use Rattle.slice_border.proofs.BalanceTurns.{gap, is_right, is_level, ahead, step_up, step_down}
+use Rattle.slice_border.proofs.Middle.{scaled, lower_scaled, at_most_scaled, scaled_below, scaled_at_most}
+use Rattle.slice_border.proofs.Passing.{Around}
 use Rattle.sweep_laws.specs.Balance.{StaysAside, HeadingsAreBalanced, ValuesAreKept}
 use Rattle.sweep_laws.proofs.WindingCount.{counted_right}
 

@@ -16,7 +16,7 @@ use Rattle.scad_geom.specs.Heights.{heights, AreNeighbours}
 use Rattle.scad_geom.proofs.Heights.{at_most_chain}
 use Rattle.scad_geom.proofs.Order.{all_ends}
 use Rattle.slice_slab.specs.Bundles.{no_edge, edge_at, reaches}
-use Rattle.slice_bool.specs.Pieces.{passes_at}
+use Rattle.slice_border.specs.Pieces.{passes_at}
 
 -- ---- each edge that meets the height comes from below or goes on above
 lower_end : (P : Level → Type 0) (e : Edge) → P (level_of e.a.y) × P (level_of e.b.y) → P (level_of (low e).y)

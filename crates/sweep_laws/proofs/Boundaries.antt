@@ -15,16 +15,16 @@ use Rattle.scad_geom.proofs.Sums.{sum_z-append}
 use Rattle.slice_slab.proofs.Live.{live_bundles}
 use Rattle.slice_snap.specs.declared.piece.Spot.{Spot}
 use Rattle.slice_snap.specs.Spots.{point_of}
-use Rattle.slice_bool.specs.Pieces.{across, spots_at, GoRight, covers, AreStops}
-use Rattle.slice_bool.specs.Beside.{RisesFirst}
-use Rattle.slice_bool.specs.Tally.{headings}
-use Rattle.slice_bool.proofs.BalanceEdges.{IsAside}
-use Rattle.slice_bool.proofs.BalanceFlat.{none_covers, spot_is_at, spot_divisor, not_after, is_after, all_uncovered}
-use Rattle.slice_bool.proofs.BalanceSpots.{asides, all_one_sided}
-use Rattle.slice_bool.proofs.BalanceStops.{IsUpTo, first_up_to, next_up_to, beside}
-use Rattle.slice_bool.proofs.BalanceTurns.{is_right}
-use Rattle.slice_bool.proofs.Reaching.{heading_for}
-use Rattle.slice_bool.proofs.Winding.{IsSpotAt, stops_at, spots_are_at}
+use Rattle.slice_border.specs.Pieces.{across, spots_at, GoRight, covers, AreStops}
+use Rattle.slice_border.specs.Beside.{RisesFirst}
+use Rattle.slice_border.specs.Tally.{headings}
+use Rattle.slice_border.proofs.BalanceEdges.{IsAside}
+use Rattle.slice_border.proofs.BalanceFlat.{none_covers, spot_is_at, spot_divisor, not_after, is_after, all_uncovered}
+use Rattle.slice_border.proofs.BalanceSpots.{asides, all_one_sided}
+use Rattle.slice_border.proofs.BalanceStops.{IsUpTo, first_up_to, next_up_to, beside}
+use Rattle.slice_border.proofs.BalanceTurns.{is_right}
+use Rattle.slice_border.proofs.Reaching.{heading_for}
+use Rattle.slice_border.proofs.Winding.{IsSpotAt, stops_at, spots_are_at}
 use Rattle.sweep_laws.specs.Fronts.{Strand, bundles_of}
 use Rattle.sweep_laws.specs.Crossing.{Place, spots_of, all_below, all_above}
 use Rattle.sweep_laws.specs.Staying.{IsUncovered}

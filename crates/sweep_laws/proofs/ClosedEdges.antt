@@ -11,9 +11,9 @@ use Rattle.winding_laws.proofs.Rounding.{rounding_keeps_balance}
 use Rattle.slice_snap.specs.Pieces.{way_of, ways_of}
 use Rattle.slice_snap.specs.Rounding.{rounded_edges}
 use Rattle.slice_snap.proofs.Balance.{merged_balanced}
-use Rattle.slice_bool.proofs.BalanceLevels.{pieces_are_balanced}
-use Rattle.slice_bool.proofs.PieceWinding.{IsPlaced, placed_proper, merged_placed}
-use Rattle.slice_bool.proofs.Membership.{pieces_are_placed}
+use Rattle.slice_border.proofs.BalanceLevels.{pieces_are_balanced}
+use Rattle.slice_border.proofs.PieceWinding.{IsPlaced, placed_proper, merged_placed}
+use Rattle.slice_border.proofs.Membership.{pieces_are_placed}
 use Rattle.sweep_laws.specs.Sweeps.{MergedEdgesAreBalanced}
 
 pub merged_edges_are_balanced : MergedEdgesAreBalanced

@@ -17,10 +17,10 @@ use Rattle.scad_geom.proofs.Order.{front, back}
 use Rattle.slice_snap.specs.declared.piece.Spot.{Spot}
 use Rattle.slice_snap.specs.declared.piece.Piece.{Piece}
 use Rattle.slice_snap.specs.Spots.{point_of}
-use Rattle.slice_bool.specs.Pieces.{across, IsLeft, GoRight, piece_between, covers, stretch_piece, flat_pieces}
-use Rattle.slice_bool.specs.Beside.{left_value, RisesFirst, passing}
-use Rattle.slice_bool.specs.BothSides.{TellBeside}
-use Rattle.slice_bool.proofs.Winding.{IsSpotAt}
+use Rattle.slice_border.specs.Pieces.{across, IsLeft, GoRight, piece_between, covers, stretch_piece, flat_pieces}
+use Rattle.slice_border.specs.Beside.{left_value, RisesFirst, passing}
+use Rattle.slice_border.specs.Beside.{TellBeside}
+use Rattle.slice_border.proofs.Winding.{IsSpotAt}
 use Rattle.sweep_laws.specs.Ways.{pieces_of, piece_of}
 use Rattle.sweep_laws.specs.Fronts.{Strand, bundles_of, value_before}
 use Rattle.sweep_laws.specs.Crossing.{Place, spots_of, all_below, all_above, way_along, flat_way}

@@ -6,9 +6,9 @@ use Rattle.scad_geom.specs.declared.level.Level.{Level}
 use Rattle.scad_geom.specs.declared.level.LeafEdge.{LeafEdge}
 use Rattle.slice_slab.specs.Bundles.{no_edge}
 use Rattle.slice_snap.specs.declared.piece.Spot.{Spot}
-use Rattle.slice_bool.specs.Near.{flats_from, first_cover}
-use Rattle.slice_bool.specs.Pieces.{whole_spot, is_flat_at, covers, HasSpot}
-use Rattle.slice_bool.proofs.NearLevel.{flats_cover}
+use Rattle.slice_border.specs.Flats.{flats_from, first_cover}
+use Rattle.slice_border.specs.Pieces.{whole_spot, is_flat_at, covers, HasSpot}
+use Rattle.slice_border.proofs.Flats.{flats_cover}
 use Rattle.sweep_laws.specs.Crossing.{Place}
 use Rattle.sweep_laws.specs.Plain.{AreUncovered}
 use Rattle.sweep_laws.specs.Staying.{IsUncovered}

@@ -12,10 +12,10 @@ use Rattle.winding_laws.proofs.Sameness.{same_itself}
 use Rattle.slice_slab.specs.Bundles.{edge_at}
 use Rattle.slice_snap.specs.declared.piece.Spot.{Spot}
 use Rattle.slice_snap.specs.Spots.{point_of}
-use Rattle.slice_bool.specs.Pieces.{spot_on}
-use Rattle.slice_bool.specs.Beside.{RisesFirst}
-use Rattle.slice_bool.proofs.Winding.{IsSpotAt}
-use Rattle.slice_bool.proofs.BalanceFlat.{spot_divisor}
+use Rattle.slice_border.specs.Pieces.{spot_on}
+use Rattle.slice_border.specs.Beside.{RisesFirst}
+use Rattle.slice_border.proofs.Winding.{IsSpotAt}
+use Rattle.slice_border.proofs.BalanceFlat.{spot_divisor}
 use Rattle.sweep_laws.specs.Ways.{IsAway}
 use Rattle.sweep_laws.specs.Visits.{Visit, IsAtOne, Leads, AreInSweepOrder}
 use Rattle.sweep_laws.specs.Fronts.{Strand, value_before, ways_from}

@@ -22,12 +22,12 @@ use Rattle.slice_slab.proofs.Live.{IsLive, live_bundles}
 use Rattle.slice_snap.specs.declared.piece.Spot.{Spot}
 use Rattle.slice_snap.specs.declared.piece.Piece.{Piece}
 use Rattle.slice_snap.specs.Spots.{point_of}
-use Rattle.slice_bool.specs.Pieces.{spot_on, across, IsLeft, piece_between, bundle_piece, slab_pieces}
-use Rattle.slice_bool.specs.Beside.{left_value, RisesFirst, passing, lies_left}
-use Rattle.slice_bool.proofs.Middle.{size_of, value_left, value_right}
-use Rattle.slice_bool.proofs.BundleValues.{left_is, outside_right}
-use Rattle.slice_bool.proofs.RightOf.{right_of}
-use Rattle.slice_bool.proofs.Winding.{IsSpotAt}
+use Rattle.slice_border.specs.Pieces.{spot_on, across, IsLeft, piece_between, bundle_piece, slab_pieces}
+use Rattle.slice_border.specs.Beside.{left_value, RisesFirst, passing, lies_left}
+use Rattle.slice_border.proofs.Middle.{size_of, value_left, value_right}
+use Rattle.slice_border.proofs.BundleValues.{left_is, outside_right}
+use Rattle.slice_border.proofs.RightOf.{right_of}
+use Rattle.slice_border.proofs.Winding.{IsSpotAt}
 use Rattle.sweep_laws.specs.Ways.{Way, pieces_of, way_between, piece_of}
 use Rattle.sweep_laws.specs.Visits.{outs_of}
 use Rattle.sweep_laws.specs.Fronts.{Strand, bundles_of, value_before, way_from, ways_from, AreValued}

@@ -21,11 +21,11 @@ use Rattle.winding_laws.proofs.Sameness.{same_itself, same_through}
 use Rattle.slice_slab.specs.Bundles.{no_edge, edge_at}
 use Rattle.slice_snap.specs.declared.piece.Spot.{Spot}
 use Rattle.slice_snap.specs.Spots.{point_of}
-use Rattle.slice_bool.specs.Pieces.{spot_on, is_flat_at, covers}
-use Rattle.slice_bool.specs.Beside.{RisesFirst}
-use Rattle.slice_bool.proofs.Winding.{IsSpotAt}
-use Rattle.slice_bool.proofs.BalanceFlat.{spot_divisor}
-use Rattle.slice_bool.proofs.PieceNames.{found}
+use Rattle.slice_border.specs.Pieces.{spot_on, is_flat_at, covers}
+use Rattle.slice_border.specs.Beside.{RisesFirst}
+use Rattle.slice_border.proofs.Winding.{IsSpotAt}
+use Rattle.slice_border.proofs.BalanceFlat.{spot_divisor}
+use Rattle.slice_border.proofs.PieceNames.{found}
 use Rattle.sweep_laws.specs.Ways.{Way, IsAt, IsAway, AreOfDifferentNames}
 use Rattle.sweep_laws.specs.Visits.{Visit, Walk, over, visit}
 use Rattle.sweep_laws.specs.Fronts.{value_before, ways_up}

@@ -23,15 +23,15 @@ use Rattle.slice_slab.proofs.Live.{IsLive, live_bundles}
 use Rattle.slice_snap.specs.declared.piece.Spot.{Spot}
 use Rattle.slice_snap.specs.declared.piece.Piece.{Piece}
 use Rattle.slice_snap.specs.Spots.{point_of}
-use Rattle.slice_bool.specs.Pieces.{spot_on, passes_at, spots_at, IsLeft, GoRight, HasSpot, flat_pieces}
-use Rattle.slice_bool.specs.Beside.{left_value, RisesFirst}
-use Rattle.slice_bool.specs.BothSides.{TellBeside}
-use Rattle.slice_bool.proofs.BundleValues.{outside_right, rises_first}
-use Rattle.slice_bool.proofs.BalanceSpots.{passing_spot}
-use Rattle.slice_bool.proofs.Middle.{scaled, at_most_scaled}
-use Rattle.slice_bool.proofs.Telling.{tell_above, tell_below}
-use Rattle.slice_bool.proofs.Walk.{UpTo, ended}
-use Rattle.slice_bool.proofs.Winding.{IsSpotAt, stops_at, outside_above}
+use Rattle.slice_border.specs.Pieces.{spot_on, passes_at, spots_at, IsLeft, GoRight, HasSpot, flat_pieces}
+use Rattle.slice_border.specs.Beside.{left_value, RisesFirst}
+use Rattle.slice_border.specs.Beside.{TellBeside}
+use Rattle.slice_border.proofs.BundleValues.{outside_right, rises_first}
+use Rattle.slice_border.proofs.BalanceSpots.{passing_spot}
+use Rattle.slice_border.proofs.Middle.{scaled, at_most_scaled}
+use Rattle.slice_border.proofs.Telling.{tell_above, tell_below}
+use Rattle.slice_border.proofs.Walk.{UpTo, ended}
+use Rattle.slice_border.proofs.Winding.{IsSpotAt, stops_at, outside_above}
 use Rattle.scad_base.proofs.Products.{positive_product}
 use Rattle.sweep_laws.specs.Ways.{Way, pieces_of, piece_of, IsAway}
 use Rattle.sweep_laws.specs.Visits.{Visit, outs_of, IsAtOne}

@@ -15,10 +15,10 @@ use Rattle.slice_snap.specs.declared.piece.Spot.{Spot}
 use Rattle.slice_snap.specs.Spots.{point_of}
 use Rattle.slice_snap.proofs.SameSpots.{to_eq, crossed_back, mul_beside}
 use Rattle.scad_geom.proofs.Ring.{crossed}
-use Rattle.slice_bool.specs.Pieces.{spot_on, IsLeft, IsSameAcross}
-use Rattle.slice_bool.proofs.Middle.{size_of, scaled, lower_scaled, scaled_below}
-use Rattle.slice_bool.proofs.Winding.{IsSpotAt}
-use Rattle.slice_bool.proofs.PieceNames.{stop_left}
+use Rattle.slice_border.specs.Pieces.{spot_on, IsLeft, IsSameAcross}
+use Rattle.slice_border.proofs.Middle.{size_of, scaled, lower_scaled, scaled_below}
+use Rattle.slice_border.proofs.Winding.{IsSpotAt}
+use Rattle.slice_border.proofs.PieceNames.{stop_left}
 use Rattle.sweep_laws.specs.Ways.{IsAt, IsAway}
 
 -- where an edge that rises meets a height

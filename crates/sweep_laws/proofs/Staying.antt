@@ -5,7 +5,7 @@ use Rattle.scad_geom.specs.declared.level.Level.{Level}
 use Rattle.scad_geom.specs.declared.level.LeafEdge.{LeafEdge}
 use Rattle.slice_slab.specs.Bundles.{edge_at}
 use Rattle.slice_snap.specs.declared.piece.Spot.{Spot}
-use Rattle.slice_bool.specs.Pieces.{spot_on}
+use Rattle.slice_border.specs.Pieces.{spot_on}
 use Rattle.sweep_laws.specs.Ways.{Way, way_between}
 use Rattle.sweep_laws.specs.Visits.{Pass, goes_on, all_end}
 use Rattle.sweep_laws.specs.Fronts.{value_before, way_up, ways_up, way_from, ways_from}

@@ -11,8 +11,8 @@ use Rattle.scad_geom.specs.Heights.{heights}
 use Rattle.scad_geom.specs.Shape.{shape_holds}
 use Rattle.scad_geom.specs.Sign.{is_zero}
 use Rattle.slice_slab.proofs.Live.{live_bundles}
-use Rattle.slice_bool.specs.Beside.{left_value, RisesFirst}
-use Rattle.slice_bool.specs.Tally.{headings}
+use Rattle.slice_border.specs.Beside.{left_value, RisesFirst}
+use Rattle.slice_border.specs.Tally.{headings}
 use Rattle.sweep_laws.specs.Fronts.{Strand, bundles_of, AreValued}
 use Rattle.sweep_laws.specs.Crossing.{Place, all_below, all_above}
 use Rattle.sweep_laws.specs.Balance.{AreBoundariesBalanced}

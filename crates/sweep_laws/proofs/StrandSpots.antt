@@ -17,9 +17,9 @@ use Rattle.scad_geom.proofs.Order.{front, back, aligned_all}
 use Rattle.slice_slab.specs.Bundles.{edge_at, reaches, reaching, IsBundle, AreRanked, AreBundles}
 use Rattle.slice_slab.proofs.Live.{IsLive, live_bundles}
 use Rattle.slice_snap.specs.declared.piece.Spot.{Spot}
-use Rattle.slice_bool.specs.Pieces.{spot_on, across, IsSameAcross, HasSpot}
-use Rattle.slice_bool.proofs.Middle.{size_of}
-use Rattle.slice_bool.proofs.Winding.{IsSpotAt}
+use Rattle.slice_border.specs.Pieces.{spot_on, across, IsSameAcross, HasSpot}
+use Rattle.slice_border.proofs.Middle.{size_of}
+use Rattle.slice_border.proofs.Winding.{IsSpotAt}
 use Rattle.sweep_laws.specs.Fronts.{Strand, bundles_of}
 use Rattle.sweep_laws.specs.Crossing.{Place, spots_of, MeetsAt}
 use Rattle.sweep_laws.proofs.Spots.{spot_at}

@@ -22,10 +22,10 @@ use Rattle.slice_snap.specs.declared.piece.Spot.{Spot}
 use Rattle.slice_snap.specs.declared.piece.Piece.{Piece}
 use Rattle.slice_snap.specs.Rounding.{rounded_edges}
 use Rattle.slice_snap.proofs.Pairs.{permuted_merged}
-use Rattle.slice_bool.specs.Pieces.{spot_on, passes_at, flat_pieces, slab_pieces, AreLevelPieces}
-use Rattle.slice_bool.proofs.Telling.{tell_first}
-use Rattle.slice_bool.proofs.Walk.{UpTo, at_first, at_next, neighbours_next}
-use Rattle.slice_bool.proofs.Winding.{IsSpotAt, stops_at}
+use Rattle.slice_border.specs.Pieces.{spot_on, passes_at, flat_pieces, slab_pieces, AreLevelPieces}
+use Rattle.slice_border.proofs.Telling.{tell_first}
+use Rattle.slice_border.proofs.Walk.{UpTo, at_first, at_next, neighbours_next}
+use Rattle.slice_border.proofs.Winding.{IsSpotAt, stops_at}
 use Rattle.sweep_laws.specs.Ways.{Way, pieces_of, piece_of}
 use Rattle.sweep_laws.specs.Visits.{Visit, outs_of, IsAtOne, AreInSweepOrder, Walk, over}
 use Rattle.sweep_laws.specs.Fronts.{Strand, bundles_of, ways_up, IsFront}

@@ -3,7 +3,7 @@ use Rattle.std.proofs.Common.{ℕ, ◌⊎◌, inl, inr, List, [], ◌∷◌, ◌
 use Rattle.std.proofs.lemmas.List.{map-append}
 use Rattle.scad_geom.specs.declared.level.LeafEdge.{LeafEdge}
 use Rattle.scad_geom.specs.declared.shape.Shape.{Shape}
-use Rattle.slice_bool.specs.Beside.{left_value}
+use Rattle.slice_border.specs.Beside.{left_value}
 use Rattle.sweep_laws.specs.Fronts.{Strand, bundles_of, AreValued}
 use Rattle.sweep_laws.specs.Crossing.{Place, all_below, all_above}
 use Rattle.sweep_laws.specs.Balance.{AreBoundariesBalanced}

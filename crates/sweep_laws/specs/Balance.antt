@@ -10,9 +10,9 @@ use Rattle.scad_geom.specs.Leaves.{AreLeavesBalanced}
 use Rattle.slice_slab.specs.Bundles.{AreBundles}
 use Rattle.slice_snap.specs.declared.piece.Spot.{Spot}
 use Rattle.slice_snap.specs.Spots.{point_of}
-use Rattle.slice_bool.specs.Tally.{headings}
-use Rattle.slice_bool.specs.Beside.{left_value, passing}
-use Rattle.slice_bool.specs.Pieces.{AreStops}
+use Rattle.slice_border.specs.Tally.{headings}
+use Rattle.slice_border.specs.Beside.{left_value, passing}
+use Rattle.slice_border.specs.Pieces.{AreStops}
 use Rattle.sweep_laws.specs.Fronts.{bundles_of}
 use Rattle.sweep_laws.specs.Crossing.{Place, spots_of, all_below, all_above}
 use Rattle.sweep_laws.specs.Staying.{IsUncovered}

@@ -5,8 +5,8 @@ use Rattle.scad_geom.specs.declared.level.Level.{Level}
 use Rattle.scad_geom.specs.declared.level.LeafEdge.{LeafEdge}
 use Rattle.slice_slab.specs.Bundles.{no_edge}
 use Rattle.slice_snap.specs.declared.piece.Spot.{Spot}
-use Rattle.slice_bool.specs.Near.{flats_from}
-use Rattle.slice_bool.specs.Pieces.{whole_spot, is_flat_at, covers, HasSpot}
+use Rattle.slice_border.specs.Flats.{flats_from}
+use Rattle.slice_border.specs.Pieces.{whole_spot, is_flat_at, covers, HasSpot}
 use Rattle.sweep_laws.specs.Crossing.{Place}
 use Rattle.sweep_laws.specs.Staying.{IsUncovered}
 use Rattle.sweep_laws.specs.Plain.{AreUncovered}

@@ -15,8 +15,8 @@ use Rattle.slice_snap.specs.Merging.{AreMerged}
 use Rattle.slice_snap.specs.Rounding.{rounded_edges}
 use Rattle.slice_snap.specs.Cancelling.{AreCancelled}
 use Rattle.slice_loops.specs.Outlines.{AreOutlines}
-use Rattle.slice_bool.specs.Pieces.{ArePieces}
-use Rattle.slice_bool.specs.Outlines.{AreOutlinesOf}
+use Rattle.slice_border.specs.Pieces.{ArePieces}
+use Rattle.slice_border.specs.Outlines.{AreOutlinesOf}
 use Rattle.sweep_laws.specs.Ways.{Way, pieces_of}
 use Rattle.sweep_laws.specs.Fronts.{Strand, IsFront}
 use Rattle.sweep_laws.specs.Crossing.{Place, all_above, all_closed, IsCrossing}

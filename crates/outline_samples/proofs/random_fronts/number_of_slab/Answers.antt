@@ -1,7 +1,7 @@
 -- The levels of the list are neighbours.
 use Rattle.std.proofs.Common.{pos}
 use Rattle.scad_geom.specs.declared.level.Level.{Level}
-use Rattle.slice_bool.proofs.Climbing.{neighbours_at}
+use Rattle.slice_border.proofs.Neighbours.{neighbours_at}
 use Rattle.outline_samples.proofs.random_fronts.number_of_slab.Goals as goal
 
 pub advance-requires-clause-neighbours : goal.advance-requires-clause-neighbours

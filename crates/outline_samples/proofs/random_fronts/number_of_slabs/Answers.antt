@@ -4,8 +4,8 @@ use Rattle.scad_geom.specs.declared.level.Level.{Level}
 use Rattle.scad_geom.proofs.Heights.{lower_weak}
 use Rattle.slice_slab.specs.Active.{IsReadyFor as IsActiveFor}
 use Rattle.slice_sweep.specs.Front.{IsReadyFor}
-use Rattle.slice_bool.specs.Parts.{level_at}
-use Rattle.slice_bool.proofs.Climbing.{neighbours_at}
+use Rattle.slice_border.specs.Levels.{level_at}
+use Rattle.slice_border.proofs.Neighbours.{neighbours_at}
 use Rattle.outline_samples.proofs.random_fronts.number_of_slabs.Goals as goal
 
 pub levels-preserved : goal.levels-preserved

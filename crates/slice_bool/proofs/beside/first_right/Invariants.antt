@@ -1,6 +1,6 @@
 use Rattle.std.proofs.Common.{◌≡◌, ℕ, ◌<◌, ◌≤◌, ◌-◌, false, List, length, get_or}
 use Rattle.slice_snap.specs.Spots.{point_of}
-use Rattle.slice_bool.specs.Beside.{is_right_of}
+use Rattle.slice_border.specs.Beside.{is_right_of}
 use Rattle.slice_bool.proofs.beside.first_right.Given as goal
 
 abbrev pub invariant-bundles : goal.invariant-bundles

@@ -1,7 +1,7 @@
 -- The gap on the spot's own divisor.
 use Rattle.std.proofs.Common.{◌∙◌, pos}
-use Rattle.slice_bool.specs.declared.stop.Stop.{Stop}
-use Rattle.slice_bool.proofs.RightOf.{right_of}
+use Rattle.slice_border.specs.declared.stop.Stop.{Stop}
+use Rattle.slice_border.proofs.RightOf.{right_of}
 use Rattle.slice_bool.proofs.beside.passes_right.Goals as goal
 
 pub returns : goal.returns

@@ -2,10 +2,10 @@
 use Rattle.std.proofs.Common.{◌≡◌, ℕ, ◌-◌, ◌<◌, ◌≤◌, ◌++◌, ◌∷◌, [], Bool, true, false, List, length, get_or, sym, ap, ◌∙◌, arith, subst}
 use Rattle.scad_geom.specs.Point.{Point}
 use Rattle.slice_snap.specs.Spots.{point_of}
-use Rattle.slice_bool.specs.declared.stop.Stop.{Stop}
-use Rattle.slice_bool.specs.Beside.{left_value, passing, is_right_of}
+use Rattle.slice_border.specs.declared.stop.Stop.{Stop}
+use Rattle.slice_border.specs.Beside.{left_value, passing, is_right_of}
 use Rattle.slice_bool.proofs.Along.{any_stop, from_first, passed_both, passed_next, value_more}
-use Rattle.slice_bool.proofs.BundleValues.{value_beside, any_default, length_more}
+use Rattle.slice_bool.proofs.LeftValues.{value_beside, any_default, length_more}
 use Rattle.slice_bool.proofs.beside.values_beside.Goals as goal
 
 pub stops-init : goal.stops-init

@@ -2,9 +2,11 @@
 use Rattle.std.proofs.Common.{◌+◌, ℕ, pos, sym, subst, false}
 use Rattle.scad_geom.specs.declared.level.Level.{Level}
 use Rattle.scad_geom.proofs.Heights.{lower_weak}
-use Rattle.slice_bool.specs.Parts.{level_at}
-use Rattle.slice_bool.proofs.Climbing.{Goes, starts, goes_on, ends, neighbours_at}
-use Rattle.slice_bool.proofs.Telling.{nothing_side, tell_first}
+use Rattle.slice_border.specs.Levels.{level_at}
+use Rattle.slice_bool.proofs.Climbing.{Goes, starts, goes_on, ends}
+use Rattle.slice_border.proofs.Neighbours.{neighbours_at}
+use Rattle.slice_bool.proofs.BothSides.{nothing_side}
+use Rattle.slice_border.proofs.Telling.{tell_first}
 use Rattle.slice_bool.proofs.border.all_pieces.Goals as goal
 
 pub levels-init : goal.levels-init
@@ -16,7 +18,7 @@ levels-init c =
     record {
       pieces = subst (Goes es shape ls ls) (sym c.new-out.ensures.items) (starts es shape ls);
       active = λ h. c.in_ok-new.ensures (level_at ls 0);
-      tallies = c.in_ok-no_tallies.ensures;
+      tally = c.in_ok-new-2.ensures;
       below = λ h. nothing_side false es shape (level_at ls 0) _ c.in_ok-nothing_beside.ensures.bundles
           c.in_ok-nothing_beside.ensures.values (tell_first es shape ls none c.requires.levels h);
     }
@@ -34,7 +36,7 @@ levels-preserved c =
           let n = neighbours_at es ls i none none h c.requires.levels in
           c.in_ok-push_level.ensures.active (level_at ls (i + 1)) n.upper_divisor
           (lower_weak (level_at ls i) (level_at ls (i + 1)) n.in_order);
-      tallies = c.in_ok-push_level.ensures.tallies;
+      tally = c.in_ok-push_level.ensures.tally;
       below = c.in_ok-push_level.ensures.below;
     }
 
@@ -57,8 +59,8 @@ push_level-requires-clause-there c = c.levels-test.true
 pub push_level-requires-clause-active : goal.push_level-requires-clause-active
 push_level-requires-clause-active c = c.levels.invariant.active c.levels-test.true
 
-pub push_level-requires-clause-tallies : goal.push_level-requires-clause-tallies
-push_level-requires-clause-tallies c = c.levels.invariant.tallies
+pub push_level-requires-clause-tally : goal.push_level-requires-clause-tally
+push_level-requires-clause-tally c = c.levels.invariant.tally
 
 pub push_level-requires-clause-below : goal.push_level-requires-clause-below
 push_level-requires-clause-below c = c.levels.invariant.below c.levels-test.true

@@ -7,12 +7,12 @@ use Rattle.scad_geom.specs.declared.level.LeafEdge.{LeafEdge}
 use Rattle.scad_geom.specs.declared.shape.Shape.{Shape}
 use Rattle.slice_events.specs.Levels.{AreLevels}
 use Rattle.slice_snap.specs.declared.piece.Piece.{Piece}
-use Rattle.slice_bool.specs.Pieces.{AreLevelPieces, ArePieces}
-use Rattle.slice_bool.proofs.Ends.{heights_have_one_level}
-use Rattle.slice_bool.proofs.Within.{spots_are_within}
-use Rattle.slice_bool.proofs.BalanceLevels.{pieces_are_balanced}
-use Rattle.slice_bool.proofs.Centre.{centres_are_wound_once}
-use Rattle.slice_bool.proofs.PieceNames.{pieces_are_named}
+use Rattle.slice_border.specs.Pieces.{AreLevelPieces, ArePieces}
+use Rattle.slice_border.proofs.Ends.{heights_have_one_level}
+use Rattle.slice_border.proofs.Within.{spots_are_within}
+use Rattle.slice_border.proofs.BalanceLevels.{pieces_are_balanced}
+use Rattle.slice_border.proofs.Centre.{centres_are_wound_once}
+use Rattle.slice_border.proofs.PieceNames.{pieces_are_named}
 use Rattle.slice_bool.proofs.border.pieces.Goals as goal
 
 abbrev all : (es : List LeafEdge) (shape : Shape) (ls ks : List Level) (pieces : List Piece) → AreLevels es ls → ks ≡ ls

@@ -4,9 +4,10 @@ use Rattle.scad_geom.specs.declared.level.Level.{Level}
 use Rattle.slice_slab.specs.Bundles.{AreBundles}
 use Rattle.slice_slab.specs.Touching.{touching}
 use Rattle.slice_snap.specs.declared.piece.Piece.{Piece}
-use Rattle.slice_bool.specs.Pieces.{slab_pieces}
+use Rattle.slice_border.specs.Pieces.{slab_pieces}
 use Rattle.slice_bool.specs.Parts.{AreUpToNext, AreBetweenLevels, Extends}
-use Rattle.slice_bool.proofs.Climbing.{neighbours_at, next_level, last_level}
+use Rattle.slice_border.proofs.Neighbours.{neighbours_at}
+use Rattle.slice_bool.proofs.Climbing.{next_level, last_level}
 use Rattle.slice_bool.proofs.border.push_level.Goals as goal
 use Rattle.slice_bool.proofs.border.push_level.Goals.{then-i-levels+in_ok-push_slab_pieces, else-i-levels}
 
@@ -73,8 +74,8 @@ side_above-requires-clause-bundles c = c.in_ok-rise.ensures.bundles
 pub side_above-requires-clause-stands : goal.side_above-requires-clause-stands
 side_above-requires-clause-stands c = c.in_ok-rise.ensures.stands
 
-pub side_above-requires-clause-tallies : goal.side_above-requires-clause-tallies
-side_above-requires-clause-tallies c = c.requires.tallies
+pub side_above-requires-clause-tally : goal.side_above-requires-clause-tally
+side_above-requires-clause-tally c = c.requires.tally
 
 pub push_flat_pieces-requires-clause-at : goal.push_flat_pieces-requires-clause-at
 push_flat_pieces-requires-clause-at c = c.requires.within c.args.i none c.requires.there
@@ -100,8 +101,8 @@ push_slab_pieces-requires-clause-values c = c.in_ok-above.ensures.above.values
 pub returns-clause-active : goal.returns-clause-active
 returns-clause-active c = c.in_ok-above.ensures.stands
 
-pub returns-clause-tallies : goal.returns-clause-tallies
-returns-clause-tallies c = c.in_ok-above.ensures.tallies
+pub returns-clause-tally : goal.returns-clause-tally
+returns-clause-tally c = c.in_ok-above.ensures.tally
 
 pub returns-clause-below : goal.returns-clause-below
 returns-clause-below c = c.in_ok-above.ensures.below

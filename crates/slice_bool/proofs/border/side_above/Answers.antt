@@ -4,11 +4,12 @@ use Rattle.std.proofs.lemmas.Result.{IfOk-weaker}
 use Rattle.scad_geom.specs.declared.level.Level.{Level}
 use Rattle.slice_slab.specs.Bundles.{AreBundles}
 use Rattle.slice_bool.specs.declared.beside.Valued.{Valued}
-use Rattle.slice_bool.specs.Parts.{level_at}
-use Rattle.slice_bool.specs.Beside.{AreLeftValues}
-use Rattle.slice_bool.proofs.BundleValues.{are_members}
-use Rattle.slice_bool.proofs.Climbing.{neighbours_at}
-use Rattle.slice_bool.proofs.Telling.{tell_above, tell_below, tell_last, slab_side, nothing_side}
+use Rattle.slice_border.specs.Levels.{level_at}
+use Rattle.slice_bool.specs.LeftValues.{AreLeftValues}
+use Rattle.slice_border.proofs.BundleValues.{are_members}
+use Rattle.slice_border.proofs.Neighbours.{neighbours_at}
+use Rattle.slice_border.proofs.Telling.{tell_above, tell_below, tell_last}
+use Rattle.slice_bool.proofs.BothSides.{slab_side, nothing_side}
 use Rattle.slice_bool.proofs.border.side_above.Goals as goal
 
 abbrev none : Level

@@ -5,9 +5,9 @@ use Rattle.std.proofs.lemmas.List.{at_drop_more, at_drop_all}
 use Rattle.scad_geom.specs.declared.level.LeafEdge.{LeafEdge}
 use Rattle.slice_slab.specs.Bundles.{no_edge}
 use Rattle.slice_snap.specs.declared.piece.Spot.{Spot}
-use Rattle.slice_bool.specs.Pieces.{covers}
-use Rattle.slice_bool.specs.Near.{first_cover}
-use Rattle.slice_bool.proofs.NearLevel.{flats_cover}
+use Rattle.slice_border.specs.Pieces.{covers}
+use Rattle.slice_border.specs.Flats.{first_cover}
+use Rattle.slice_border.proofs.Flats.{flats_cover}
 use Rattle.slice_bool.proofs.covering.covering_edge.Goals as goal
 
 -- the next number is the first whose edge covers the stretch, or is passed over

@@ -1,7 +1,7 @@
 use Rattle.std.proofs.Common.{◌≡◌, drop}
 use Rattle.std.specs.List.{position}
-use Rattle.slice_bool.specs.Pieces.{covers}
-use Rattle.slice_bool.specs.Near.{first_cover}
+use Rattle.slice_border.specs.Pieces.{covers}
+use Rattle.slice_border.specs.Flats.{first_cover}
 use Rattle.slice_bool.proofs.covering.covering_edge.Given as goal
 
 abbrev pub invariant-flats : goal.invariant-flats

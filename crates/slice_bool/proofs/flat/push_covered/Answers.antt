@@ -5,15 +5,15 @@ use Rattle.std.proofs.lemmas.Result.{on_ok_weaker}
 use Rattle.scad_geom.specs.Limits.{coordinate_limit}
 use Rattle.scad_geom.specs.Within.{IsEdgeWithin}
 use Rattle.slice_snap.specs.declared.piece.Spot.{Spot}
-use Rattle.slice_bool.specs.declared.stop.Stop.{Stop}
+use Rattle.slice_border.specs.declared.stop.Stop.{Stop}
 use Rattle.slice_bool.specs.Along.{GoAlong, AreAlong, AreBeside}
 use Rattle.slice_bool.specs.Near.{AreFlats}
-use Rattle.slice_bool.specs.Pieces.{AreStops, flat_pieces}
-use Rattle.slice_bool.specs.Stops.{spots_in}
+use Rattle.slice_border.specs.Pieces.{AreStops, flat_pieces}
+use Rattle.slice_border.specs.Stops.{spots_in}
 use Rattle.slice_bool.proofs.Along.{go_along, along_beside}
 use Rattle.slice_bool.proofs.NearLevel.{all_at}
 use Rattle.slice_bool.proofs.LevelEdges.{stops_touching}
-use Rattle.slice_bool.proofs.Winding.{stops_at}
+use Rattle.slice_border.proofs.Winding.{stops_at}
 use Rattle.slice_bool.proofs.flat.push_covered.Goals as goal
 
 pub stops-requires-clause-within : goal.stops-requires-clause-within

@@ -1,7 +1,7 @@
 -- Where no flat edge lies on the level, there are no pieces.
 use Rattle.std.proofs.Common.{◌≡◌, ◌∙◌, ◌<◌, ℕ, [], sym, subst}
-use Rattle.slice_bool.specs.Near.{flats_from}
-use Rattle.slice_bool.proofs.Keeping.{same_leaf}
+use Rattle.slice_border.specs.Flats.{flats_from}
+use Rattle.slice_border.proofs.Keeping.{same_leaf}
 use Rattle.slice_bool.proofs.SomeStops.{without_flats, empty_list, some_number}
 use Rattle.slice_bool.proofs.flat.push_flat_pieces.Goals as goal
 

@@ -4,10 +4,10 @@ use Rattle.std.proofs.lemmas.List.{append-nil}
 use Rattle.slice_snap.specs.declared.piece.Piece.{Piece}
 use Rattle.slice_snap.specs.Spots.{point_of}
 use Rattle.scad_geom.specs.Shape.{is_in_by}
-use Rattle.slice_bool.specs.declared.stop.Stop.{Stop}
-use Rattle.slice_bool.specs.Pieces.{flat_pieces, stretch_piece}
+use Rattle.slice_border.specs.declared.stop.Stop.{Stop}
+use Rattle.slice_border.specs.Pieces.{flat_pieces, stretch_piece}
 use Rattle.slice_bool.specs.Along.{covered_piece}
-use Rattle.slice_bool.specs.Stops.{spots_in}
+use Rattle.slice_border.specs.Stops.{spots_in}
 use Rattle.slice_bool.proofs.Stretches.{stretch, stretch_at, no_stretch, more_pieces}
 use Rattle.slice_bool.proofs.Along.{covered_by}
 use Rattle.slice_bool.proofs.flat.push_stretches.Goals as goal

@@ -1,6 +1,6 @@
 use Rattle.std.proofs.Common.{◌≡◌, ◌++◌, ◌-◌, drop}
-use Rattle.slice_bool.specs.Pieces.{flat_pieces}
-use Rattle.slice_bool.specs.Stops.{spots_in}
+use Rattle.slice_border.specs.Pieces.{flat_pieces}
+use Rattle.slice_border.specs.Stops.{spots_in}
 use Rattle.slice_bool.proofs.flat.push_stretches.Given as goal
 
 abbrev pub invariant-stops : goal.invariant-stops

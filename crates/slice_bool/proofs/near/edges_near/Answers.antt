@@ -4,8 +4,8 @@ use Rattle.std.proofs.lemmas.List.Sorted.{All-permutation, IsNonDecreasingBy-fro
 use Rattle.slice_slab.specs.Touching.{touching}
 use Rattle.slice_slab.proofs.Times.{ascends_from}
 use Rattle.slice_slab.proofs.Standing.{all_there}
-use Rattle.slice_bool.specs.Near.{flats_from}
-use Rattle.slice_bool.proofs.Keeping.{same_leaf}
+use Rattle.slice_border.specs.Flats.{flats_from}
+use Rattle.slice_border.proofs.Keeping.{same_leaf}
 use Rattle.slice_bool.proofs.SomeStops.{empty_list}
 use Rattle.slice_bool.proofs.LevelEdges.{flats_there, in_ascending, no_flats, none_stands}
 use Rattle.slice_bool.proofs.near.edges_near.Goals as goal

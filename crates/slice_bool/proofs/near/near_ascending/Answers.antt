@@ -4,8 +4,9 @@ use Rattle.scad_geom.specs.Limits.{coordinate_limit}
 use Rattle.scad_geom.specs.Within.{IsEdgeWithin}
 use Rattle.slice_slab.specs.Bundles.{edge_at}
 use Rattle.slice_slab.proofs.Standing.{all_there}
-use Rattle.slice_bool.specs.Pieces.{is_flat_at}
-use Rattle.slice_bool.specs.Near.{picked, touching_at, flats_from}
+use Rattle.slice_border.specs.Pieces.{is_flat_at}
+use Rattle.slice_bool.specs.Near.{picked, touching_at}
+use Rattle.slice_border.specs.Flats.{flats_from}
 use Rattle.slice_bool.proofs.LevelEdges.{picked_touching, flats_touching, flats_there, all_touching}
 use Rattle.slice_bool.proofs.near.near_ascending.Goals as goal
 

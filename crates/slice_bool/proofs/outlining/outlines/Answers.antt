@@ -2,9 +2,9 @@
 use Rattle.std.proofs.Common.{All, sym, subst}
 use Rattle.scad_geom.specs.Limits.{coordinate_limit}
 use Rattle.slice_snap.specs.Pieces.{HaveOneLevel, IsPieceWithin, ArePiecesBalanced}
-use Rattle.slice_bool.specs.Outlines.{AreMadeOf, AreOutlinesOf}
-use Rattle.slice_bool.proofs.Membership.{outlines_hold_centres}
-use Rattle.slice_bool.proofs.NearBorder.{outlines_are_near_border}
+use Rattle.slice_border.specs.Outlines.{AreMadeOf, AreOutlinesOf}
+use Rattle.slice_border.proofs.Membership.{outlines_hold_centres}
+use Rattle.slice_border.proofs.NearBorder.{outlines_are_near_border}
 use Rattle.slice_bool.proofs.outlining.outlines.Goals as goal
 use Rattle.slice_bool.proofs.outlining.outlines.Goals.{After-drop-pieces}
 

@@ -1,10 +1,11 @@
 -- The values on both sides of a bundle give its piece.
 use Rattle.std.proofs.Common.{◌≡◌, ◌+◌, ◌-◌, ◌++◌, ℕ, Bool, false, List, length, get_or, drop, sym, ap, ap₂, ◌∙◌, arith, subst, ◌<◌}
 use Rattle.slice_snap.specs.declared.piece.Piece.{Piece}
-use Rattle.slice_bool.specs.Pieces.{slab_pieces}
-use Rattle.slice_bool.specs.Beside.{left_value}
-use Rattle.slice_bool.specs.Beside.{RisesFirst, piece_of}
-use Rattle.slice_bool.proofs.BundleValues.{rises_at, piece_at, value_beside, any_default}
+use Rattle.slice_border.specs.Pieces.{slab_pieces}
+use Rattle.slice_border.specs.Beside.{left_value}
+use Rattle.slice_border.specs.Beside.{RisesFirst}
+use Rattle.slice_bool.specs.LeftValues.{piece_of}
+use Rattle.slice_bool.proofs.LeftValues.{rises_at, piece_at, value_beside, any_default}
 use Rattle.slice_bool.proofs.Stretches.{more_pieces}
 use Rattle.slice_bool.proofs.slab.push_slab_pieces.Goals as goal
 

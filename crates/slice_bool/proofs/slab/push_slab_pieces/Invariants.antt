@@ -1,5 +1,5 @@
 use Rattle.std.proofs.Common.{◌≡◌, ◌++◌, drop}
-use Rattle.slice_bool.specs.Pieces.{slab_pieces}
+use Rattle.slice_border.specs.Pieces.{slab_pieces}
 use Rattle.slice_bool.proofs.slab.push_slab_pieces.Given as goal
 
 abbrev pub invariant-bundles : goal.invariant-bundles

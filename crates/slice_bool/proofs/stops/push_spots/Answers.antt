@@ -3,8 +3,8 @@ use Rattle.std.proofs.Common.{◌≡◌, ◌∷◌, [], ◌++◌, ◌∙◌, ap,
 use Rattle.std.proofs.lemmas.Result.{on_ok_weaker}
 use Rattle.std.specs.Prelude.{if◌then◌else◌}
 use Rattle.slice_snap.specs.declared.piece.Spot.{Spot}
-use Rattle.slice_bool.specs.Stops.{spots_in}
-use Rattle.slice_bool.specs.Pieces.{is_flat_at, passes_at, spot_on, whole_spot}
+use Rattle.slice_border.specs.Stops.{spots_in}
+use Rattle.slice_border.specs.Pieces.{is_flat_at, passes_at, spot_on, whole_spot}
 use Rattle.slice_bool.proofs.stops.push_spots.Goals as goal
 
 pub returns-in_ok-push : goal.returns-in_ok-push

@@ -4,8 +4,8 @@ use Rattle.std.proofs.lemmas.List.{append-nil, at_drop_more, drop_all}
 use Rattle.scad_geom.specs.declared.level.LeafEdge.{LeafEdge}
 use Rattle.slice_slab.specs.Bundles.{no_edge}
 use Rattle.slice_snap.specs.declared.piece.Spot.{Spot}
-use Rattle.slice_bool.specs.Pieces.{edge_spots, spots_at}
-use Rattle.slice_bool.specs.Stops.{spots_in}
+use Rattle.slice_border.specs.Pieces.{edge_spots, spots_at}
+use Rattle.slice_border.specs.Stops.{spots_in}
 use Rattle.slice_bool.proofs.stops.spots.Goals as goal
 
 pub edges-preserved : goal.edges-preserved

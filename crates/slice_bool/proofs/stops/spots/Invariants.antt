@@ -1,6 +1,6 @@
 use Rattle.std.proofs.Common.{◌≡◌, ◌++◌, drop}
-use Rattle.slice_bool.specs.Pieces.{spots_at}
-use Rattle.slice_bool.specs.Stops.{spots_in}
+use Rattle.slice_border.specs.Pieces.{spots_at}
+use Rattle.slice_border.specs.Stops.{spots_in}
 use Rattle.slice_bool.proofs.stops.spots.Given as goal
 
 abbrev pub invariant-edges : goal.invariant-edges

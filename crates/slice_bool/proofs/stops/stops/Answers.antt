@@ -1,16 +1,14 @@
--- Sorting and dropping repeats leaves the stops.
-use Rattle.std.proofs.Common.{sym, ap, ◌∙◌, subst}
+-- The distinct ones of all spots.
+use Rattle.std.proofs.Common.{List, subst}
 use Rattle.std.proofs.lemmas.Result.{IfOk-weaker}
-use Rattle.slice_bool.specs.Pieces.{AreStops}
-use Rattle.slice_bool.specs.Stops.{spots_in, is_left}
-use Rattle.slice_events.specs.Distinct.{distinct_by}
-use Rattle.slice_bool.proofs.Stopping.{sorted_stops}
+use Rattle.slice_snap.specs.declared.piece.Spot.{Spot}
+use Rattle.slice_border.specs.Pieces.{AreStops}
+use Rattle.slice_border.specs.Stops.{spots_in, AreStopsOf}
 use Rattle.slice_bool.proofs.stops.stops.Goals as goal
 
 pub returns : goal.returns
-returns c = IfOk-weaker c.distinct.result _ _
-    (λ v e. subst (AreStops c.args.edges.now c.args.at.now)
-    (sym (e ∙ ap (λ ss. distinct_by is_left (spots_in ss)) c.deref.ensures.value))
-    (sorted_stops c.args.edges.now c.args.at.now c.in_ok-all.all.items c.sort.new.stops.items c.in_ok-all.ensures
-    c.in_ok-sort.ensures.permutation c.in_ok-sort.ensures.sorted))
-    c.distinct.ensures
+returns c = IfOk-weaker c.distinct_stops.result _ _
+    (λ v h.
+    let stops = subst (λ (all : List Spot). AreStopsOf all (spots_in v.items)) c.in_ok-all.ensures h in
+    record { rightwards = stops.rightwards; sound = stops.sound; complete = stops.complete })
+    c.distinct_stops.ensures

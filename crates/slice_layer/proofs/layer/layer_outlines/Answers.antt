@@ -4,7 +4,7 @@ use Rattle.scad_geom.specs.Limits.{coordinate_limit, point_limit}
 use Rattle.scad_geom.specs.Within.{IsWithin, IsEdgeWithin}
 use Rattle.scad_tree.specs.View.{solid_of}
 use Rattle.scad_tree.proofs.Numbering.{numbering_holds}
-use Rattle.slice_bool.specs.Outlines.{AreOutlinesOf}
+use Rattle.slice_border.specs.Outlines.{AreOutlinesOf}
 use Rattle.slice_layer.specs.Outlines.{AreLayerOutlines}
 use Rattle.slice_layer.specs.Membership.{HoldCentres}
 use Rattle.slice_layer.specs.Border.{AreNearSectionBorder}

@@ -1,7 +1,7 @@
 -- One more value is found.
 use Rattle.std.proofs.Common.{ℕ, drop, refl, ◌∙◌, arith}
 use Rattle.slice_sweep.specs.Front.{bundles_in}
-use Rattle.slice_bool.specs.Beside.{left_value}
+use Rattle.slice_border.specs.Beside.{left_value}
 use Rattle.slice_outlines.proofs.Valuing.{keeps_all, keeps_more, valued_more}
 use Rattle.slice_outlines.proofs.changing.ask_cursor.Goals as goal
 

@@ -1,7 +1,7 @@
 use Rattle.std.proofs.Common.{◌≡◌, ◌≤◌, ◌<◌, ℕ, drop}
 use Rattle.scad_geom.specs.declared.shape.Shape.{Shape}
 use Rattle.slice_sweep.specs.Front.{bundles_in}
-use Rattle.slice_bool.specs.Beside.{left_value}
+use Rattle.slice_border.specs.Beside.{left_value}
 use Rattle.slice_outlines.specs.Marks.{mark_at}
 use Rattle.slice_outlines.specs.Cursors.{StandOn, StayOn}
 use Rattle.slice_outlines.specs.Heights.{KeepsMarks}

@@ -2,7 +2,7 @@
 use Rattle.std.proofs.Common.{ℕ, drop, ap, ◌∙◌, arith}
 use Rattle.std.specs.Prelude.{Bool}
 use Rattle.slice_sweep.specs.Front.{bundles_in}
-use Rattle.slice_bool.specs.Beside.{left_value}
+use Rattle.slice_border.specs.Beside.{left_value}
 use Rattle.slice_outlines.specs.MarkValue.{valued}
 use Rattle.slice_outlines.proofs.Valuing.{keeps_all, keeps_more, valued_one}
 use Rattle.slice_outlines.proofs.changing.find_values.Goals as goal

@@ -2,7 +2,7 @@
 use Rattle.std.proofs.Common.{◌≡◌, ◌+◌, ◌<◌, List, length, true, refl, ◌∙◌}
 use Rattle.slice_slab.specs.Bundles.{edge_at}
 use Rattle.slice_sweep.specs.declared.change.Change.{Change}
-use Rattle.slice_bool.specs.Pieces.{passes_at}
+use Rattle.slice_border.specs.Pieces.{passes_at}
 use Rattle.slice_outlines.specs.declared.mark.Mark.{Mark}
 use Rattle.slice_outlines.specs.declared.run.Run.{Run}
 use Rattle.slice_outlines.proofs.Counting.{next_fits, count_more}

@@ -6,7 +6,7 @@ use Rattle.scad_geom.specs.Segment.{segments}
 use Rattle.scad_geom.specs.Balance.{IsBalanced}
 use Rattle.slice_snap.specs.Cancelling.{AreCancelled}
 use Rattle.slice_loops.specs.Outlines.{AreOutlines}
-use Rattle.slice_bool.specs.Outlines.{AreOutlinesOf}
+use Rattle.slice_border.specs.Outlines.{AreOutlinesOf}
 use Rattle.sweep_laws.proofs.ClosedEdges.{merged_edges_are_balanced}
 use Rattle.sweep_laws.proofs.Sweeping.{merged_edges_make_outlines}
 use Rattle.slice_outlines.proofs.outlining.joined.Goals as goal

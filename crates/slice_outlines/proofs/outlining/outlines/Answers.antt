@@ -1,6 +1,6 @@
 -- What holds of all outlines that meet the definition.
-use Rattle.slice_bool.proofs.Membership.{outlines_hold_centres}
-use Rattle.slice_bool.proofs.NearBorder.{outlines_are_near_border}
+use Rattle.slice_border.proofs.Membership.{outlines_hold_centres}
+use Rattle.slice_border.proofs.NearBorder.{outlines_are_near_border}
 use Rattle.slice_outlines.proofs.outlining.outlines.Goals as goal
 
 pub returns-in-Ok-joined-clause-centres : goal.returns-in-Ok-joined-clause-centres

@@ -2,10 +2,10 @@
 use Rattle.std.proofs.Common.{◌≡◌, ◌++◌, ◌∷◌, [], List, rules, ap, ap₂, ◌∙◌, append_assoc}
 use Rattle.scad_geom.proofs.Casts.{casts}
 use Rattle.slice_snap.specs.declared.piece.Spot.{Spot}
-use Rattle.slice_bool.specs.Pieces.{whole_spot}
-use Rattle.slice_outlines.specs.declared.spot.Stop.{Stop}
-use Rattle.slice_outlines.specs.Stops.{spots_in}
-use Rattle.slice_outlines.proofs.Stopping.{spots-append}
+use Rattle.slice_border.specs.Pieces.{whole_spot}
+use Rattle.slice_border.specs.declared.stop.Stop.{Stop}
+use Rattle.slice_border.specs.Stops.{spots_in}
+use Rattle.slice_border.proofs.Stopping.{spots-append}
 use Rattle.slice_outlines.proofs.stops.push_ends.Goals as goal
 
 pub returns : goal.returns

@@ -2,9 +2,10 @@
 use Rattle.std.proofs.Common.{◌+◌, ◌++◌, ◌∷◌, [], ℕ, List, drop, sym, ap, ◌∙◌, append_assoc}
 use Rattle.std.proofs.lemmas.List.{append-nil, at_drop_more, drop_all}
 use Rattle.slice_snap.specs.declared.piece.Spot.{Spot}
-use Rattle.slice_bool.specs.Pieces.{whole_spot}
+use Rattle.slice_border.specs.Pieces.{whole_spot}
 use Rattle.slice_outlines.specs.declared.flat.Flat.{Flat}
-use Rattle.slice_outlines.specs.Stops.{spots_in, flat_spots}
+use Rattle.slice_border.specs.Stops.{spots_in}
+use Rattle.slice_outlines.specs.Stops.{flat_spots}
 use Rattle.slice_outlines.proofs.stops.push_flats.Goals as goal
 
 pub flats-preserved : goal.flats-preserved

@@ -1,5 +1,6 @@
 use Rattle.std.proofs.Common.{◌≡◌, ◌++◌, drop}
-use Rattle.slice_outlines.specs.Stops.{spots_in, flat_spots}
+use Rattle.slice_border.specs.Stops.{spots_in}
+use Rattle.slice_outlines.specs.Stops.{flat_spots}
 use Rattle.slice_outlines.proofs.stops.push_flats.Given as goal
 
 abbrev pub invariant-flats : goal.invariant-flats

@@ -2,11 +2,12 @@
 use Rattle.std.proofs.Common.{◌+◌, ◌++◌, ◌∷◌, ℕ, List, drop, sym, ap, ◌∙◌}
 use Rattle.std.proofs.lemmas.List.{append-nil, at_drop_more, drop_all}
 use Rattle.slice_snap.specs.declared.piece.Spot.{Spot}
-use Rattle.slice_outlines.specs.declared.spot.Stop.{Stop}
+use Rattle.slice_border.specs.declared.stop.Stop.{Stop}
 use Rattle.slice_outlines.specs.declared.mark.Mark.{Mark}
 use Rattle.slice_outlines.specs.Marks.{no_mark}
-use Rattle.slice_outlines.specs.Stops.{spots_in, mark_spots}
-use Rattle.slice_outlines.proofs.Stopping.{kept_step}
+use Rattle.slice_border.specs.Stops.{spots_in}
+use Rattle.slice_outlines.specs.Stops.{mark_spots}
+use Rattle.slice_border.proofs.Stopping.{kept_step}
 use Rattle.slice_outlines.proofs.stops.push_strands.Goals as goal
 
 pub marks-preserved : goal.marks-preserved

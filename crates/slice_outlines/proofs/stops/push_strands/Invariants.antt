@@ -1,5 +1,6 @@
 use Rattle.std.proofs.Common.{◌≡◌, ◌++◌, drop}
-use Rattle.slice_outlines.specs.Stops.{spots_in, mark_spots}
+use Rattle.slice_border.specs.Stops.{spots_in}
+use Rattle.slice_outlines.specs.Stops.{mark_spots}
 use Rattle.slice_outlines.proofs.stops.push_strands.Given as goal
 
 abbrev pub invariant-marks : goal.invariant-marks

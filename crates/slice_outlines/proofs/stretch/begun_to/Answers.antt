@@ -3,7 +3,7 @@ use Rattle.std.proofs.Common.{ℕ, List, sym, ◌∙◌, subst, arith}
 use Rattle.std.specs.List.{All}
 use Rattle.std.proofs.lemmas.List.{get_or_read, drop_more, drop_all}
 use Rattle.std.proofs.lemmas.List.Elements.{All-nil}
-use Rattle.slice_bool.specs.Pieces.{whole_spot, IsLeft}
+use Rattle.slice_border.specs.Pieces.{whole_spot, IsLeft}
 use Rattle.slice_outlines.specs.declared.flat.Flat.{Flat}
 use Rattle.slice_outlines.specs.Along.{BeginsBy, StartsAfter}
 use Rattle.slice_outlines.proofs.Parts.{part_none, all_part_more}

@@ -4,8 +4,8 @@ use Rattle.std.specs.Ordering.{is_lt}
 use Rattle.std.specs.Prelude.{ℤ, pos, ◌*ℤ◌}
 use Rattle.scad_base.proofs.Tests.{is_lt-int_cmp}
 use Rattle.slice_snap.specs.declared.piece.Spot.{Spot}
-use Rattle.slice_bool.specs.Pieces.{whole_spot}
-use Rattle.slice_bool.specs.Stops.{is_left}
+use Rattle.slice_border.specs.Pieces.{whole_spot}
+use Rattle.slice_border.specs.Stops.{is_left}
 use Rattle.slice_outlines.proofs.Joining.{whole_cast}
 use Rattle.slice_outlines.proofs.stretch.goes_on.Goals as goal
 

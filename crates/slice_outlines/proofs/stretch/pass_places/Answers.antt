@@ -1,12 +1,12 @@
 -- Its stops are found, then they are passed.
 use Rattle.std.proofs.Common.{◌++◌, [], List, sym, subst}
 use Rattle.std.specs.List.{AllByRecursion}
-use Rattle.slice_bool.specs.Pieces.{HasSpot}
+use Rattle.slice_border.specs.Pieces.{HasSpot}
 use Rattle.slice_outlines.specs.declared.mark.Mark.{Mark}
 use Rattle.slice_outlines.specs.declared.flat.Flat.{Flat}
-use Rattle.slice_outlines.specs.declared.spot.Stop.{Stop}
+use Rattle.slice_border.specs.declared.stop.Stop.{Stop}
 use Rattle.slice_outlines.specs.Marks.{spot_at}
-use Rattle.slice_outlines.specs.Stops.{spots_in}
+use Rattle.slice_border.specs.Stops.{spots_in}
 use Rattle.slice_outlines.specs.Heights.{marks_of}
 use Rattle.slice_outlines.specs.Along.{HasComeOver}
 use Rattle.slice_outlines.specs.Stretch.{AreStopsAt, TellWays}

@@ -4,9 +4,9 @@ use Rattle.std.proofs.lemmas.List.{append-nil, drop_all, take_all}
 use Rattle.slice_snap.specs.declared.piece.Spot.{Spot}
 use Rattle.slice_outlines.specs.declared.mark.Mark.{Mark}
 use Rattle.slice_outlines.specs.declared.run.Run.{Run}
-use Rattle.slice_outlines.specs.declared.spot.Stop.{Stop}
+use Rattle.slice_border.specs.declared.stop.Stop.{Stop}
 use Rattle.slice_outlines.specs.declared.flat.Flat.{Flat}
-use Rattle.slice_outlines.specs.Stops.{spots_in}
+use Rattle.slice_border.specs.Stops.{spots_in}
 use Rattle.slice_outlines.specs.Along.{HasComeOver, HasComeAlong}
 use Rattle.slice_outlines.specs.Stretch.{Waits}
 use Rattle.slice_outlines.proofs.Onward.{come_as}

@@ -6,7 +6,7 @@ use Rattle.slice_sweep.specs.Front.{bundles_in}
 use Rattle.slice_outlines.specs.declared.mark.Mark.{Mark}
 use Rattle.slice_outlines.specs.declared.flat.Flat.{Flat}
 use Rattle.slice_outlines.specs.declared.height.Height.{Height}
-use Rattle.slice_outlines.specs.Stops.{spots_in, AreStopsOf}
+use Rattle.slice_border.specs.Stops.{spots_in, AreStopsOf}
 use Rattle.slice_outlines.specs.Cursors.{StandOn}
 use Rattle.slice_outlines.specs.Heights.{AreValuedIn}
 use Rattle.slice_outlines.specs.Stretch.{stretch_spots}

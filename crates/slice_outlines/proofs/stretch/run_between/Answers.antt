@@ -1,7 +1,7 @@
 -- From those that lie to the left of the first place to those that don't lie to the right of the last.
 use Rattle.std.proofs.Common.{◌≡◌, ap, ◌∙◌}
 use lib.IntN.{ℤ}
-use Rattle.slice_bool.specs.Pieces.{whole_spot}
+use Rattle.slice_border.specs.Pieces.{whole_spot}
 use Rattle.slice_outlines.proofs.Joining.{whole_cast}
 use Rattle.slice_outlines.proofs.StrandSearch.{lie_between, from_then_to}
 use Rattle.slice_outlines.proofs.stretch.run_between.Goals as goal

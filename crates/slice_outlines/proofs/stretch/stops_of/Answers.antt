@@ -1,7 +1,8 @@
 -- The stops are those of the parts.
 use Rattle.std.proofs.Common.{◌++◌, ◌-◌, List, take, drop, subst}
 use Rattle.slice_outlines.specs.declared.mark.Mark.{Mark}
-use Rattle.slice_outlines.specs.Stops.{spots_in, mark_spots, flat_spots, AreStopsOf}
+use Rattle.slice_border.specs.Stops.{spots_in, AreStopsOf}
+use Rattle.slice_outlines.specs.Stops.{mark_spots, flat_spots}
 use Rattle.slice_outlines.proofs.StretchStops.{stops_at}
 use Rattle.slice_outlines.proofs.stretch.stops_of.Goals as goal
 

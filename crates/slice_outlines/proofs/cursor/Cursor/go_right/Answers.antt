@@ -3,7 +3,7 @@ use Rattle.std.proofs.Common.{◌<◌, ℕ, List, [], length, refl, sym, subst, 
 use Rattle.std.specs.List.{All}
 use Rattle.scad_geom.specs.declared.shape.Shape.{Shape}
 use Rattle.slice_sweep.specs.Front.{bundles_in}
-use Rattle.slice_bool.proofs.BundleValues.{there_at}
+use Rattle.slice_border.proofs.BundleValues.{there_at}
 use Rattle.slice_outlines.proofs.Standing.{small_at, stands_right}
 use Rattle.slice_outlines.proofs.cursor.Cursor.go_right.Goals as goal
 

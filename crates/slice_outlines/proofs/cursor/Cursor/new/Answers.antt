@@ -2,7 +2,7 @@
 use Rattle.std.proofs.Common.{ℕ, List, sym, ap, subst, arith}
 use Rattle.std.specs.List.{concat}
 use Rattle.std.proofs.lemmas.List.{drop_all}
-use Rattle.slice_outlines.specs.Tallies.{Tells}
+use Rattle.slice_border.specs.Keeping.{Tells}
 use Rattle.slice_outlines.proofs.cursor.Cursor.new.Goals as goal
 
 pub returns : goal.returns

@@ -3,7 +3,7 @@ use Rattle.std.proofs.Common.{ℕ, List, drop, ap, ◌∙◌}
 use Rattle.std.specs.List.{concat}
 use Rattle.scad_geom.specs.declared.shape.Shape.{Shape}
 use Rattle.slice_sweep.specs.Front.{bundles_in}
-use Rattle.slice_bool.specs.Beside.{left_value}
+use Rattle.slice_border.specs.Beside.{left_value}
 use Rattle.slice_outlines.proofs.Standing.{arrives}
 use Rattle.slice_outlines.proofs.cursor.Cursor.value_at.Goals as goal
 

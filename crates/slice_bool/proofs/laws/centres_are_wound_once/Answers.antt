@@ -1,5 +1,0 @@
-use Rattle.slice_bool.proofs.Centre.{centres_are_wound_once, centres_are_held}
-use Rattle.slice_bool.proofs.laws.centres_are_wound_once.Goals as goal
-
-pub returns : goal.returns
-returns c = record { wound = centres_are_wound_once; held = centres_are_held }

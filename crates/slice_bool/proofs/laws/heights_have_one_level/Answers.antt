@@ -1,5 +1,0 @@
-use Rattle.slice_bool.proofs.Ends.{heights_have_one_level}
-use Rattle.slice_bool.proofs.laws.heights_have_one_level.Goals as goal
-
-pub returns : goal.returns
-returns c = heights_have_one_level

@@ -1,5 +1,0 @@
-use Rattle.slice_bool.proofs.NearBorder.{outlines_are_near_border}
-use Rattle.slice_bool.proofs.laws.outlines_are_near_border.Goals as goal
-
-pub returns : goal.returns
-returns c = outlines_are_near_border

@@ -1,5 +1,0 @@
-use Rattle.slice_bool.proofs.Membership.{outlines_hold_points, outlines_hold_centres}
-use Rattle.slice_bool.proofs.laws.outlines_hold.Goals as goal
-
-pub returns : goal.returns
-returns c = record { points = outlines_hold_points; centres = outlines_hold_centres }

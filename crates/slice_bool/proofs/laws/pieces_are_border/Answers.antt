@@ -1,5 +1,0 @@
-use Rattle.slice_bool.proofs.BorderPoints.{pieces_are_border}
-use Rattle.slice_bool.proofs.laws.pieces_are_border.Goals as goal
-
-pub returns : goal.returns
-returns c = pieces_are_border

@@ -1,5 +1,0 @@
-use Rattle.slice_bool.proofs.Cover.{stretches_are_covered}
-use Rattle.slice_bool.proofs.laws.stretches_are_covered.Goals as goal
-
-pub returns : goal.returns
-returns c = stretches_are_covered
