@@ -14,7 +14,7 @@ use Rattle.scad_tree.specs.Solid.{Solid}
 use Rattle.scad_tree.specs.Sections.{tree_section}
 use Rattle.slice_border.specs.BorderPoints.{IsBorderPoint}
 use Rattle.slice_border.specs.NearBorder.{IsNearBorder}
-use Rattle.slice_bool.proofs.NearBorder as border
+use Rattle.slice_border.proofs.NearBorder as border
 use Rattle.slice_layer.specs.Outlines.{StandsFor}
 use Rattle.slice_layer.specs.Border.{section_holds, IsSectionBorder, IsNearSectionBorder}
 use Rattle.slice_layer.specs.Laws.{OutlinesAreNearBorder}

@@ -27,7 +27,7 @@ use Rattle.scad_tree.specs.LeafNumbers.{surface_at}
 use Rattle.scad_tree.specs.Sections.{tree_section}
 use Rattle.scad_tree.specs.Containment.{contained_at}
 use Rattle.slice_border.specs.Membership.{IsClearByHalf}
-use Rattle.slice_bool.proofs.Membership as border
+use Rattle.slice_border.proofs.Membership as border
 use Rattle.scad_tree.specs.Solids.{AreClosed}
 use Rattle.slice_layer.specs.Outlines.{StandsFor}
 use Rattle.slice_layer.specs.Cuts.{cuts_at, IsClearOfCuts}
