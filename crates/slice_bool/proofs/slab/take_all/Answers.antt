@@ -1,5 +1,5 @@
 -- Each bundle's edges leave, from left to right.
-use Rattle.std.proofs.Common.{◌+◌, ◌<◌, ℕ, List, ◌++◌, length, get_or, drop, sym, ap, ◌∙◌, subst, arith}
+use Rattle.std.proofs.Common.{◌+◌, ◌<◌, ℕ, List, ◌++◌, length, drop, sym, ap, ◌∙◌, subst}
 use Rattle.std.specs.List.{All, concat}
 use Rattle.std.proofs.lemmas.List.{at_drop_more, drop_all}
 use Rattle.slice_border.specs.Keeping.{Tells, AreSmall}

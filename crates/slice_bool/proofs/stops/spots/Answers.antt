@@ -1,5 +1,5 @@
 -- Each edge gives its spots.
-use Rattle.std.proofs.Common.{◌≡◌, ◌++◌, ◌+◌, drop, get_or, sym, ap, ◌∙◌, List, append_assoc}
+use Rattle.std.proofs.Common.{◌++◌, ◌+◌, drop, get_or, sym, ap, ◌∙◌, List, append_assoc}
 use Rattle.std.proofs.lemmas.List.{append-nil, at_drop_more, drop_all}
 use Rattle.scad_geom.specs.declared.level.LeafEdge.{LeafEdge}
 use Rattle.slice_slab.specs.Bundles.{no_edge}
