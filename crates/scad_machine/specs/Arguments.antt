@@ -70,9 +70,13 @@ abbrev pub statements : Items → ℕ
 statements no_items = 0
 statements (entry i more) = (if is_statement i then 1 else 0) + statements more
 
--- their number as a value, or 1,000,000,000 where there are more
+-- at most so many children are counted
+abbrev pub child_limit : ℕ
+child_limit = 1000000000
+
+-- their number as a value, or the limit where there are more
 abbrev pub number_of_children : Items → Datum
-number_of_children all = number (pos (min (statements all) 1000000000 * 1000000))
+number_of_children all = number (pos (min (statements all) child_limit * 1000000))
 
 -- where a call keeps children, `$children` is their number, also over a parameter of that name
 unfoldable pub with_children : Children → Bound → Bound

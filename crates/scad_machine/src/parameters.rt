@@ -17,6 +17,9 @@ use scad_num::Num;
 use scad_value::Value;
 use std::alloc::{AllocError, Global};
 
+/// At most so many children are counted.
+const CHILD_LIMIT: u64 = 1_000_000_000;
+
 /// Whether a call takes an argument of the name.
 fn takes(params: &ParameterNames, name: &[u8]) -> bool
     ensures { result ≡ is_parameter name.now (names_in params.now) || is_dollar name.now }
@@ -128,8 +131,8 @@ pub(crate) fn number_of_children(all: &Scope) -> Value
             count += 1;
         }
     }
-    let shown = if count > 1_000_000_000 {
-        1_000_000_000
+    let shown = if count > CHILD_LIMIT {
+        CHILD_LIMIT
     } else {
         count
     };
