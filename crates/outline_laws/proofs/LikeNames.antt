@@ -15,7 +15,8 @@ use Rattle.winding_laws.proofs.Sameness.{AreSame, are_same, one_axis}
 use Rattle.slice_snap.specs.declared.piece.Spot.{Spot}
 use Rattle.slice_snap.specs.declared.piece.Piece.{Piece}
 use Rattle.slice_snap.specs.Spots.{point_of}
-use Rattle.slice_snap.specs.Inside.{IsBelow, IsLeftOf, AreLevel, IsBetween, IsInside}
+use Rattle.winding_laws.specs.Approach.{AreLevel}
+use Rattle.slice_snap.specs.Inside.{IsBelow, IsLeftOf, IsBetween, IsInside}
 use Rattle.slice_snap.specs.Naming.{IsOnLine, LiesAlong, HasLength, AreApartByName, AllPairs, AreNamed}
 use Rattle.outline_laws.specs.Sameness.{AreSameSpot, AreSamePiece, ArePiecesSame}
 use Rattle.outline_laws.proofs.Same.{pieces_turned}

@@ -10,7 +10,7 @@ use crate::text::Text;
 use std::alloc::{AllocError, Global};
 
 /// What a run keeps within a limit.
-#[derive(Clone, Copy, Debug, PartialEq, Eq)]
+#[derive(Clone, Copy)]
 pub enum BudgetKind {
     /// The bytes of the source.
     SourceLong = 1,
@@ -68,7 +68,7 @@ impl BudgetKind {
 /// A budget that was passed: the place in the source for `Steps` to `Triangles` and `HullPoints`, the count for
 /// `Layers` to `LayerMoves` and `SupportRuns`, the layer for `LayerEdges` to `LayerMoves`. The fields that a kind
 /// does not use are 0.
-#[derive(Clone, Copy, Debug, PartialEq, Eq)]
+#[derive(Clone, Copy)]
 pub struct Budget {
     pub kind: BudgetKind,
     pub at: Place,

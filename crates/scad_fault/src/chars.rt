@@ -5,7 +5,7 @@ use std::alloc::{AllocError, Global};
 use std::marker::Model;
 
 /// Characters, seen by contracts as the list of their code points.
-#[derive(Debug, Drop)]
+#[derive(Drop)]
 pub struct Chars {
     chars: Vec<char>,
 }

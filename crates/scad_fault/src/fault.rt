@@ -9,7 +9,7 @@ use crate::text::Text;
 use std::alloc::{AllocError, Global};
 
 /// Why a source is refused: its text, its names, or what its evaluation gave.
-#[derive(Clone, Copy, Debug, PartialEq, Eq)]
+#[derive(Clone, Copy)]
 pub enum FaultKind {
     /// Bytes that begin no token.
     BadText = 1,
@@ -72,7 +72,7 @@ impl FaultKind {
 
 /// A fault of the source: its kind, its place, and the name that it is about, which is empty where
 /// the kind has none.
-#[derive(Debug, Drop)]
+#[derive(Drop)]
 pub struct Fault {
     pub kind: FaultKind,
     pub at: Place,

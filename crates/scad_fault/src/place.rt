@@ -4,7 +4,7 @@ ghost use Rattle.scad_fault.specs.Place.{no_place, first_place};
 
 /// A place in a source: a line from 1, counted by line feeds, and a column from 1, counted in
 /// bytes. Both are 0 where there is no place.
-#[derive(Clone, Copy, Debug, PartialEq, Eq)]
+#[derive(Clone, Copy)]
 pub struct Place {
     pub line: u32,
     pub col: u32,

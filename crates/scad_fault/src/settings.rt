@@ -8,7 +8,7 @@ use crate::text::Text;
 use std::alloc::{AllocError, Global};
 
 /// Why settings are refused.
-#[derive(Clone, Copy, Debug, PartialEq, Eq)]
+#[derive(Clone, Copy, Debug)]
 pub enum SetKind {
     /// The text is no TOML document.
     NotToml = 1,

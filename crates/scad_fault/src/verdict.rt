@@ -9,7 +9,7 @@ use std::alloc::{AllocError, Global};
 use text_scan::push_number;
 
 /// Why a file is not of the form.
-#[derive(Clone, Copy, Debug, PartialEq, Eq)]
+#[derive(Clone, Copy)]
 pub enum BadKind {
     /// A line of the outlines is no line of the form; its number is told.
     CliLine,

@@ -13,6 +13,7 @@ pub mod CommonDivisor
 pub mod Leaves
 pub mod Balance
 pub mod Places
+pub mod PointOrder
 pub mod Nearest
 mod RoundingExamples
 pub mod Bits

@@ -16,6 +16,7 @@ pub mod Level
 pub mod Meeting
 pub mod Heights
 pub mod EdgeOrder
+pub mod PointOrder
 pub mod Shape
 pub mod Rounding
 pub mod Square

@@ -7,6 +7,7 @@ ghost use Rattle.scad_geom.specs.Point.{whole};
 ghost use Rattle.scad_geom.specs.Winding.{side_by};
 ghost use Rattle.scad_geom.specs.Line.{rise, run, x_at};
 ghost use Rattle.scad_geom.specs.Level.{IsLevelWithin};
+ghost use Rattle.scad_geom.specs.PointOrder.{point_cmp};
 ghost use Rattle.scad_geom.specs.Sign.{sign_of};
 
 use crate::level::Level;
@@ -14,6 +15,13 @@ use crate::line::{rise, run, x_at};
 use crate::point::{Edge, Pt};
 use crate::wide::{minus, span, times};
 use std::cmp::Ordering;
+
+/// The order of two points: by y, then by x.
+pub fn cmp_point(p: Pt, q: Pt) -> Ordering
+    ensures { result ≡ point_cmp p q }
+{
+    p.y.cmp(&q.y).then(p.x.cmp(&q.x))
+}
 
 /// The order of two heights.
 pub fn cmp_level(p: &Level, q: &Level) -> Ordering

@@ -3,7 +3,7 @@ ghost use Rattle.std.specs.Prelude.{◌≡◌, ◌+◌, ◌*◌, ◌≤◌, unsi
 ghost use Rattle.scad_geom.specs.Half.{doubled};
 
 /// Which point a whole point stands for.
-#[derive(Clone, Copy, Debug, PartialEq, Eq)]
+#[derive(Clone, Copy)]
 pub enum Half {
     /// The point itself.
     Whole,

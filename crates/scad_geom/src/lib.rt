@@ -23,7 +23,7 @@ pub mod wide;
 mod winding_number;
 
 pub use area::twice_area;
-pub use compare::{cmp_level, cmp_slope, cmp_x_at, side};
+pub use compare::{cmp_level, cmp_point, cmp_slope, cmp_x_at, side};
 pub use half::Half;
 pub use level::{LeafEdge, Level};
 pub use loops::Loop;

@@ -6,7 +6,7 @@ use crate::point::Pt;
 use std::marker::Model;
 
 /// A closed outline: its vertices in order, where the last is joined to the first.
-#[derive(Debug, Drop)]
+#[derive(Drop)]
 pub struct Loop {
     points: Vec<Pt>,
 }

@@ -6,7 +6,7 @@ use crate::point::Pt;
 use std::marker::Model;
 
 /// A way through its points in order; the last isn't joined to the first.
-#[derive(Debug, Drop)]
+#[derive(Drop)]
 pub struct Path {
     points: Vec<Pt>,
 }

@@ -4,14 +4,14 @@
 pub const COORDINATE_LIMIT: u32 = 1_100_000;
 
 /// A point of a layer, in micrometres.
-#[derive(Clone, Copy, Debug, PartialEq, Eq)]
+#[derive(Clone, Copy, PartialEq, Eq)]
 pub struct Pt {
     pub x: i32,
     pub y: i32,
 }
 
 /// The straight edge that runs from `a` to `b`.
-#[derive(Clone, Copy, Debug, PartialEq, Eq)]
+#[derive(Clone, Copy, PartialEq, Eq)]
 pub struct Edge {
     pub a: Pt,
     pub b: Pt,

@@ -6,7 +6,7 @@ ghost use Rattle.scad_geom.specs.PointRange.{is_in_range};
 pub const POINT_LIMIT: u32 = 1_000_000;
 
 /// A point of a solid, in micrometres.
-#[derive(Clone, Copy, Debug, PartialEq, Eq, PartialOrd, Ord)]
+#[derive(Clone, Copy, PartialEq, Eq, PartialOrd, Ord)]
 pub struct Pt3 {
     pub x: i32,
     pub y: i32,

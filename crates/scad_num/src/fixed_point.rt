@@ -15,7 +15,7 @@ pub(crate) const ONE: i64 = 1_000_000;
 pub(crate) const ONE_PART: u64 = 1_000_000;
 
 /// A number of the language, in whole millionths.
-#[derive(Clone, Copy, Debug, PartialEq, Eq, PartialOrd, Ord, Hash)]
+#[derive(Clone, Copy, PartialEq, Eq, PartialOrd, Ord)]
 pub struct Num {
     millionths: i64,
 }

@@ -28,7 +28,8 @@ use Rattle.slice_snap.specs.declared.piece.Piece.{Piece}
 use Rattle.slice_border.specs.Pieces.{spot_on, piece_between, bundle_piece, slab_pieces, spots_at, IsLeft, GoRight, AreStops, covers, stretch_piece, flat_pieces, AreLevelPieces, ArePieces}
 use Rattle.slice_snap.specs.Spots.{point_of}
 use Rattle.slice_border.specs.BorderPoints.{IsBorderPoint}
-use Rattle.slice_snap.specs.Inside.{IsBelow, IsLeftOf, AreLevel, IsBetween, IsInside}
+use Rattle.winding_laws.specs.Approach.{AreLevel}
+use Rattle.slice_snap.specs.Inside.{IsBelow, IsLeftOf, IsBetween, IsInside}
 use Rattle.scad_base.proofs.Integers.{gap_of_less}
 use Rattle.slice_border.proofs.Middle.{size_of, half_point, lower_scaled, scaled_below, value_right_at, value_left_at, value_right, value_left}
 use Rattle.slice_border.proofs.Slabs.{side_up_is, later_live, later_ranked}

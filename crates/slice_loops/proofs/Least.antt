@@ -14,7 +14,8 @@ use Rattle.std.proofs.lemmas.List.Sorted.{All-permutation}
 use Rattle.scad_geom.specs.declared.point.Pt.{Pt}
 use Rattle.scad_geom.specs.declared.point.Edge.{Edge}
 use Rattle.scad_geom.proofs.Ring.{ring, num, ◌⊕◌, ◌⊗◌, v0, v1}
-use Rattle.slice_loops.specs.Order.{point_cmp, is_less}
+use Rattle.scad_geom.specs.PointOrder.{point_cmp}
+use Rattle.slice_loops.specs.Order.{is_less}
 use Rattle.slice_loops.specs.Drawing.{TakesLeastFrom, LeadsBack, IsLoop}
 use Rattle.slice_loops.specs.Corners.{advance, is_between, last}
 use Rattle.slice_loops.proofs.Straight.{IsAhead, ahead_itself, ahead_on, between_turned, straight, flipped}

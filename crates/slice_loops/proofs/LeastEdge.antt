@@ -1,12 +1,11 @@
 -- The least of the remaining edges that start at a point is the first one not taken from the first place of all that
 -- start there on.
 use Rattle.std.proofs.Common.{◌≡◌, ◌⊎◌, inl, inr, ℕ, ◌+◌, ◌<◌, ◌≤◌, Bool, true, false, true≢false, List, [], ◌∷◌, length, get_or, set, max, refl, sym, ap, ◌∙◌, subst, arith}
-use Rattle.std.specs.Ordering.{int_cmp, ordering_then, ordering_reverse, is_lt}
+use Rattle.std.specs.Ordering.{ordering_then, is_lt}
 use Rattle.std.specs.declared.cmp.Ordering.{Ordering}
 use Rattle.std.specs.declared.cmp.Ordering.TheVariants.{Less, Equal, Greater}
 use Rattle.std.specs.Cmp.{IsStrictWeakOrder}
 use Rattle.std.specs.List.Sorted.{IsPartitionedBy, IsPartitionPoint}
-use Rattle.std.proofs.lemmas.Map.Lookups.{exact_signed}
 use Rattle.std.proofs.lemmas.List.{get_or_default, get_or-set_same, get_or-set_other, length-set}
 use Rattle.std.proofs.lemmas.List.Sorted.{ranks_by}
 use Rattle.std.proofs.lemmas.Bool.{cases_lt}
@@ -14,11 +13,13 @@ use Rattle.scad_geom.specs.declared.point.Pt.{Pt}
 use Rattle.scad_geom.specs.declared.point.Edge.{Edge}
 use Rattle.scad_geom.proofs.Balance.{same_place, same_place-is, same_place-itself}
 use Rattle.slice_loops.specs.declared.remainder.Remaining.{Remaining}
-use Rattle.slice_loops.specs.Order.{point_cmp, is_less, starts_before}
+use Rattle.scad_geom.specs.PointOrder.{point_cmp}
+use Rattle.scad_geom.proofs.PointOrder.{point_total, neither}
+use Rattle.scad_geom.proofs.PointOrder.{same_point as equal_points}
+use Rattle.slice_loops.specs.Order.{is_less, starts_before}
 use Rattle.slice_loops.specs.Drawing.{TakesLeastFrom}
 use Rattle.slice_loops.specs.Ascending.{IsAscending, NoneStarts}
 use Rattle.slice_loops.specs.Remaining.{remaining, taken_at, IsInOrder, IsUntaken, IsFirstUntaken, Takes}
-use Rattle.slice_loops.proofs.Points.{point_total}
 use Rattle.slice_loops.proofs.Marks.{not_less_later, all_untaken, taken_out, others, still, now_taken, in_order}
 
 -- ---- the order of starts
@@ -41,22 +42,9 @@ starts_later es i j d up l m = by_start (point_cmp (get_or es j d).a (get_or es 
 not_before_itself : (p : Pt) → comes_before p p ≡ true → ⊥
 not_before_itself p h = true≢false (sym h ∙ point_order.one_way p p h)
 
-both_equal : (r s : Ordering) → ordering_then r s ≡ Equal → (r ≡ Equal) × (s ≡ Equal)
-both_equal Less s h = absurd (cc)
-both_equal Equal s h = (refl, h)
-both_equal Greater s h = absurd (cc)
-
-neither : (r : Ordering) → is_lt r ≡ false → is_lt (ordering_reverse r) ≡ false → r ≡ Equal
-neither Less a b = absurd (true≢false a)
-neither Equal a b = refl
-neither Greater a b = absurd (true≢false b)
-
 same_point : (p q : Pt) → comes_before p q ≡ false → comes_before q p ≡ false → p ≡ q
 same_point p q h k =
-    let both = both_equal (int_cmp p.y q.y) (int_cmp p.x q.x) (neither (point_cmp p q) h (ap is_lt (sym (point_total.antisymm q p)) ∙ k)) in
-    let y : p.y ≡ q.y = exact_signed p.y q.y both.0 in
-    let x : p.x ≡ q.x = exact_signed p.x q.x both.1 in
-    λ i. record { x = x i; y = y i }
+    equal_points p q (neither (point_cmp p q) h (ap is_lt (sym (point_total.antisymm q p)) ∙ k))
 
 -- ---- the edges that start before a point stand before the others
 pub parted : (p : Pt) (es : List Edge) → IsAscending es → IsPartitionedBy (starts_before p) es

@@ -1,9 +1,9 @@
 -- Marks tell which edges of a list are taken: one more mark takes one more edge out of those that remain.
 use Rattle.std.proofs.Common.{◌≡◌, ℕ, zero, suc, ◌+◌, ◌<◌, ◌≤◌, ◌⊎◌, inl, inr, Bool, true, false, true≢false, List, [], ◌∷◌, length, get_or, set, replicate, All, refl, sym, ap, ◌∙◌, subst, arith}
-use Rattle.std.specs.Prelude.{IsSortedBy, IsPermutation}
+use Rattle.std.specs.Prelude.{IsPermutation}
 use Rattle.std.proofs.lemmas.List.{get_or_default, get_or-set_same, length-set}
 use Rattle.std.proofs.lemmas.List.Elements.{All-nil, All-cons}
-use Rattle.std.proofs.lemmas.List.Sorted.{sorted_far, IsPermutation-refl, IsPermutation-trans, IsPermutation-cons, IsPermutation-middle, length_permutation}
+use Rattle.std.proofs.lemmas.List.Sorted.{IsPermutation-refl, IsPermutation-trans, IsPermutation-cons, IsPermutation-middle, length_permutation}
 use Rattle.std.proofs.lemmas.Bool.{cases_lt}
 use Rattle.scad_geom.specs.declared.point.Edge.{Edge}
 use Rattle.slice_loops.specs.declared.remainder.Remaining.{Remaining}
@@ -11,20 +11,8 @@ use Rattle.slice_loops.specs.Order.{is_less}
 use Rattle.slice_loops.specs.Drawing.{TakesLeast}
 use Rattle.slice_loops.specs.Ascending.{IsAscending}
 use Rattle.slice_loops.specs.Remaining.{untaken, remaining, taken_at, IsInOrder, IsUntaken, AllTakenTo, Takes, StayTaken}
-use Rattle.slice_loops.proofs.Points.{less_order}
 
 -- ---- edges in ascending order
-ascending_from : (es : List Edge) → ((i j : ℕ) (d : Edge) → i ≤ j → j < length es
-    → is_less (get_or es j d) (get_or es i d) ≡ false) → IsAscending es
-ascending_from [] h = tt
-ascending_from (e ∷ es) h = (
-  λ k d l. h zero (suc k) d (omega arith) (omega arith),
-  ascending_from es (λ i j d a b. h (suc i) (suc j) d (omega arith) (omega arith)),
-)
-
-pub ascending_sorted : (es : List Edge) → IsSortedBy is_less es → IsAscending es
-ascending_sorted es h = ascending_from es (sorted_far is_less less_order es h)
-
 pub not_less_later : (es : List Edge) (i j : ℕ) (d : Edge) → IsAscending es → i < j → j < length es
     → is_less (get_or es j d) (get_or es i d) ≡ false
 not_less_later [] i j d up l m = absurd (omega arith)

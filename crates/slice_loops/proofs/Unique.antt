@@ -1,10 +1,9 @@
 -- The loops that are drawn from edges are one list of loops, in whatever order the edges stand.
 use Rattle.std.proofs.Common.{◌≡◌, ℕ, ◌+◌, ◌<◌, Bool, true, false, List, [], ◌∷◌, refl, sym, ap, ap₂, ◌∙◌, subst, arith, All}
 use Rattle.std.specs.Prelude.{⊤, IsPermutation, sum_by}
-use Rattle.std.specs.Ordering.{is_lt, int_cmp, ordering_reverse}
+use Rattle.std.specs.Ordering.{is_lt, ordering_reverse}
 use Rattle.std.specs.declared.cmp.Ordering.{Ordering}
 use Rattle.std.specs.declared.cmp.Ordering.TheVariants.{Less, Equal, Greater}
-use Rattle.std.proofs.lemmas.Map.Lookups.{exact_signed}
 use Rattle.std.proofs.lemmas.List.Elements.{All-cons, All-head, All-tail}
 use Rattle.std.proofs.lemmas.List.Sums.{sum_by-cons}
 use Rattle.std.proofs.lemmas.List.Sorted.{sum_by-IsPermutation}
@@ -13,7 +12,9 @@ use Rattle.scad_geom.specs.declared.point.Pt.{Pt}
 use Rattle.scad_geom.specs.declared.point.Edge.{Edge}
 use Rattle.scad_geom.proofs.Balance.{once}
 use Rattle.scad_geom.proofs.Places.{same_edge, same_edge_then_equal, same_edge_itself}
-use Rattle.slice_loops.specs.Order.{point_cmp, edge_cmp, is_less}
+use Rattle.scad_geom.specs.PointOrder.{point_cmp}
+use Rattle.scad_geom.proofs.PointOrder.{same_point}
+use Rattle.slice_loops.specs.Order.{edge_cmp, is_less}
 use Rattle.slice_loops.specs.Drawing.{TakesLeastFrom, LeadsBack, IsLoop, AreDrawn}
 use Rattle.slice_loops.specs.Outlines.{outlines_of}
 use Rattle.slice_loops.specs.Laws.{LoopsAreOne, OutlinesAreOne}
@@ -21,18 +22,11 @@ use Rattle.slice_loops.proofs.Points.{edge_total}
 use Rattle.scad_base.proofs.Tests.{both_equal}
 
 -- ---- edges that the order doesn't tell apart are one
-point_exact : (p q : Pt) → point_cmp p q ≡ Equal → p ≡ q
-point_exact p q e =
-    let both = both_equal (int_cmp p.y q.y) (int_cmp p.x q.x) e in
-    let y = exact_signed _ _ both.0 in
-    let x = exact_signed _ _ both.1 in
-    λ i. record { x = x i; y = y i }
-
 edge_exact : (e f : Edge) → edge_cmp e f ≡ Equal → e ≡ f
 edge_exact e f h =
     let both = both_equal (point_cmp e.a f.a) (point_cmp e.b f.b) h in
-    let a = point_exact e.a f.a both.0 in
-    let b = point_exact e.b f.b both.1 in
+    let a = same_point e.a f.a both.0 in
+    let b = same_point e.b f.b both.1 in
     λ i. record { a = a i; b = b i }
 
 tied : (r s : Ordering) → r ≡ ordering_reverse s → is_lt r ≡ false → is_lt s ≡ false → r ≡ Equal

@@ -1,13 +1,10 @@
 -- The order of edges: by start y, start x, end y, end x.
 use Rattle.std.specs.Prelude.{Bool}
-use Rattle.std.specs.Ordering.{int_cmp, ordering_then, is_lt}
+use Rattle.std.specs.Ordering.{ordering_then, is_lt}
 use Rattle.std.specs.declared.cmp.Ordering.{Ordering}
 use Rattle.scad_geom.specs.declared.point.Pt.{Pt}
 use Rattle.scad_geom.specs.declared.point.Edge.{Edge}
-
--- the order of points: by y, then by x
-abbrev pub point_cmp : Pt → Pt → Ordering
-point_cmp p q = ordering_then (int_cmp p.y q.y) (int_cmp p.x q.x)
+use Rattle.scad_geom.specs.PointOrder.{point_cmp}
 
 -- the order of edges: by their starts, then by their ends
 abbrev pub edge_cmp : Edge → Edge → Ordering

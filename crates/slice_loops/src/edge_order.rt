@@ -1,10 +1,10 @@
 //! Edges in ascending order: by start y, start x, end y, end x.
 ghost use Rattle.std.specs.Prelude.{◌≡◌};
 ghost use Rattle.std.specs.List.Sorted.{IsPermutation};
-ghost use Rattle.slice_loops.specs.Order.{point_cmp, edge_cmp};
+ghost use Rattle.slice_loops.specs.Order.{edge_cmp};
 ghost use Rattle.slice_loops.specs.Ascending.{IsAscending};
 
-use scad_geom::{Edge, Pt};
+use scad_geom::{Edge, cmp_point};
 use std::cmp::Ordering;
 
 pub(crate) fn sort(edges: &mut Vec<Edge>)
@@ -17,11 +17,5 @@ pub(crate) fn sort(edges: &mut Vec<Edge>)
 fn compare(e: &Edge, f: &Edge) -> Ordering
     ensures { result ≡ edge_cmp e.now f.now }
 {
-    compare_points(e.a, f.a).then(compare_points(e.b, f.b))
-}
-
-pub(crate) fn compare_points(p: Pt, q: Pt) -> Ordering
-    ensures { result ≡ point_cmp p q }
-{
-    p.y.cmp(&q.y).then(p.x.cmp(&q.x))
+    cmp_point(e.a, f.a).then(cmp_point(e.b, f.b))
 }

@@ -6,8 +6,8 @@ ghost use Rattle.slice_loops.specs.Drawing.{TakesLeastFrom};
 ghost use Rattle.slice_loops.specs.Ascending.{IsAscending, NoneStarts};
 ghost use Rattle.slice_loops.specs.Remaining.{remaining, IsInOrder, IsUntaken, Takes, StayTaken, IsFirstUntaken};
 
-use crate::edge_order::{compare_points, sort};
-use scad_geom::{Edge, Pt};
+use crate::edge_order::sort;
+use scad_geom::{Edge, Pt, cmp_point};
 use std::alloc::{AllocError, Global};
 
 /// Edges in ascending order, of which some are taken.
@@ -84,7 +84,7 @@ fn first_from(edges: &[Edge], at: Pt) -> usize
     requires { IsAscending edges.now }
     ensures { IsPartitionPoint (λ e. starts_before at e ≡ true) (λ e. starts_before at e ≡ false) edges.now result }
 {
-    edges.partition_point(|e| compare_points(e.a, at).is_lt())
+    edges.partition_point(|e| cmp_point(e.a, at).is_lt())
 }
 
 // The first place from one on whose edge isn't taken.

@@ -1,37 +1,18 @@
-//! Places where edges meet a height, rounded.
-ghost use Rattle.std.specs.Prelude.{◌≡◌, ◌≤◌, ◌*◌, pos, ◌*ℤ◌, true, unsigned_abs};
+//! Places where edges pass a height, rounded.
+ghost use Rattle.std.specs.Prelude.{◌≡◌, ◌*ℤ◌, true};
 ghost use Rattle.std.specs.Ordering.{int_eq};
 ghost use Rattle.scad_geom.specs.Limits.{coordinate_limit};
 ghost use Rattle.scad_geom.specs.Within.{IsWithin, IsEdgeWithin};
 ghost use Rattle.scad_geom.specs.Level.{IsLevelWithin};
 ghost use Rattle.winding_laws.specs.Edges.{rounded};
-ghost use Rattle.slice_snap.specs.Spots.{point_of, IsSpotWithin};
+ghost use Rattle.slice_snap.specs.Spots.{point_of};
 ghost use Rattle.slice_border.specs.Pieces.{spot_on, passes_at};
 
 use scad_geom::line::{high, low};
 use scad_geom::wide::times;
-use scad_geom::{Edge, Level, Pt, round_half_down};
-use slice_border::{Stop, spot_on};
-
-/// The nearest whole point.
-pub(crate) fn rounded(s: &Stop) -> Pt
-    requires { IsSpotWithin coordinate_limit s.now.spot }
-    ensures { result ≡ rounded (point_of s.now.spot) }
-{
-    let d = times::<44, 22>(s.spot.at.d, s.spot.run as i128);
-    Pt {
-        x: round_half_down(s.spot.x, d),
-        y: round_half_down(height(s), d),
-    }
-}
-
-fn height(s: &Stop) -> i128
-    requires { IsSpotWithin coordinate_limit s.now.spot }
-    ensures value { result ≡ s.now.spot.at.n *ℤ pos s.now.spot.run }
-    ensures size { unsigned_abs result ≤ coordinate_limit * unsigned_abs (s.now.spot.at.d *ℤ pos s.now.spot.run) }
-{
-    times::<64, 22>(s.spot.at.n, s.spot.run as i128)
-}
+use scad_geom::{Edge, Level, Pt};
+use slice_border::spot_on;
+use slice_snap::rounded;
 
 /// Where an edge that isn't flat passes a height, rounded: at an end the end itself.
 pub(crate) fn rounded_on(e: &Edge, at: &Level) -> Pt
@@ -45,7 +26,7 @@ pub(crate) fn rounded_on(e: &Edge, at: &Level) -> Pt
     } else if lies_on(high(e), at) {
         high(e)
     } else {
-        rounded(&spot_on(e, at))
+        rounded(&spot_on(e, at).spot)
     }
 }
 

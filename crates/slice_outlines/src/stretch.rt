@@ -28,10 +28,10 @@ use crate::height::{Height, Open};
 use crate::mark::{Mark, begin, value_at};
 use crate::passing::{Beside, pass_strands};
 use crate::run::Run;
-use crate::spot::rounded;
 use crate::stops::{stop_of, stops};
 use scad_geom::Pt;
 use slice_border::{Stop, compare, whole_spot};
+use slice_snap::rounded;
 use std::alloc::{AllocError, Global};
 
 /// The strands below a height and above it that lie from one x to another.
@@ -387,7 +387,7 @@ fn beside_of(height: &Height<'_>, kept: &Open, along: &Along, run: &Run, s: &Sto
 {
     let below = value_at(height.below, run.below_to);
     let above = value_above(height, kept, &along.run, run.above_to);
-    let at = rounded(s);
+    let at = rounded(&s.spot);
     Beside {
         below,
         above,

@@ -15,7 +15,8 @@ use Rattle.winding_laws.specs.Nearness.{IsProper}
 use Rattle.winding_laws.proofs.Sameness.{are_same, same_by, are_same_turned}
 use Rattle.slice_snap.specs.declared.piece.Piece.{Piece}
 use Rattle.slice_snap.specs.Spots.{point_of, is_same_spot}
-use Rattle.slice_snap.specs.Inside.{IsBelow, IsLeftOf, AreLevel, IsBetween, IsInside}
+use Rattle.winding_laws.specs.Approach.{AreLevel}
+use Rattle.slice_snap.specs.Inside.{IsBelow, IsLeftOf, IsBetween, IsInside}
 use Rattle.slice_snap.specs.Pieces.{way_of, IsPieceWithin}
 use Rattle.slice_snap.specs.Naming.{LiesAlong, HasLength, AreApart, AreApartByName, AllPairs, AreNamed}
 use Rattle.slice_snap.specs.Merging.{joined, MeetAlone}

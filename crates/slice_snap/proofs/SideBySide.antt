@@ -1,62 +1,32 @@
 -- Edges of one span stand side by side in ascending order, so if the last edge of a list isn't opposite to a greater
 -- one, none is.
 use Rattle.std.proofs.Common.{◌≡◌, ◌⊎◌, inl, inr, ℕ, zero, suc, ◌+◌, ◌<◌, ◌≤◌, ◌-◌, Bool, true, false, true≢false, cond, List, [], ◌∷◌, ◌++◌, length, get_or, take, drop, map, All, refl, sym, ap, ap₂, ◌∙◌, subst, add-one, append-nil, arith}
-use Rattle.std.specs.Prelude.{IsSortedBy, IsPermutation, remove}
-use Rattle.std.specs.Ordering.{int_cmp, ordering_then, ordering_reverse, is_lt}
+use Rattle.std.specs.Prelude.{IsPermutation, remove}
+use Rattle.std.specs.Ordering.{ordering_then, ordering_reverse, is_lt}
 use Rattle.std.specs.declared.cmp.Ordering.{Ordering}
 use Rattle.std.specs.declared.cmp.Ordering.TheVariants.{Less, Equal, Greater}
 use Rattle.std.specs.Cmp.{IsTotalOrder, IsStrictWeakOrder}
-use Rattle.std.proofs.lemmas.Cmp.{int_cmp_total, then_total, on_total}
-use Rattle.std.proofs.lemmas.Map.Lookups.{exact_signed}
+use Rattle.std.proofs.lemmas.Cmp.{then_total, on_total}
 use Rattle.std.proofs.lemmas.List.{take_more, take_all, drop_all, append_assoc}
 use Rattle.std.proofs.Math.Seq.{drop-cons}
 use Rattle.std.proofs.lemmas.List.Elements.{All-nil, All-cons, All-head, All-tail}
-use Rattle.std.proofs.lemmas.List.Sorted.{ranks_by, sorted_far, IsPermutation-trans}
+use Rattle.std.proofs.lemmas.List.Sorted.{ranks_by, IsPermutation-trans}
 use Rattle.scad_geom.specs.declared.point.Pt.{Pt}
 use Rattle.scad_geom.specs.declared.point.Edge.{Edge}
 use Rattle.winding_laws.specs.Edges.{turned}
 use Rattle.slice_snap.specs.Cancelling.{NoneOpposite, AreCancelled, IsOppositeAt}
 use Rattle.slice_snap.proofs.Opposite.{leaves_nothing, one_taken, one_stays}
-use Rattle.slice_snap.specs.Spans.{point_cmp, lesser, greater, span_cmp, is_less, IsAscending}
+use Rattle.scad_base.proofs.Tests.{both_equal}
+use Rattle.scad_geom.specs.PointOrder.{point_cmp}
+use Rattle.scad_geom.proofs.PointOrder.{point_total, same_point, neither}
+use Rattle.slice_snap.specs.Spans.{lesser, greater, span_cmp, is_less, IsAscending}
 
 -- ---- the order
-point_total : IsTotalOrder point_cmp
-point_total = then_total (on_total (λ (p : Pt). p.y) int_cmp_total) (on_total (λ (p : Pt). p.x) int_cmp_total)
-
 span_total : IsTotalOrder span_cmp
 span_total = then_total (on_total lesser point_total) (on_total greater point_total)
 
 pub less_order : IsStrictWeakOrder is_less
 less_order = ranks_by span_total (λ (e : Edge). e)
-
-ascending_from : (es : List Edge) → ((i j : ℕ) (d : Edge) → i ≤ j → j < length es
-    → is_less (get_or es j d) (get_or es i d) ≡ false) → IsAscending es
-ascending_from [] h = tt
-ascending_from (e ∷ es) h = (
-  λ k d l. h zero (suc k) d (omega arith) (omega arith),
-  ascending_from es (λ i j d a b. h (suc i) (suc j) d (omega arith) (omega arith)),
-)
-
-pub ascending_sorted : (es : List Edge) → IsSortedBy is_less es → IsAscending es
-ascending_sorted es h = ascending_from es (sorted_far is_less less_order es h)
-
--- ---- what one order doesn't tell apart
-both_equal : (r s : Ordering) → ordering_then r s ≡ Equal → (r ≡ Equal) × (s ≡ Equal)
-both_equal Less s h = absurd (cc)
-both_equal Equal s h = (refl, h)
-both_equal Greater s h = absurd (cc)
-
-same_point : (p q : Pt) → point_cmp p q ≡ Equal → p ≡ q
-same_point p q h =
-    let both = both_equal (int_cmp p.y q.y) (int_cmp p.x q.x) h in
-    let y : p.y ≡ q.y = exact_signed p.y q.y both.0 in
-    let x : p.x ≡ q.x = exact_signed p.x q.x both.1 in
-    λ i. record { x = x i; y = y i }
-
-neither : (r : Ordering) → is_lt r ≡ false → is_lt (ordering_reverse r) ≡ false → r ≡ Equal
-neither Less a b = absurd (true≢false a)
-neither Equal a b = refl
-neither Greater a b = absurd (true≢false b)
 
 -- ---- an edge and its turned one have one span, and no third edge has it
 module _ (p q : Pt) where

@@ -2,16 +2,14 @@
 use Rattle.std.specs.Prelude.{pos, ◌≡◌, ◌⊎◌, ◌*ℤ◌, ◌<ℤ◌}
 use Rattle.scad_geom.specs.Point.{Point}
 use Rattle.scad_geom.specs.Winding.{side_by}
+use Rattle.winding_laws.specs.Approach.{AreLevel}
 
--- ---- one point lies below another, to its left, at its height
+-- ---- one point lies below another, to its left
 abbrev pub IsBelow : Point → Point → Type 0
 IsBelow p q = (p.y *ℤ q.d) <ℤ (q.y *ℤ p.d)
 
 abbrev pub IsLeftOf : Point → Point → Type 0
 IsLeftOf p q = (p.x *ℤ q.d) <ℤ (q.x *ℤ p.d)
-
-abbrev pub AreLevel : Point → Point → Type 0
-AreLevel p q = p.y *ℤ q.d ≡ q.y *ℤ p.d
 
 -- by one of these orders, p strictly between a and b
 abbrev pub IsBetween : (Point → Point → Type 0) → Point → Point → Point → Type 0

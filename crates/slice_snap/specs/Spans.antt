@@ -1,13 +1,10 @@
 -- The order of edges by their spans, the two points between which they run, whichever way.
-use Rattle.std.specs.Prelude.{◌≡◌, ⊤, Bool, cond, false, List, [], ◌∷◌, All}
-use Rattle.std.specs.Ordering.{int_cmp, ordering_then, is_lt}
+use Rattle.std.specs.Prelude.{Bool, cond, List}
+use Rattle.std.specs.Ordering.{ordering_then, is_lt}
 use Rattle.std.specs.declared.cmp.Ordering.{Ordering}
 use Rattle.scad_geom.specs.declared.point.Pt.{Pt}
 use Rattle.scad_geom.specs.declared.point.Edge.{Edge}
-
--- points by y, then by x
-abbrev pub point_cmp : Pt → Pt → Ordering
-point_cmp p q = ordering_then (int_cmp p.y q.y) (int_cmp p.x q.x)
+use Rattle.scad_geom.specs.PointOrder.{point_cmp, IsAscendingBy}
 
 -- the lesser end of an edge, and the greater one
 abbrev pub lesser : Edge → Pt
@@ -25,5 +22,4 @@ is_less e f = is_lt (span_cmp e f)
 
 -- no edge is less than one before it
 abbrev pub IsAscending : List Edge → Type 0
-IsAscending [] = ⊤
-IsAscending (e ∷ es) = All (λ f. is_less f e ≡ false) es × IsAscending es
+IsAscending edges = IsAscendingBy is_less edges

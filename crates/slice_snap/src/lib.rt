@@ -20,4 +20,4 @@ mod spots;
 pub use cancelling::cancel;
 pub use merging::merge;
 pub use piece::{Piece, Spot};
-pub use rounding::{has_length, round};
+pub use rounding::{has_length, round, rounded};

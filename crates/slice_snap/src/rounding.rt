@@ -50,12 +50,13 @@ pub fn has_length(e: &Edge) -> bool
     e.a != e.b
 }
 
-// The divisor is at most 2.2 * 10^19.
-fn rounded(s: &Spot) -> Pt
+/// The nearest whole point, halves down.
+pub fn rounded(s: &Spot) -> Pt
     requires { IsSpotWithin coordinate_limit s.now }
     ensures value { result ≡ rounded (point_of s.now) }
     ensures within { IsWithin coordinate_limit result }
 {
+    // at most 2.2 * 10^19
     let d = times::<44, 22>(s.at.d, s.run as i128);
     Pt {
         x: round_half_down(s.x, d),

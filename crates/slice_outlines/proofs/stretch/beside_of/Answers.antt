@@ -18,4 +18,4 @@ returns-clause-flat_out c =
     ∙ ap (λ (b : Bool). course_along (least live) b c.value_at-below.result c.rounded-at.result)
     c.value_above-above.ensures
     ∙ ap (λ (b : Bool). course_along (least live) above b c.rounded-at.result) c.value_at-below.ensures
-    ∙ ap (λ (p : Pt). course_along (least live) above below p) c.rounded-at.ensures
+    ∙ ap (λ (p : Pt). course_along (least live) above below p) c.rounded-at.ensures.value
