@@ -11,10 +11,11 @@ use Rattle.std.proofs.lemmas.List.Splits.{slice_split_at, slice_split_none, join
 use Rattle.std.proofs.lemmas.Option.{cond_some}
 use Rattle.std.proofs.lemmas.Slice.Eq.{bytes_eq-Decides}
 use Rattle.scad_geom.specs.declared.point.Pt.{Pt}
+use Rattle.scad_geom.specs.Limits.{coordinate_limit}
+use Rattle.scad_geom.specs.Within.{IsWithin}
 use Rattle.text_scan.specs.Marks.{first_at}
 use Rattle.text_scan.proofs.Pieces.{one_piece, first_piece}
 use Rattle.cli_text.specs.Cli.{point_text}
-use Rattle.cli_read.specs.Form.{IsWithinReach}
 use Rattle.cli_read.specs.Reading.{comma, words, words_behind, behind}
 use Rattle.cli_read.proofs.Numbers.{Lacks, decimal_lacks, signed_lacks, same_bytes}
 
@@ -83,12 +84,12 @@ first_word text at is within = by_size (cases_lt at (length text))
         (sym (ap words_behind (drop_of_length-le text h)))
 
 -- the words of a word and points behind it
-pub words_of_points : (word : List ℕ) (ps : List Pt) → Lacks comma word → AllByRecursion IsWithinReach ps
+pub words_of_points : (word : List ℕ) (ps : List Pt) → Lacks comma word → AllByRecursion (IsWithin coordinate_limit) ps
     → words (word ++ points_text ps) ≡ word ∷ coordinate_words ps
 words_of_points word [] h near = ap words (append-nil word) ∙ one_word word h
 words_of_points word (p ∷ ps) h near =
-    let x = signed_lacks comma p.x (omega arith) near.0.0 in
-    let y = signed_lacks comma p.y (omega arith) near.0.1 in
+    let x = signed_lacks comma p.x (omega arith) near.0.x in
+    let y = signed_lacks comma p.y (omega arith) near.0.y in
     ap (λ (t : List ℕ). words (word ++ t)) (points_text_is p ps)
     ∙ word_more word (signed_decimal p.x ++ comma ∷ (signed_decimal p.y ++ points_text ps)) h
     ∙ ap (λ (ws : List (List ℕ)). word ∷ ws) (word_more (signed_decimal p.x) (signed_decimal p.y ++ points_text ps) x)
@@ -99,7 +100,7 @@ outline_regrouped a b c = simp append_assoc
 
 -- the words of an outline: its direction, the number of its points, and these
 pub words_of_outline : (direction count : ℕ) (ps : List Pt) → direction < 2 ^ 32 → count < 2 ^ 32
-    → AllByRecursion IsWithinReach ps →
+    → AllByRecursion (IsWithin coordinate_limit) ps →
     words (decimal direction ++ codes "," ++ decimal count ++ points_text ps) ≡ decimal direction ∷ decimal count
     ∷ coordinate_words ps
 words_of_outline direction count ps d c near =

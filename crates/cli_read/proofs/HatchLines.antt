@@ -7,10 +7,12 @@ use Rattle.std.proofs.lemmas.Bool.{eqb-true}
 use Rattle.std.proofs.lemmas.Bool.Decides.{nat_tests}
 use Rattle.std.proofs.lemmas.List.Concat.{flat_map-cons}
 use Rattle.scad_geom.specs.declared.point.Pt.{Pt}
+use Rattle.scad_geom.specs.Limits.{coordinate_limit}
+use Rattle.scad_geom.specs.Within.{IsWithin, IsEdgeWithin}
 use Rattle.scad_geom.specs.declared.point.Edge.{Edge}
 use Rattle.cli_text.specs.Cli.{point_text, hatch_text, hatches_start}
 use Rattle.cli_read.specs.declared.fault.CliFault.TheVariants.{BadLine, CountDiffers}
-use Rattle.cli_read.specs.Form.{IsWithinReach, IsHatchWithinReach, AreHatches, IsHatchesLine}
+use Rattle.cli_read.specs.Form.{AreHatches, IsHatchesLine}
 use Rattle.cli_read.specs.Reading.{◌>>=◌, comma, or_bad, words, count_of, points_at, paired_at, some_at, hatched, hatches_at}
 use Rattle.cli_read.proofs.Results.{bind_ok, bound, ok_is, passed, or_bad_ok}
 use Rattle.cli_read.proofs.Numbers.{count_text, count_back, decimal_lacks}
@@ -34,13 +36,15 @@ points_of_hatches (h ∷ hs) =
     ∙ ap (λ (t : List ℕ). point_text h.a ++ t) (sym (flat_map-cons point_text h.b (ends_of hs)))
     ∙ sym (flat_map-cons point_text h.a (h.b ∷ ends_of hs))
 
-pub ends_near : (hs : List Edge) → AllByRecursion IsHatchWithinReach hs → AllByRecursion IsWithinReach (ends_of hs)
+pub ends_near : (hs : List Edge) → AllByRecursion (IsEdgeWithin coordinate_limit) hs
+    → AllByRecursion (IsWithin coordinate_limit) (ends_of hs)
 ends_near [] near = tt
-ends_near (h ∷ hs) near = (near.0.0, (near.0.1, ends_near hs near.1))
+ends_near (h ∷ hs) near = (near.0.a, (near.0.b, ends_near hs near.1))
 
-near_again : (hs : List Edge) → AllByRecursion IsWithinReach (ends_of hs) → AllByRecursion IsHatchWithinReach hs
+near_again : (hs : List Edge) → AllByRecursion (IsWithin coordinate_limit) (ends_of hs)
+    → AllByRecursion (IsEdgeWithin coordinate_limit) hs
 near_again [] near = tt
-near_again (h ∷ hs) near = ((near.0, near.1.0), near_again hs near.1.1)
+near_again (h ∷ hs) near = (record { a = near.0; b = near.1.0 }, near_again hs near.1.1)
 
 paired_are : (n : ℕ) (ps : List Pt) (hs : List Edge) → paired_at n ps ≡ Ok hs → ps ≡ ends_of hs
 unfolding paired_at
@@ -79,7 +83,7 @@ some_is n word count e =
 -- by what each of the words says
 words_are : (said : List ℕ) (rest : List (List ℕ)) (count : ℕ) (points : List Pt) (found hs : List Edge)
     → (said ≡ decimal count) × (count < 2 ^ 32) × (1 ≤ count)
-    → (rest ≡ coordinate_words points) × AllByRecursion IsWithinReach points → points ≡ ends_of found
+    → (rest ≡ coordinate_words points) × AllByRecursion (IsWithin coordinate_limit) points → points ≡ ends_of found
     → (count == length found ≡ true) × (found ≡ hs) → HatchWords (said ∷ rest) hs
 words_are said rest count points found hs s p pairs d =
     let is : count ≡ length found = eqb-true count (length found) d.0 in
@@ -88,7 +92,7 @@ words_are said rest count points found hs s p pairs d =
       (λ i. (s.0 ∙ ap decimal is) i ∷ (p.0 ∙ ap coordinate_words pairs) i),
       record {
         count = omega (arith, s.1, is);
-        near = near_again found (subst (AllByRecursion IsWithinReach) pairs p.1);
+        near = near_again found (subst (AllByRecursion (IsWithin coordinate_limit)) pairs p.1);
       },
     )
 

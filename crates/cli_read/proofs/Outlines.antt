@@ -10,10 +10,12 @@ use Rattle.std.proofs.lemmas.List.{take_at, take_all, length-append, length-take
 use Rattle.std.proofs.Math.Seq.{take-suc, get_or-append_seam}
 use Rattle.scad_base.proofs.Lists.{AllByRecursion-append}
 use Rattle.scad_geom.specs.declared.point.Pt.{Pt}
+use Rattle.scad_geom.specs.Limits.{coordinate_limit}
+use Rattle.scad_geom.specs.Within.{IsWithin}
 use Rattle.cli_text.specs.Cli.{closed, polyline_start}
 use Rattle.cli_read.specs.declared.fault.CliFault.{CliFault}
 use Rattle.cli_read.specs.declared.fault.CliFault.TheVariants.{BadLine, CountDiffers, OpenLoop}
-use Rattle.cli_read.specs.Form.{IsWithinReach, IsShape, IsOutline}
+use Rattle.cli_read.specs.Form.{IsShape, IsOutline}
 use Rattle.cli_read.specs.Reading.{◌>>=◌, or_bad, origin, same_point, ends_meet, words, count_of, coordinate_of, point_at, points_at, joined_at, closed_at, direction_at, outline_at}
 use Rattle.cli_read.proofs.Results.{bind_ok, bound, ok_is, passed, or_bad_ok}
 use Rattle.cli_read.proofs.Numbers.{count_text, count_back, coordinate_text, coordinate_back}
@@ -22,7 +24,7 @@ use Rattle.cli_read.proofs.CommaWords.{coordinate_words, points_text, same_words
 -- ---- points
 
 point_text_is : (n : ℕ) (x y : List ℕ) (p : Pt) → point_at n x y ≡ Ok p → (x ≡ signed_decimal p.x)
-    × (y ≡ signed_decimal p.y) × IsWithinReach p
+    × (y ≡ signed_decimal p.y) × IsWithin coordinate_limit p
 unfolding point_at
 point_text_is n x y p e =
     let a = bind_ok (or_bad n (coordinate_of x)) (λ left. or_bad n (coordinate_of y) >>=
@@ -31,17 +33,20 @@ point_text_is n x y p e =
     let left = coordinate_text x a.0 (or_bad_ok n (coordinate_of x) a.0 a.1) in
     let up = coordinate_text y b.0 (or_bad_ok n (coordinate_of y) b.0 b.1) in
     let point : Pt = record { x = a.0; y = b.0 } in
-    subst (λ (q : Pt). (x ≡ signed_decimal q.x) × (y ≡ signed_decimal q.y) × IsWithinReach q) (ok_is point p b.2)
-    (left.0, up.0, (left.1, up.1))
+    subst (λ (q : Pt). (x ≡ signed_decimal q.x) × (y ≡ signed_decimal q.y) × IsWithin coordinate_limit q)
+        (ok_is point p b.2)
+    (left.0, up.0, record { x = left.1; y = up.1 })
 
-point_back : (n : ℕ) (p : Pt) → IsWithinReach p → point_at n (signed_decimal p.x) (signed_decimal p.y) ≡ Ok p
+point_back : (n : ℕ) (p : Pt) → IsWithin coordinate_limit p
+    → point_at n (signed_decimal p.x) (signed_decimal p.y) ≡ Ok p
 unfolding point_at
-point_back n p near = rw (coordinate_back p.x near.0, coordinate_back p.y near.1) refl
+point_back n p near = rw (coordinate_back p.x near.x, coordinate_back p.y near.y) refl
 
 pub points_are : (n : ℕ) (ws : List (List ℕ)) (ps : List Pt) → points_at n ws ≡ Ok ps → (ws ≡ coordinate_words ps)
-    × AllByRecursion IsWithinReach ps
+    × AllByRecursion (IsWithin coordinate_limit) ps
 unfolding points_at
-points_are n [] ps e = subst (λ (qs : List Pt). ([] ≡ coordinate_words qs) × AllByRecursion IsWithinReach qs)
+points_are n [] ps e = subst
+    (λ (qs : List Pt). ([] ≡ coordinate_words qs) × AllByRecursion (IsWithin coordinate_limit) qs)
     (ok_is [] ps e)
     (refl, tt)
 points_are n (x ∷ []) ps e = absurd cc
@@ -51,10 +56,12 @@ points_are n (x ∷ y ∷ rest) ps e =
     let point = point_text_is n x y a.0 a.1 in
     let more = points_are n rest b.0 b.1 in
     let all : List Pt = a.0 ∷ b.0 in
-    subst (λ (qs : List Pt). (x ∷ y ∷ rest ≡ coordinate_words qs) × AllByRecursion IsWithinReach qs) (ok_is all ps b.2)
+    subst (λ (qs : List Pt). (x ∷ y ∷ rest ≡ coordinate_words qs) × AllByRecursion (IsWithin coordinate_limit) qs)
+        (ok_is all ps b.2)
     ((λ i. point.0 i ∷ point.1 i ∷ more.0 i), (point.2, more.1))
 
-pub points_back : (n : ℕ) (ps : List Pt) → AllByRecursion IsWithinReach ps → points_at n (coordinate_words ps) ≡ Ok ps
+pub points_back : (n : ℕ) (ps : List Pt) → AllByRecursion (IsWithin coordinate_limit) ps
+    → points_at n (coordinate_words ps) ≡ Ok ps
 unfolding points_at
 points_back n [] near = refl
 points_back n (p ∷ ps) near = rw (point_back n p near.0, points_back n ps near.1) refl
@@ -132,18 +139,20 @@ OutlineWords ws points =
     (direction : ℕ) × (direction ≤ 1) × (ws ≡ decimal direction ∷ decimal (length points + 1) ∷ coordinate_words
     (closed points)) × IsShape points
 
-first_near : (points : List Pt) → AllByRecursion IsWithinReach (closed points) → AllByRecursion IsWithinReach points
+first_near : (points : List Pt) → AllByRecursion (IsWithin coordinate_limit) (closed points)
+    → AllByRecursion (IsWithin coordinate_limit) points
 first_near [] near = tt
 first_near (p ∷ ps) near = (near.0, front ps near.1)
   where
-    front : (qs : List Pt) → AllByRecursion IsWithinReach (qs ++ p ∷ []) → AllByRecursion IsWithinReach qs
+    front : (qs : List Pt) → AllByRecursion (IsWithin coordinate_limit) (qs ++ p ∷ [])
+        → AllByRecursion (IsWithin coordinate_limit) qs
     front [] near = tt
     front (q ∷ qs) near = (near.0, front qs near.1)
 
-pub closed_near : (points : List Pt) → AllByRecursion IsWithinReach points
-    → AllByRecursion IsWithinReach (closed points)
+pub closed_near : (points : List Pt) → AllByRecursion (IsWithin coordinate_limit) points
+    → AllByRecursion (IsWithin coordinate_limit) (closed points)
 closed_near [] near = tt
-closed_near (p ∷ ps) near = AllByRecursion-append IsWithinReach (p ∷ ps) (p ∷ []) near (near.0, tt)
+closed_near (p ∷ ps) near = AllByRecursion-append (IsWithin coordinate_limit) (p ∷ ps) (p ∷ []) near (near.0, tt)
 
 direction_is : (n : ℕ) (word : List ℕ) (direction : ℕ) → direction_at n word ≡ Ok direction
     → (word ≡ decimal direction) × (direction ≤ 1)
@@ -162,7 +171,8 @@ direction_is n word direction e =
 -- by what each of the words says
 words_are : (direction said : List ℕ) (rest : List (List ℕ)) (outline : List Pt) (first count : ℕ) (points : List Pt)
     → (direction ≡ decimal first) × (first ≤ 1) → (said ≡ decimal count) × (count < 2 ^ 32)
-    → (rest ≡ coordinate_words points) × AllByRecursion IsWithinReach points → IsClosed points count outline
+    → (rest ≡ coordinate_words points) × AllByRecursion (IsWithin coordinate_limit) points
+    → IsClosed points count outline
     → OutlineWords (direction ∷ said ∷ rest) outline
 words_are direction said rest outline first count points d s p whole = (
   first,
@@ -171,7 +181,7 @@ words_are direction said rest outline first count points d s p whole = (
   record {
     several = whole.2;
     count = omega (arith, s.1, whole.1);
-    near = first_near outline (subst (AllByRecursion IsWithinReach) whole.0 p.1);
+    near = first_near outline (subst (AllByRecursion (IsWithin coordinate_limit)) whole.0 p.1);
   },
 )
 

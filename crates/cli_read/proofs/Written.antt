@@ -15,8 +15,9 @@ use Rattle.scad_geom.specs.declared.point.Pt.{Pt}
 use Rattle.scad_geom.specs.declared.point.Edge.{Edge}
 use Rattle.scad_geom.specs.Area.{twice_area}
 use Rattle.scad_geom.specs.Limits.{coordinate_limit}
+use Rattle.scad_geom.specs.Within.{IsWithin}
 use Rattle.cli_text.specs.Cli.{Layer, head_start, head_end, direction, point_text, closed, polyline_start, polyline_text, hatch_text, hatches_start, hatches_line, hatches_text, layer_start, layer_text, geometry_end}
-use Rattle.cli_read.specs.Form.{count_start, head_lines, end_line, height_line, outline_line, IsWithinReach}
+use Rattle.cli_read.specs.Form.{count_start, head_lines, end_line, height_line, outline_line}
 use Rattle.cli_read.specs.Form.{IsShape, AreHatches, Drawn, Polyline, Hatching, IsDrawn, outlines_among, hatches_among, SaysLayer}
 use Rattle.cli_read.specs.Laws.{WrittenTextsSayTheirLayers}
 use Rattle.cli_read.proofs.Numbers.{Lacks, decimal_passes}
@@ -63,13 +64,13 @@ signed_printed : (z : ℤ) → unsigned_abs z ≤ coordinate_limit → IsPrinted
 signed_printed (pos n) h = decimal_printed n (omega arith)
 signed_printed (negsuc n) h = decimal_printed (suc n) (omega arith)
 
-point_printed : (p : Pt) → IsWithinReach p → IsPrinted (point_text p)
+point_printed : (p : Pt) → IsWithin coordinate_limit p → IsPrinted (point_text p)
 point_printed p near =
     both_printed (codes "," ++ signed_decimal p.x ++ codes ",") (signed_decimal p.y)
-    (both_printed (codes "," ++ signed_decimal p.x) (codes ",") (signed_printed p.x near.0) refl)
-    (signed_printed p.y near.1)
+    (both_printed (codes "," ++ signed_decimal p.x) (codes ",") (signed_printed p.x near.x) refl)
+    (signed_printed p.y near.y)
 
-points_printed : (ps : List Pt) → AllByRecursion IsWithinReach ps → IsPrinted (points_text ps)
+points_printed : (ps : List Pt) → AllByRecursion (IsWithin coordinate_limit) ps → IsPrinted (points_text ps)
 points_printed [] near = refl
 points_printed (p ∷ ps) near =
     ap (list_all is_printed) (flat_map-cons point_text p ps) ∙ both_printed (point_text p) (points_text ps)

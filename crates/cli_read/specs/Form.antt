@@ -1,12 +1,13 @@
 -- What a text in the ASCII form of the Common Layer Interface 2.0 says, in units of a micrometre: which lines are those
 -- of a list of layers. Numbers are decimal, without leading zeros, with `-` before negative ones.
-use Rattle.std.specs.Prelude.{◌≡◌, ℕ, ◌+◌, ◌^◌, ◌<◌, ◌≤◌, List, [], ◌∷◌, ◌++◌, length, Option, Some, None, IfSome, unsigned_abs, codes}
+use Rattle.std.specs.Prelude.{◌≡◌, ℕ, ◌+◌, ◌^◌, ◌<◌, ◌≤◌, List, [], ◌∷◌, ◌++◌, length, Option, Some, None, IfSome, codes}
 use Rattle.std.specs.List.{flat_map, AllByRecursion, AllZip}
 use Rattle.std.specs.Fmt.{decimal}
 use Rattle.std.specs.Str.Lines.{lines}
 use Rattle.scad_geom.specs.declared.point.Pt.{Pt}
 use Rattle.scad_geom.specs.declared.point.Edge.{Edge}
 use Rattle.scad_geom.specs.Limits.{coordinate_limit}
+use Rattle.scad_geom.specs.Within.{IsWithin, IsEdgeWithin}
 use Rattle.cli_text.specs.Cli.{Layer, polyline_start, layer_start, point_text, closed, hatches_line}
 
 -- ---- lines
@@ -40,15 +41,11 @@ end_line = codes "$$GEOMETRYEND"
 
 -- ---- layers
 
--- neither coordinate is greater in size than the limit
-abbrev pub IsWithinReach : Pt → Type 0
-IsWithinReach p = (unsigned_abs p.x ≤ coordinate_limit) × (unsigned_abs p.y ≤ coordinate_limit)
-
--- an outline has three vertices at least, all within reach
+-- an outline has three vertices at least, all within the limit
 pub record IsShape (points : List Pt) : Type 0 where
   pub several : 3 ≤ length points
   pub count : length points + 1 < 2 ^ 32
-  pub near : AllByRecursion IsWithinReach points
+  pub near : AllByRecursion (IsWithin coordinate_limit) points
 
 -- the line is that of the outline, whichever direction it says
 pub record IsOutline (line : List ℕ) (points : List Pt) : Type 0 where
@@ -57,13 +54,10 @@ pub record IsOutline (line : List ℕ) (points : List Pt) : Type 0 where
   pub is : line ≡ outline_line direction points
   pub shape : IsShape points
 
-abbrev pub IsHatchWithinReach : Edge → Type 0
-IsHatchWithinReach hatch = IsWithinReach hatch.a × IsWithinReach hatch.b
-
--- hatches of one line, both ends of each within reach
+-- hatches of one line, both ends of each within the limit
 pub record AreHatches (hatches : List Edge) : Type 0 where
   pub count : length hatches < 2 ^ 32
-  pub near : AllByRecursion IsHatchWithinReach hatches
+  pub near : AllByRecursion (IsEdgeWithin coordinate_limit) hatches
 
 -- the line is that of the hatches, of which there is one at least
 pub record IsHatchesLine (line : List ℕ) (hatches : List Edge) : Type 0 where

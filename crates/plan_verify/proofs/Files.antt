@@ -10,17 +10,12 @@ use Rattle.scad_geom.specs.Loop.{path, sides}
 use Rattle.cli_text.specs.Cli.{Layer}
 use Rattle.cli_read.specs.declared.layers.CliLayer.{CliLayer}
 use Rattle.cli_read.specs.View.{seen}
-use Rattle.cli_read.specs.Form.{SaysLayer, Drawn, Polyline, Hatching, IsDrawn, outlines_among, IsWithinReach}
+use Rattle.cli_read.specs.Form.{SaysLayer, Drawn, Polyline, Hatching, IsDrawn, outlines_among}
 use Rattle.plan_verify.specs.Stays.{AreWithin}
 use Rattle.plan_verify.specs.Fields.{AreSidesWithin}
 use Rattle.plan_verify.specs.Laws.{FilesAreWithin}
 
 -- ---- files that are read
-points_within : (points : List Pt) → AllByRecursion IsWithinReach points
-    → AllByRecursion (IsWithin coordinate_limit) points
-points_within [] h = tt
-points_within (p ∷ ps) h = (record { x = h.0.0; y = h.0.1 }, points_within ps h.1)
-
 abbrev AreLoopsWithin : List (List Pt) → Type 0
 AreLoopsWithin loops = AllByRecursion (λ points. AllByRecursion (IsWithin coordinate_limit) points) loops
 
@@ -30,7 +25,7 @@ outlines_within [] [] h = tt
 outlines_within [] (d ∷ drawn) h = absurd h
 outlines_within (x ∷ lines) [] h = absurd h
 outlines_within (x ∷ lines) (Polyline points ∷ drawn) h
-    = (points_within points h.0.shape.near, outlines_within lines drawn h.1)
+    = (h.0.shape.near, outlines_within lines drawn h.1)
 outlines_within (x ∷ lines) (Hatching some ∷ drawn) h = outlines_within lines drawn h.1
 
 layers_within : (parts : List (List (List ℕ))) (layers : List Layer) → AllZip SaysLayer parts layers

@@ -7,13 +7,13 @@ use Rattle.std.proofs.lemmas.Grind.{flat_map-append}
 use Rattle.std.proofs.lemmas.List.{take-append-drop}
 use Rattle.scad_geom.specs.declared.point.Pt.{Pt}
 use Rattle.scad_geom.specs.declared.point.Edge.{Edge}
-use Rattle.scad_geom.specs.Limits.{point_limit}
-use Rattle.scad_geom.specs.Within.{IsEdgeWithin}
+use Rattle.scad_geom.specs.Limits.{coordinate_limit, point_limit}
+use Rattle.scad_geom.specs.Within.{IsWithin, IsEdgeWithin}
 use Rattle.scad_words.specs.declared.settings.Settings.{Settings}
 use Rattle.scad_words.specs.Settings.{AreInRange}
 use Rattle.plan_layer.specs.Clearance.{PlansKeepClear}
 use Rattle.plan_layer.specs.Moves.{moves, all_moves, move_limit}
-use Rattle.cli_read.specs.Form.{IsHatchWithinReach, AreHatches}
+use Rattle.cli_read.specs.Form.{AreHatches}
 use Rattle.slice_work.specs.Part.{Layout, hatches_of}
 use Rattle.print_laws.specs.LayerPlans.{IsPlanned}
 use Rattle.print_laws.proofs.Points.{all_back}
@@ -23,14 +23,17 @@ use Rattle.print_laws.proofs.Printable.{ends_within}
 parted : (k : ℕ) (paths : List (List Pt)) → all_moves (take k paths) ++ all_moves (drop k paths) ≡ all_moves paths
 parted k paths = sym (flat_map-append moves (take k paths) (drop k paths)) ∙ ap all_moves (take-append-drop k paths)
 
-near : (es : List Edge) → AllByRecursion (IsEdgeWithin point_limit) es → AllByRecursion IsHatchWithinReach es
+near : (es : List Edge) → AllByRecursion (IsEdgeWithin point_limit) es
+    → AllByRecursion (IsEdgeWithin coordinate_limit) es
 near [] h = tt
 near (e ∷ es) h =
     let ax = h.0.a.x in
     let ay = h.0.a.y in
     let bx = h.0.b.x in
     let by = h.0.b.y in
-    (((omega (arith, ax), omega (arith, ay)), (omega (arith, bx), omega (arith, by))), near es h.1)
+    let a : IsWithin coordinate_limit e.a = record { x = omega (arith, ax); y = omega (arith, ay) } in
+    let b : IsWithin coordinate_limit e.b = record { x = omega (arith, bx); y = omega (arith, by) } in
+    (record { a = a; b = b }, near es h.1)
 
 -- with supports behind them paths have as many moves, and more
 pub moves_fewer : (paths more : List (List Pt)) (n : ℕ) → length (all_moves (paths ++ more)) ≤ n

@@ -9,7 +9,7 @@ use Rattle.scad_fault.specs.declared.budget.Budget.{Budget}
 use Rattle.scad_geom.specs.declared.point.Pt.{Pt}
 use Rattle.scad_geom.specs.declared.point.Edge.{Edge}
 use Rattle.scad_geom.specs.Loop.{path, sides}
-use Rattle.scad_geom.specs.Limits.{point_limit}
+use Rattle.scad_geom.specs.Limits.{coordinate_limit, point_limit}
 use Rattle.scad_geom.specs.Within.{IsWithin}
 use Rattle.scad_words.specs.declared.settings.Settings.{Settings}
 use Rattle.scad_words.specs.Settings.{AreInRange}
@@ -25,7 +25,7 @@ use Rattle.slice_work.specs.declared.want.Want.TheVariants.{Plan as WithPlan}
 use Rattle.slice_work.specs.Part.{Layout}
 use Rattle.scad_slice.specs.Layer.{IsLayerUnless, IsLayer}
 use Rattle.scad_slice.specs.Supports.{AreSupportsOf}
-use Rattle.cli_read.specs.Form.{IsWithinReach, IsShape}
+use Rattle.cli_read.specs.Form.{IsShape}
 use Rattle.print_laws.specs.LayerPlans.{IsPlanned}
 use Rattle.print_laws.proofs.Supports.{SupportLaws, supports_stand}
 
@@ -114,9 +114,12 @@ short s tree i layer range l =
     let all = leaf_length es in
     few_points 220000 layer.outlines (omega (arith, edges, both, all))
 
-near : (ps : List Pt) → AllByRecursion (IsWithin point_limit) ps → AllByRecursion IsWithinReach ps
+near : (ps : List Pt) → AllByRecursion (IsWithin point_limit) ps → AllByRecursion (IsWithin coordinate_limit) ps
 near [] h = tt
-near (p ∷ ps) h = let x = h.0.x in let y = h.0.y in ((omega (arith, x), omega (arith, y)), near ps h.1)
+near (p ∷ ps) h =
+    let x = h.0.x in
+    let y = h.0.y in
+    (record { x = omega (arith, x); y = omega (arith, y) }, near ps h.1)
 
 shapes : (ls : List (List Pt)) → AllByRecursion (λ (l : List Pt). 3 ≤ length l) ls
     → AllByRecursion (λ (l : List Pt). length l ≤ 220000) ls
