@@ -13,9 +13,9 @@ use Rattle.scad_geom.specs.declared.level.LeafEdge.{LeafEdge}
 use Rattle.scad_geom.specs.Line.{rise, run, x_at}
 use Rattle.scad_geom.specs.EdgeOrder.{IsBefore, AreAligned}
 use Rattle.scad_geom.proofs.Order.{front, back}
-use Rattle.slice_slab.specs.Bundles.{edge_at, Ascends, Precedes, AreRanked}
-use Rattle.slice_slab.proofs.Bundling.{Rises, aligned_chain, aligned_before}
-use Rattle.slice_snap.proofs.Counts.{without_first}
+use Rattle.slice_bundles.specs.Bundles.{edge_at, Ascends, Precedes, AreRanked}
+use Rattle.slice_bundles.proofs.Bundling.{Rises, aligned_chain, aligned_before}
+use Rattle.slice_pieces.proofs.Counts.{without_first}
 use Rattle.scad_geom.proofs.Heights.{same_chain, lower_same}
 use Rattle.std.proofs.lemmas.Bool.{eq-eqb, eqb-true}
 

@@ -6,8 +6,8 @@ use Rattle.std.proofs.lemmas.List.Elements.{All-nil, All-cons}
 use Rattle.scad_geom.specs.declared.point.Edge.{Edge}
 use Rattle.scad_geom.proofs.Places.{same_edge, same_edge_then_equal, same_edge_itself}
 use Rattle.winding_laws.specs.Edges.{turned}
-use Rattle.slice_snap.specs.Cancelling.{AreCancelled, IsOppositeAt}
-use Rattle.slice_snap.proofs.Opposite.{leaves_nothing, leaves_fewer, leaves_one_more}
+use Rattle.slice_pieces.specs.Cancelling.{AreCancelled, IsOppositeAt}
+use Rattle.slice_pieces.proofs.Opposite.{leaves_nothing, leaves_fewer, leaves_one_more}
 
 -- ---- the opposite of an edge is there or not
 record HasOpposite (e : Edge) (es : List Edge) : Type 0 where

@@ -12,12 +12,12 @@ use Rattle.scad_geom.specs.Line.{rise, run, offset, x_at, left_of}
 use Rattle.scad_geom.specs.Winding.{side_by}
 use Rattle.scad_geom.proofs.Ring.{ring, ◌⊕◌, ◌⊖◌, ◌⊗◌, v0, v1, v2, v3, v4, v5, v6}
 use Rattle.winding_laws.proofs.Sameness.{AreSame, are_same, one_axis}
-use Rattle.slice_snap.specs.declared.piece.Spot.{Spot}
-use Rattle.slice_snap.specs.declared.piece.Piece.{Piece}
-use Rattle.slice_snap.specs.Spots.{point_of}
+use Rattle.slice_pieces.specs.declared.piece.Spot.{Spot}
+use Rattle.slice_pieces.specs.declared.piece.Piece.{Piece}
+use Rattle.slice_pieces.specs.Spots.{point_of}
 use Rattle.winding_laws.specs.Approach.{AreLevel}
-use Rattle.slice_snap.specs.Inside.{IsBelow, IsLeftOf, IsBetween, IsInside}
-use Rattle.slice_snap.specs.Naming.{IsOnLine, LiesAlong, HasLength, AreApartByName, AllPairs, AreNamed}
+use Rattle.slice_pieces.specs.Inside.{IsBelow, IsLeftOf, IsBetween, IsInside}
+use Rattle.slice_pieces.specs.Naming.{IsOnLine, LiesAlong, HasLength, AreApartByName, AllPairs, AreNamed}
 use Rattle.outline_laws.specs.Sameness.{AreSameSpot, AreSamePiece, ArePiecesSame}
 use Rattle.outline_laws.proofs.Same.{pieces_turned}
 use Rattle.outline_laws.proofs.LikePieces.{test_same}

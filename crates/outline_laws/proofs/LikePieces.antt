@@ -6,12 +6,12 @@ use Rattle.scad_geom.specs.declared.point.Edge.{Edge}
 use Rattle.scad_geom.specs.Balance.{starts_at, ends_at}
 use Rattle.scad_geom.proofs.Balance.{once, starts-cons, ends-cons}
 use Rattle.winding_laws.proofs.Sameness.{same_through}
-use Rattle.slice_snap.specs.declared.piece.Spot.{Spot}
-use Rattle.slice_snap.specs.declared.piece.Piece.{Piece}
-use Rattle.slice_snap.specs.Spots.{point_of, is_same_spot}
-use Rattle.slice_snap.specs.Pieces.{way_of, ways_of}
-use Rattle.slice_snap.specs.Merging.{joined, MeetAlone, AreMerged, all_joined, two_join}
-use Rattle.slice_snap.specs.Cancelling.{AreCancelled}
+use Rattle.slice_pieces.specs.declared.piece.Spot.{Spot}
+use Rattle.slice_pieces.specs.declared.piece.Piece.{Piece}
+use Rattle.slice_pieces.specs.Spots.{point_of, is_same_spot}
+use Rattle.slice_pieces.specs.Pieces.{way_of, ways_of}
+use Rattle.slice_pieces.specs.Merging.{joined, MeetAlone, AreMerged, all_joined, two_join}
+use Rattle.slice_pieces.specs.Cancelling.{AreCancelled}
 use Rattle.slice_border.specs.Outlines.{AreMadeOf}
 use Rattle.outline_laws.specs.Sameness.{AreSameSpot, AreSamePiece, ArePiecesSame}
 use Rattle.outline_laws.proofs.Zips.{zip_permuted}

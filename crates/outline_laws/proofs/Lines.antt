@@ -11,7 +11,7 @@ use Rattle.scad_geom.specs.Line.{low, high, rise, run, offset, x_at}
 use Rattle.scad_geom.specs.Sign.{is_zero}
 use Rattle.scad_geom.specs.Level.{level_of, IsAtMost, IsSameHeight}
 use Rattle.scad_geom.proofs.Ring.{ring, ◌⊕◌, ◌⊗◌, v0, v1, v2, v3, v4}
-use Rattle.slice_slab.specs.Bundles.{reaches}
+use Rattle.slice_bundles.specs.Bundles.{reaches}
 use Rattle.slice_border.specs.Pieces.{is_flat_at, passes_at}
 use Rattle.outline_laws.proofs.Rising.{HasDivisor, at_most_same, same_then_at_most}
 use Rattle.scad_geom.proofs.Heights.{same_chain}

@@ -7,13 +7,13 @@ use Rattle.std.proofs.lemmas.List.Sorted.{All-permutation, IsPermutation-refl, I
 use Rattle.std.proofs.lemmas.List.Sorted.{IsPermutation-cons, IsPermutation-middle, length_permutation}
 use Rattle.scad_geom.specs.Balance.{starts_at, ends_at}
 use Rattle.winding_laws.proofs.Sameness.{same_itself}
-use Rattle.slice_snap.specs.declared.piece.Spot.{Spot}
-use Rattle.slice_snap.specs.declared.piece.Piece.{Piece}
-use Rattle.slice_snap.specs.Spots.{point_of, is_same_spot}
-use Rattle.slice_snap.specs.Pieces.{ways_of}
-use Rattle.slice_snap.specs.Merging.{joined, MeetAlone, NoneMeetAlone, AreMerged, all_joined, two_join}
-use Rattle.slice_snap.specs.Joining.{GoesOn, IsPassedOnce, IsStuck}
-use Rattle.slice_snap.proofs.ChainEnds.{none_meet_alone}
+use Rattle.slice_pieces.specs.declared.piece.Spot.{Spot}
+use Rattle.slice_pieces.specs.declared.piece.Piece.{Piece}
+use Rattle.slice_pieces.specs.Spots.{point_of, is_same_spot}
+use Rattle.slice_pieces.specs.Pieces.{ways_of}
+use Rattle.slice_pieces.specs.Merging.{joined, MeetAlone, NoneMeetAlone, AreMerged, all_joined, two_join}
+use Rattle.slice_pieces.specs.Joining.{GoesOn, IsPassedOnce, IsStuck}
+use Rattle.slice_pieces.proofs.ChainEnds.{none_meet_alone}
 use Rattle.std.proofs.lemmas.Bool.{cases_eq}
 
 -- ---- one of a list that a fact holds of, where a search decides it

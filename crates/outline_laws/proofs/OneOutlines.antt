@@ -1,8 +1,8 @@
 -- A shape has one list of outlines, and so have two that hold alike.
 use Rattle.std.proofs.Common.{length, refl}
 use Rattle.std.proofs.lemmas.List.Elements.{All-from_recursion}
-use Rattle.slice_slab.specs.Bundles.{edge_at}
-use Rattle.slice_snap.specs.Pieces.{IsPieceWithin}
+use Rattle.slice_bundles.specs.Bundles.{edge_at}
+use Rattle.slice_pieces.specs.Pieces.{IsPieceWithin}
 use Rattle.slice_border.proofs.PieceNames.{pieces_are_named}
 use Rattle.slice_border.proofs.OneOutlines.{made_are_one}
 use Rattle.outline_laws.specs.Sameness.{ArePiecesSame}

@@ -12,11 +12,11 @@ use Rattle.scad_geom.specs.Shape.{is_in_by}
 use Rattle.scad_geom.proofs.Order.{back}
 use Rattle.scad_geom.proofs.Ring.{ring, ◌⊕◌, ◌⊗◌, v0, v1, v2, v3, v4, v5, v6}
 use Rattle.winding_laws.proofs.Sameness.{are_same}
-use Rattle.slice_slab.specs.Bundles.{edge_at}
-use Rattle.slice_slab.proofs.Bundling.{Rises}
-use Rattle.slice_snap.specs.declared.piece.Spot.{Spot}
-use Rattle.slice_snap.specs.declared.piece.Piece.{Piece}
-use Rattle.slice_snap.specs.Spots.{point_of}
+use Rattle.slice_bundles.specs.Bundles.{edge_at}
+use Rattle.slice_bundles.proofs.Bundling.{Rises}
+use Rattle.slice_pieces.specs.declared.piece.Spot.{Spot}
+use Rattle.slice_pieces.specs.declared.piece.Piece.{Piece}
+use Rattle.slice_pieces.specs.Spots.{point_of}
 use Rattle.slice_border.specs.Pieces.{spot_on, piece_between, middle, bundle_piece, slab_pieces, covers, stretch_piece, flat_pieces, AreStops, AreLevelPieces}
 use Rattle.outline_laws.specs.Sameness.{AreSameSpot, AreSamePiece, ArePiecesSame, HoldAlike}
 use Rattle.outline_laws.specs.Outlines.{PiecesAreSame}

@@ -16,9 +16,9 @@ use Rattle.scad_geom.specs.EdgeOrder.{IsBefore, AreAligned}
 use Rattle.scad_geom.proofs.Ring.{ring, ◌⊖◌, ◌⊗◌, v0, v1, v2}
 use Rattle.scad_geom.proofs.Signs.{pos_left}
 use Rattle.winding_laws.proofs.Sameness.{cancel_mul}
-use Rattle.slice_slab.specs.Bundles.{edge_at, reaching, IsBundle, Precedes, AreRanked, AreBundles}
-use Rattle.slice_slab.proofs.Live.{IsLive, live_bundles}
-use Rattle.slice_slab.proofs.Bundling.{Rises}
+use Rattle.slice_bundles.specs.Bundles.{edge_at, reaching, IsBundle, Precedes, AreRanked, AreBundles}
+use Rattle.slice_bundles.proofs.Live.{IsLive, live_bundles}
+use Rattle.slice_bundles.proofs.Bundling.{Rises}
 use Rattle.outline_laws.proofs.Rising.{HasDivisor}
 use Rattle.outline_laws.proofs.Lines.{reaches_test, x_same}
 use Rattle.outline_laws.proofs.Bundles.{ranked_one}

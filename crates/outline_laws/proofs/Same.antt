@@ -6,11 +6,11 @@ use Rattle.scad_geom.proofs.Balance.{same_place-is, same_whole}
 use Rattle.winding_laws.specs.Edges.{rounded, rounded_edge, has_length}
 use Rattle.winding_laws.proofs.Rounding.{rounded_same}
 use Rattle.winding_laws.proofs.Sameness.{are_same, same_by, are_same_turned, are_same_on}
-use Rattle.slice_snap.specs.declared.piece.Spot.{Spot}
-use Rattle.slice_snap.specs.declared.piece.Piece.{Piece}
-use Rattle.slice_snap.specs.Spots.{point_of}
-use Rattle.slice_snap.specs.Pieces.{way_of, ways_of}
-use Rattle.slice_snap.specs.Rounding.{rounded_edges}
+use Rattle.slice_pieces.specs.declared.piece.Spot.{Spot}
+use Rattle.slice_pieces.specs.declared.piece.Piece.{Piece}
+use Rattle.slice_pieces.specs.Spots.{point_of}
+use Rattle.slice_pieces.specs.Pieces.{way_of, ways_of}
+use Rattle.slice_pieces.specs.Rounding.{rounded_edges}
 use Rattle.outline_laws.specs.Sameness.{AreSameSpot, AreSamePiece, ArePiecesSame}
 use Rattle.outline_laws.proofs.Zips.{zip_turned, zip_chain}
 

@@ -12,9 +12,9 @@ use Rattle.scad_geom.specs.declared.level.LeafEdge.{LeafEdge}
 use Rattle.scad_geom.specs.Line.{rise, run, x_at}
 use Rattle.scad_geom.specs.EdgeOrder.{IsBefore, AreAligned}
 use Rattle.scad_geom.proofs.Order.{front, back}
-use Rattle.slice_slab.specs.Bundles.{edge_at, reaches, reaching, Ascends, Precedes, AreRanked, AreBundles}
-use Rattle.slice_slab.proofs.Bundling.{Rises, aligned_chain, aligned_before, before_chain}
-use Rattle.slice_slab.proofs.Live.{IsLive, live_reaching}
+use Rattle.slice_bundles.specs.Bundles.{edge_at, reaches, reaching, Ascends, Precedes, AreRanked, AreBundles}
+use Rattle.slice_bundles.proofs.Bundling.{Rises, aligned_chain, aligned_before, before_chain}
+use Rattle.slice_bundles.proofs.Live.{IsLive, live_reaching}
 use Rattle.outline_laws.proofs.Distinct.{weaker, AreCompared, lower, same, higher, compared}
 
 -- ---- any two edges are ordered at a height

@@ -13,10 +13,10 @@ use Rattle.winding_laws.specs.Nearness.{IsProper}
 use Rattle.winding_laws.specs.Edges.{rounded_edge}
 use Rattle.winding_laws.proofs.Rounding.{rounding_keeps_balance}
 use Rattle.winding_laws.proofs.Lengths.{lengths_keep_balance}
-use Rattle.slice_snap.specs.declared.piece.Piece.{Piece}
-use Rattle.slice_snap.specs.Pieces.{way_of, ways_of, ArePiecesBalanced}
-use Rattle.slice_snap.specs.Rounding.{rounded_edges}
-use Rattle.slice_snap.proofs.Balance.{merged_balanced, left_balanced}
+use Rattle.slice_pieces.specs.declared.piece.Piece.{Piece}
+use Rattle.slice_pieces.specs.Pieces.{way_of, ways_of, ArePiecesBalanced}
+use Rattle.slice_pieces.specs.Rounding.{rounded_edges}
+use Rattle.slice_pieces.proofs.Balance.{merged_balanced, left_balanced}
 use Rattle.slice_loops.specs.Outlines.{outlines_of}
 use Rattle.slice_border.specs.Outlines.{AreMadeOf, AreOutlinesOf}
 use Rattle.slice_border.proofs.BalanceLevels.{pieces_are_balanced}

@@ -15,8 +15,8 @@ use Rattle.scad_geom.specs.Level.{IsLower, IsSameHeight}
 use Rattle.scad_geom.proofs.Ring.{ring, ◌⊖◌, ◌⊗◌, v0, v1, v2, v3, crossed}
 use Rattle.winding_laws.proofs.Sameness.{are_same, same_by}
 use Rattle.slice_events.specs.Levels.{IsRising, HasHeight}
-use Rattle.slice_snap.specs.declared.piece.Spot.{Spot}
-use Rattle.slice_snap.specs.Spots.{point_of}
+use Rattle.slice_pieces.specs.declared.piece.Spot.{Spot}
+use Rattle.slice_pieces.specs.Spots.{point_of}
 use Rattle.slice_border.specs.Pieces.{spot_on, whole_spot, is_flat_at, passes_at, spots_at, GoRight, HasSpot, IsOneOf, AreStops, across}
 use Rattle.slice_border.proofs.Winding.{of_stops, IsSpotAt, spots_are_at}
 use Rattle.outline_laws.specs.Sameness.{AreSameSpot}
@@ -24,7 +24,7 @@ use Rattle.outline_laws.proofs.Zips.{zip_append, zip_turned}
 use Rattle.outline_laws.proofs.Same.{spot_turned}
 use Rattle.outline_laws.proofs.Rising.{HasDivisor, one_by_one, has_same}
 use Rattle.outline_laws.proofs.Lines.{flat_test, passes_test, x_same}
-use Rattle.slice_snap.proofs.SameSpots.{run_above, crossed_back, mul_beside}
+use Rattle.slice_pieces.proofs.SameSpots.{run_above, crossed_back, mul_beside}
 use Rattle.scad_geom.proofs.Integers.{mul_assoc}
 use Rattle.slice_border.proofs.Within.{size_above}
 

@@ -21,13 +21,13 @@ use Rattle.scad_geom.specs.Within.{IsEdgeWithin}
 use Rattle.scad_geom.proofs.Bounds.{low_within, high_within, meeting_within}
 use Rattle.scad_geom.proofs.Ring.{ring, ◌⊗◌, v0, v1, v2, v3}
 use Rattle.slice_events.specs.Levels.{HasHeight}
-use Rattle.slice_slab.specs.Bundles.{edge_at}
-use Rattle.slice_slab.proofs.Live.{IsLive, live_bundles}
-use Rattle.slice_snap.specs.declared.piece.Spot.{Spot}
-use Rattle.slice_snap.specs.declared.piece.Piece.{Piece}
-use Rattle.slice_snap.specs.Spots.{IsSpotWithin}
-use Rattle.slice_snap.specs.Pieces.{ends_of, IsPieceWithin}
-use Rattle.slice_snap.proofs.Ends.{joined}
+use Rattle.slice_bundles.specs.Bundles.{edge_at}
+use Rattle.slice_bundles.proofs.Live.{IsLive, live_bundles}
+use Rattle.slice_pieces.specs.declared.piece.Spot.{Spot}
+use Rattle.slice_pieces.specs.declared.piece.Piece.{Piece}
+use Rattle.slice_pieces.specs.Spots.{IsSpotWithin}
+use Rattle.slice_pieces.specs.Pieces.{ends_of, IsPieceWithin}
+use Rattle.slice_pieces.proofs.Ends.{joined}
 use Rattle.slice_border.specs.Pieces.{flat_pieces, slab_pieces, AreLevelPieces, ArePieces}
 use Rattle.slice_border.proofs.Ends.{flat_ends, slab_ends, AtBoth, each_of}
 use Rattle.outline_laws.specs.Sameness.{AreSameSpot, ArePiecesSame}
@@ -35,7 +35,7 @@ use Rattle.outline_laws.proofs.Rising.{HasDivisor}
 use Rattle.outline_laws.proofs.Stops.{same_placed}
 use Rattle.slice_border.proofs.Winding.{IsSpotAt, stops_at}
 use Rattle.slice_border.proofs.Within.{size_above}
-use Rattle.slice_snap.proofs.SameSpots.{run_above}
+use Rattle.slice_pieces.proofs.SameSpots.{run_above}
 
 -- ---- the heights of edges in range
 times_within : (x y : ℤ) (m : ℕ) → unsigned_abs x ≤ m → unsigned_abs y ≤ m → unsigned_abs (x *ℤ y) ≤ m * m

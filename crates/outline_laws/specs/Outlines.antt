@@ -5,7 +5,7 @@ use Rattle.scad_geom.specs.declared.level.LeafEdge.{LeafEdge}
 use Rattle.scad_geom.specs.declared.shape.Shape.{Shape}
 use Rattle.scad_geom.specs.Limits.{coordinate_limit}
 use Rattle.scad_geom.specs.Within.{IsEdgeWithin}
-use Rattle.slice_snap.specs.declared.piece.Piece.{Piece}
+use Rattle.slice_pieces.specs.declared.piece.Piece.{Piece}
 use Rattle.slice_border.specs.Pieces.{ArePieces}
 use Rattle.slice_border.specs.Outlines.{AreOutlinesOf}
 use Rattle.outline_laws.specs.Sameness.{ArePiecesSame, HoldAlike}

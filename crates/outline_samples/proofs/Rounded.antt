@@ -1,8 +1,8 @@
 -- Ends of pieces are rounded, halves down, and a sliver vanishes, as the definition computes it.
 use Rattle.std.proofs.Common.{◌≡◌, ℕ, [], ◌∷◌, pos, refl}
 use Rattle.scad_geom.specs.Rounding.{half_down}
-use Rattle.slice_snap.specs.declared.piece.Spot.{Spot}
-use Rattle.slice_snap.specs.Rounding.{rounded_edges}
+use Rattle.slice_pieces.specs.declared.piece.Spot.{Spot}
+use Rattle.slice_pieces.specs.Rounding.{rounded_edges}
 
 -- the point (x / d, y / d)
 abbrev spot : ℕ → ℕ → ℕ → Spot

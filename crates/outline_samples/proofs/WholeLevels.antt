@@ -4,10 +4,10 @@ use lib.IntN.{ℤ, pos, ◌*ℤ◌}
 use Rattle.std.proofs.lemmas.List.Elements.{All-weaker}
 use Rattle.scad_geom.specs.declared.level.Level.{Level}
 use Rattle.scad_geom.specs.Level.{IsSameHeight}
-use Rattle.slice_snap.specs.declared.piece.Spot.{Spot}
-use Rattle.slice_snap.specs.declared.piece.Piece.{Piece}
-use Rattle.slice_snap.specs.Pieces.{ends_of, HaveOneLevel}
-use Rattle.slice_snap.proofs.Pairs.{of_ends}
+use Rattle.slice_pieces.specs.declared.piece.Spot.{Spot}
+use Rattle.slice_pieces.specs.declared.piece.Piece.{Piece}
+use Rattle.slice_pieces.specs.Pieces.{ends_of, HaveOneLevel}
+use Rattle.slice_pieces.proofs.Pairs.{of_ends}
 use Rattle.scad_geom.proofs.Signs.{mul-one}
 
 one_level : (p q : Level) → p.d ≡ pos 1 → q.d ≡ pos 1 → IsSameHeight p q → p ≡ q

@@ -1,7 +1,7 @@
 //! What is found, as one number, which independent programs make too.
 
 use scad_geom::{Loop, Pt};
-use slice_snap::{Piece, Spot};
+use slice_pieces::{Piece, Spot};
 
 /// A number by what came before and a part that follows.
 pub(crate) fn number_with(before: i64, part: i64) -> i64 {

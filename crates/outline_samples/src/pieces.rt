@@ -1,13 +1,14 @@
 //! Pieces merged, and opposite edges that cancel; the pieces were worked out by another program.
 ghost use Rattle.std.specs.Prelude.{◌≡◌, pos, OnOk, IfOk, All};
 ghost use Rattle.scad_geom.specs.Limits.{coordinate_limit};
-ghost use Rattle.slice_snap.specs.Spots.{IsSpotWithin};
-ghost use Rattle.slice_snap.specs.Pieces.{IsPieceWithin};
+ghost use Rattle.slice_pieces.specs.Spots.{IsSpotWithin};
+ghost use Rattle.slice_pieces.specs.Pieces.{IsPieceWithin};
 
 use crate::cases::expect;
 use crate::numbers::number_with_pieces;
 use scad_geom::{Edge, Level, Pt};
-use slice_snap::{Piece, Spot, cancel, merge};
+use slice_pieces::{Piece, Spot, cancel};
+use slice_snap::merge;
 use std::alloc::{AllocError, Global};
 
 // A point at whole coordinates.

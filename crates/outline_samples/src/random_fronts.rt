@@ -4,7 +4,7 @@ ghost use Rattle.scad_geom.specs.Limits.{coordinate_limit};
 ghost use Rattle.scad_geom.specs.Within.{IsEdgeWithin};
 ghost use Rattle.scad_geom.specs.Level.{IsLevelWithin};
 ghost use Rattle.slice_events.specs.Levels.{AreLevels};
-ghost use Rattle.slice_slab.specs.Active.{IsReadyFor as IsActiveFor, StandsAt};
+ghost use Rattle.slice_bundles.specs.Active.{IsReadyFor as IsActiveFor, StandsAt};
 ghost use Rattle.slice_sweep.specs.Front.{IsReadyFor};
 ghost use Rattle.slice_border.specs.Levels.{level_at};
 
@@ -14,7 +14,8 @@ use crate::numbers::number_with;
 use sample_dice::Dice;
 use scad_geom::{Edge, LeafEdge, Level};
 use slice_events::levels;
-use slice_slab::{Active, Bundle, slab};
+use slice_bundles::Bundle;
+use slice_slab::{Active, slab};
 use slice_sweep::Front;
 use std::alloc::{AllocError, AllocGlobal, Global};
 use std::process::Abort;

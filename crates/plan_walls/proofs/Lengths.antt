@@ -14,8 +14,8 @@ use Rattle.scad_geom.specs.declared.shape.Shape.{Shape}
 use Rattle.scad_geom.specs.Loop.{sides}
 use Rattle.scad_geom.specs.Point.{whole, is_same_point}
 use Rattle.winding_laws.specs.Edges.{rounded_edge, has_length, turned}
-use Rattle.slice_snap.specs.Pieces.{ways_of}
-use Rattle.slice_snap.specs.Rounding.{rounded_edges}
+use Rattle.slice_pieces.specs.Pieces.{ways_of}
+use Rattle.slice_pieces.specs.Rounding.{rounded_edges}
 use Rattle.slice_loops.specs.Lengths.{HasLength}
 use Rattle.slice_loops.proofs.Lengths.{sides_have_lengths}
 use Rattle.slice_border.specs.Outlines.{AreOutlinesOf}

@@ -7,7 +7,7 @@ use Rattle.std.proofs.lemmas.Int.{to_z-of_z}
 use mir.Syntax.{w128}
 use Rattle.scad_base.proofs.Tests.{int_eq-true}
 use Rattle.scad_geom.specs.Sign.{is_zero}
-use Rattle.slice_snap.proofs.SameSpots.{to_eq}
+use Rattle.slice_pieces.proofs.SameSpots.{to_eq}
 
 pub zero_bits : (z : ℤ) → FitsSigned w128 z → eqb (of_z w128 z) 0 ≡ is_zero z
 zero_bits z fits =

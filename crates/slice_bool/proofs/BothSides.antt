@@ -7,8 +7,8 @@ use Rattle.scad_geom.specs.declared.level.LeafEdge.{LeafEdge}
 use Rattle.scad_geom.specs.declared.shape.Shape.{Shape}
 use Rattle.scad_geom.specs.Point.{Point}
 use Rattle.scad_geom.proofs.Order.{front, back}
-use Rattle.slice_slab.specs.Bundles.{AreBundles}
-use Rattle.slice_slab.proofs.Live.{IsLive, live_bundles}
+use Rattle.slice_bundles.specs.Bundles.{AreBundles}
+use Rattle.slice_bundles.proofs.Live.{IsLive, live_bundles}
 use Rattle.slice_bool.specs.declared.beside.Valued.{Valued}
 use Rattle.slice_bool.specs.LeftValues.{AreLeftValues}
 use Rattle.slice_border.specs.Beside.{RisesFirst, passing, is_right_of, TellBeside}

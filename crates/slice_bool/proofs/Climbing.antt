@@ -4,7 +4,7 @@ use Rattle.std.proofs.lemmas.List.{drop_more, append-nil}
 use Rattle.scad_geom.specs.declared.level.Level.{Level}
 use Rattle.scad_geom.specs.declared.level.LeafEdge.{LeafEdge}
 use Rattle.scad_geom.specs.declared.shape.Shape.{Shape}
-use Rattle.slice_snap.specs.declared.piece.Piece.{Piece}
+use Rattle.slice_pieces.specs.declared.piece.Piece.{Piece}
 use Rattle.slice_border.specs.Pieces.{AreLevelPieces}
 use Rattle.slice_bool.specs.Parts.{AreOnLevel, Extends, AreBetweenLevels, AreUpToNext}
 

@@ -9,8 +9,8 @@ use Rattle.std.proofs.lemmas.List.{append-nil}
 use Rattle.scad_geom.specs.declared.level.Level.{Level}
 use Rattle.scad_geom.specs.declared.level.LeafEdge.{LeafEdge}
 use Rattle.scad_geom.specs.declared.shape.Shape.{Shape}
-use Rattle.slice_snap.specs.declared.piece.Spot.{Spot}
-use Rattle.slice_snap.specs.declared.piece.Piece.{Piece}
+use Rattle.slice_pieces.specs.declared.piece.Spot.{Spot}
+use Rattle.slice_pieces.specs.declared.piece.Piece.{Piece}
 use Rattle.slice_border.specs.Flats.{flats_from, first_cover}
 use Rattle.slice_bool.specs.Parts.{AreOnLevel, Extends}
 use Rattle.slice_border.specs.Pieces.{IsLeft, IsSameAcross, GoRight, HasSpot, IsOneOf, AreStops, spots_at, covers, stretch_piece, flat_pieces}

@@ -3,9 +3,9 @@ use Rattle.std.specs.Prelude.{Bool, true, false, List, [], ◌∷◌, ℕ, ◌<�
 use Rattle.scad_geom.specs.declared.level.LeafEdge.{LeafEdge}
 use Rattle.scad_geom.specs.declared.shape.Shape.{Shape}
 use Rattle.scad_geom.specs.Shape.{is_in_by}
-use Rattle.slice_snap.specs.declared.piece.Spot.{Spot}
-use Rattle.slice_snap.specs.declared.piece.Piece.{Piece}
-use Rattle.slice_snap.specs.Spots.{point_of}
+use Rattle.slice_pieces.specs.declared.piece.Spot.{Spot}
+use Rattle.slice_pieces.specs.declared.piece.Piece.{Piece}
+use Rattle.slice_pieces.specs.Spots.{point_of}
 use Rattle.slice_border.specs.declared.stop.Stop.{Stop}
 use Rattle.slice_border.specs.Pieces.{IsLeft, piece_between}
 use Rattle.slice_border.specs.Beside.{left_value, passing}

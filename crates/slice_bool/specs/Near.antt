@@ -4,8 +4,8 @@ use Rattle.scad_geom.specs.Limits.{coordinate_limit}
 use Rattle.scad_geom.specs.declared.level.Level.{Level}
 use Rattle.scad_geom.specs.declared.level.LeafEdge.{LeafEdge}
 use Rattle.scad_geom.specs.Within.{IsEdgeWithin}
-use Rattle.slice_slab.specs.Bundles.{no_edge}
-use Rattle.slice_slab.specs.Touching.{touches}
+use Rattle.slice_bundles.specs.Bundles.{no_edge}
+use Rattle.slice_bundles.specs.Touching.{touches}
 use Rattle.slice_bool.specs.declared.near.Near.{Near}
 use Rattle.slice_border.specs.Flats.{flats_from}
 

@@ -5,7 +5,7 @@ ghost use Rattle.scad_geom.specs.Limits.{coordinate_limit};
 ghost use Rattle.scad_geom.specs.Line.{rise, left_of, x_at};
 ghost use Rattle.scad_geom.specs.Within.{IsEdgeWithin};
 ghost use Rattle.scad_geom.specs.Winding.{is_beyond};
-ghost use Rattle.slice_snap.specs.Spots.{point_of};
+ghost use Rattle.slice_pieces.specs.Spots.{point_of};
 ghost use Rattle.slice_bool.specs.BothSides.{IsNothing};
 ghost use Rattle.slice_border.specs.Stops.{spots_in};
 ghost use Rattle.slice_bool.specs.LeftValues.{AreLeftValues};
@@ -17,7 +17,7 @@ use scad_geom::line::{rise, x_at};
 use scad_geom::wide::times;
 use scad_geom::{Edge, LeafEdge};
 use slice_border::Stop;
-use slice_slab::Bundle;
+use slice_bundles::Bundle;
 use std::alloc::{AllocError, Global};
 
 /// Bundles from left to right, and the shape's values from right to left: at the right end, then to the left of each.

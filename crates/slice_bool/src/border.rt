@@ -8,11 +8,11 @@ ghost use Rattle.slice_events.specs.Limits.{crossing_limit};
 ghost use Rattle.slice_events.specs.Levels.{crossings, AreLevels};
 ghost use Rattle.slice_border.specs.Pieces.{AreLevelPieces, ArePieces};
 ghost use Rattle.scad_geom.specs.Leaves.{AreLeavesBalanced};
-ghost use Rattle.slice_slab.specs.Bundles.{edge_at, AreBundles};
-ghost use Rattle.slice_slab.specs.Touching.{touching};
-ghost use Rattle.slice_slab.specs.Active.{live_in, bundles_in, IsReadyFor, StandsAt};
-ghost use Rattle.slice_snap.specs.Pieces.{HaveOneLevel, IsPieceWithin, ArePiecesBalanced};
-ghost use Rattle.slice_snap.specs.Naming.{AreNamed};
+ghost use Rattle.slice_bundles.specs.Bundles.{edge_at, AreBundles};
+ghost use Rattle.slice_bundles.specs.Touching.{touching};
+ghost use Rattle.slice_bundles.specs.Active.{live_in, bundles_in, IsReadyFor, StandsAt};
+ghost use Rattle.slice_pieces.specs.Pieces.{HaveOneLevel, IsPieceWithin, ArePiecesBalanced};
+ghost use Rattle.slice_pieces.specs.Naming.{AreNamed};
 ghost use Rattle.slice_border.specs.Centre.{AreCentresWound};
 ghost use Rattle.slice_border.specs.Fault.{IsRefusal};
 ghost use Rattle.slice_border.specs.Levels.{level_at};
@@ -29,7 +29,7 @@ use scad_geom::{LeafEdge, Level, Shape};
 use slice_border::{BoolFault, Tally};
 use slice_events::{EventFault, levels};
 use slice_slab::Active;
-use slice_snap::Piece;
+use slice_pieces::Piece;
 use std::alloc::{AllocError, Global};
 
 /// The pieces of the border of a shape over the leaves of an edge list, each with the inside on its left: level by

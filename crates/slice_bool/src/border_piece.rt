@@ -2,7 +2,7 @@
 ghost use Rattle.std.specs.Prelude.{◌≡◌, ◌++◌, OnOk};
 ghost use Rattle.slice_border.specs.Pieces.{piece_between};
 
-use slice_snap::{Piece, Spot};
+use slice_pieces::{Piece, Spot};
 use std::alloc::AllocError;
 
 /// The piece between two spots, where the values on its left and on its right differ, with the inside on its left.

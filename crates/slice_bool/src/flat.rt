@@ -17,7 +17,7 @@ use crate::stops::stops;
 use crate::sweep::Sweep;
 use scad_geom::Level;
 use slice_border::Stop;
-use slice_snap::Piece;
+use slice_pieces::Piece;
 use std::alloc::AllocError;
 
 /// The pieces on a level: none where no flat edge lies on it.

@@ -4,8 +4,8 @@ ghost use Rattle.std.specs.List.Sorted.{IsPermutation};
 ghost use Rattle.scad_geom.specs.Limits.{coordinate_limit};
 ghost use Rattle.scad_geom.specs.Within.{IsEdgeWithin};
 ghost use Rattle.scad_geom.specs.Level.{IsLevelWithin};
-ghost use Rattle.slice_slab.specs.Bundles.{edge_at};
-ghost use Rattle.slice_slab.specs.Touching.{touching};
+ghost use Rattle.slice_bundles.specs.Bundles.{edge_at};
+ghost use Rattle.slice_bundles.specs.Touching.{touching};
 ghost use Rattle.slice_border.specs.Pieces.{is_flat_at};
 ghost use Rattle.slice_bool.specs.Near.{picked, AreEdgesNear};
 

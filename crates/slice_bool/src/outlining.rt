@@ -5,7 +5,7 @@ ghost use Rattle.scad_geom.specs.Within.{IsEdgeWithin};
 ghost use Rattle.scad_geom.specs.Leaves.{AreLeavesBalanced};
 ghost use Rattle.slice_events.specs.Limits.{crossing_limit};
 ghost use Rattle.slice_events.specs.Levels.{crossings};
-ghost use Rattle.slice_snap.specs.Pieces.{HaveOneLevel, IsPieceWithin, ArePiecesBalanced};
+ghost use Rattle.slice_pieces.specs.Pieces.{HaveOneLevel, IsPieceWithin, ArePiecesBalanced};
 ghost use Rattle.slice_border.specs.Outlines.{AreMadeOf, AreOutlinesOf};
 ghost use Rattle.slice_border.specs.Membership.{HoldCentres};
 ghost use Rattle.slice_border.specs.NearBorder.{AreNearBorder};
@@ -15,7 +15,8 @@ use crate::border::pieces;
 use scad_geom::{LeafEdge, Loop, Shape};
 use slice_border::BoolFault;
 use slice_loops::join;
-use slice_snap::{Piece, cancel, merge, round};
+use slice_pieces::{Piece, cancel};
+use slice_snap::{merge, round};
 use std::alloc::{AllocError, Global};
 
 /// The closed outlines of a shape over the leaves of an edge list, with the inside on their left: the pieces of its border

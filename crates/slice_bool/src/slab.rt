@@ -6,7 +6,7 @@ ghost use Rattle.scad_geom.specs.Line.{rise};
 ghost use Rattle.scad_geom.specs.Within.{IsEdgeWithin};
 ghost use Rattle.scad_geom.specs.Level.{IsLevelWithin};
 ghost use Rattle.scad_geom.specs.Heights.{AreNeighbours};
-ghost use Rattle.slice_slab.specs.Bundles.{AreBundles};
+ghost use Rattle.slice_bundles.specs.Bundles.{AreBundles};
 ghost use Rattle.slice_border.specs.Pieces.{spot_on, piece_between, slab_pieces};
 ghost use Rattle.slice_border.specs.Beside.{AreMembers, RisesFirst};
 ghost use Rattle.slice_bool.specs.LeftValues.{AreLeftValues, piece_of};
@@ -17,8 +17,8 @@ use crate::border_piece::push_between;
 use crate::sweep::Sweep;
 use scad_geom::{Edge, LeafEdge, Level};
 use slice_border::{Tally, spot_on};
-use slice_slab::Bundle;
-use slice_snap::Piece;
+use slice_bundles::Bundle;
+use slice_pieces::Piece;
 use std::alloc::AllocError;
 
 /// The bundles between two levels, and the values beside them.

@@ -19,12 +19,12 @@ use Rattle.scad_geom.proofs.Heights.{at_most_chain, at_most_then_lower, lower_we
 use Rattle.scad_geom.proofs.Order.{back, apart_levels}
 use Rattle.scad_geom.proofs.Turns.{level_at}
 use Rattle.slice_events.specs.Levels.{IsRising, AreLevels}
-use Rattle.slice_slab.specs.Bundles.{edge_at, Precedes, AreRanked}
-use Rattle.slice_snap.specs.declared.piece.Spot.{Spot}
-use Rattle.slice_snap.specs.declared.piece.Piece.{Piece}
-use Rattle.slice_snap.specs.Spots.{point_of}
-use Rattle.slice_snap.specs.Inside.{IsInside}
-use Rattle.slice_snap.specs.Naming.{AreApartByName, AllPairs}
+use Rattle.slice_bundles.specs.Bundles.{edge_at, Precedes, AreRanked}
+use Rattle.slice_pieces.specs.declared.piece.Spot.{Spot}
+use Rattle.slice_pieces.specs.declared.piece.Piece.{Piece}
+use Rattle.slice_pieces.specs.Spots.{point_of}
+use Rattle.slice_pieces.specs.Inside.{IsInside}
+use Rattle.slice_pieces.specs.Naming.{AreApartByName, AllPairs}
 use Rattle.scad_base.proofs.Lists.{AllByRecursion-append}
 use Rattle.slice_border.specs.Pieces.{spot_on, piece_between, bundle_piece, slab_pieces, GoRight, AreStops, covers, stretch_piece, flat_pieces, AreLevelPieces, ArePieces}
 use Rattle.slice_border.proofs.Passing.{IsLive, live_bundles}

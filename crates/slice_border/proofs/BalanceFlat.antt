@@ -20,9 +20,9 @@ use Rattle.scad_base.proofs.Products.{positive_product}
 use Rattle.scad_geom.proofs.Heights.{lower_then_at_most, lower_weak}
 use Rattle.scad_geom.proofs.Order.{front, back}
 use Rattle.scad_geom.proofs.Turns.{level_at, beyond_mul}
-use Rattle.slice_snap.specs.declared.piece.Spot.{Spot}
+use Rattle.slice_pieces.specs.declared.piece.Spot.{Spot}
 use Rattle.slice_border.specs.Pieces.{whole_spot, is_flat_at, spots_at, IsLeft, GoRight, HasSpot, AreStops, covers, stretch_piece, flat_pieces}
-use Rattle.slice_snap.specs.Spots.{point_of}
+use Rattle.slice_pieces.specs.Spots.{point_of}
 use Rattle.scad_geom.specs.Leaves.{AreLeavesBalanced}
 use Rattle.slice_border.proofs.Middle.{lower_scaled, scaled_below}
 use Rattle.slice_border.proofs.Winding.{IsSpotAt, stops_at, spots_are_at}
@@ -32,7 +32,7 @@ use Rattle.slice_border.proofs.BalanceSpots.{IsAt, own_spots, flat_spots, IsAlik
 use Rattle.slice_border.specs.Pieces.{across}
 use Rattle.slice_border.proofs.BalanceStops.{aheads, aheads-append, between_apart, stretch_alike, flat_alike, IsUpTo, from_stop, first_up_to, next_up_to, IsBeside, beside, further, nearer, all_further, all_nearer}
 use Rattle.std.proofs.lemmas.Bool.{true≢false}
-use Rattle.slice_snap.proofs.SameSpots.{mul_beside}
+use Rattle.slice_pieces.proofs.SameSpots.{mul_beside}
 
 -- ---- a flat edge with one end at the left stop or before it, and one at the right stop or after it, covers the
 -- stretch

@@ -5,7 +5,7 @@ use lib.Signed.{◌<ℤ◌}
 use Rattle.std.specs.Prelude.{unsigned_abs}
 use Rattle.std.specs.List.{AllByRecursion, concat}
 use Rattle.std.proofs.lemmas.Int.{ints, by_lt_z}
-use Rattle.slice_snap.specs.Pieces.{way_of, ways_of}
+use Rattle.slice_pieces.specs.Pieces.{way_of, ways_of}
 use Rattle.scad_geom.proofs.Balance.{once, starts-cons, ends-cons}
 use Rattle.scad_geom.specs.declared.level.Level.{Level}
 use Rattle.scad_geom.specs.declared.level.LeafEdge.{LeafEdge}
@@ -22,19 +22,19 @@ use Rattle.scad_geom.proofs.Heights.{lower_then_at_most, at_most_then_lower, low
 use Rattle.scad_geom.proofs.Order.{back}
 use Rattle.scad_geom.proofs.Turns.{level_at}
 use Rattle.slice_events.specs.Levels.{IsRising, HasHeight}
-use Rattle.slice_slab.specs.Bundles.{edge_at, AreRanked, AreBundles}
-use Rattle.slice_snap.specs.declared.piece.Spot.{Spot}
-use Rattle.slice_snap.specs.declared.piece.Piece.{Piece}
+use Rattle.slice_bundles.specs.Bundles.{edge_at, AreRanked, AreBundles}
+use Rattle.slice_pieces.specs.declared.piece.Spot.{Spot}
+use Rattle.slice_pieces.specs.declared.piece.Piece.{Piece}
 use Rattle.slice_border.specs.Pieces.{spot_on, piece_between, bundle_piece, slab_pieces, flat_pieces, AreStops, AreLevelPieces, ArePieces}
-use Rattle.slice_snap.specs.Spots.{point_of}
-use Rattle.slice_snap.specs.Pieces.{wind_pieces}
+use Rattle.slice_pieces.specs.Spots.{point_of}
+use Rattle.slice_pieces.specs.Pieces.{wind_pieces}
 use Rattle.scad_geom.specs.Leaves.{AreLeavesBalanced}
 use Rattle.scad_geom.specs.Point.{is_same_point}
 use Rattle.scad_geom.specs.Balance.{starts_at, ends_at}
-use Rattle.slice_snap.specs.Pieces.{ArePiecesBalanced}
+use Rattle.slice_pieces.specs.Pieces.{ArePiecesBalanced}
 use Rattle.slice_border.proofs.Passing.{IsLive, live_bundles}
 use Rattle.slice_border.proofs.Middle.{size_of, half_point, lower_scaled, scaled_below}
-use Rattle.slice_snap.proofs.Ways.{wind_pieces-append}
+use Rattle.slice_pieces.proofs.Ways.{wind_pieces-append}
 use Rattle.slice_border.proofs.Winding.{stops_still, with_zero}
 use Rattle.slice_border.proofs.Walk.{pieces_wind}
 use Rattle.slice_border.proofs.BalanceTurns.{ahead, ahead_over, ahead_under, ahead_both, step_up, step_down}

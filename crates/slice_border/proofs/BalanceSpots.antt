@@ -25,9 +25,9 @@ use Rattle.scad_geom.proofs.Ring.{ring, ◌⊕◌, ◌⊖◌, ◌⊗◌, v0, v1,
 use Rattle.scad_geom.proofs.Heights.{lower_then_at_most, at_most_then_lower, at_most_chain, lower_weak, same_at_least}
 use Rattle.scad_geom.proofs.Order.{front, back}
 use Rattle.scad_geom.proofs.Turns.{level_at, Over, NotOver, under_turn, over_turn, heading, reaching_turn, beyond_mul}
-use Rattle.slice_snap.specs.declared.piece.Spot.{Spot}
+use Rattle.slice_pieces.specs.declared.piece.Spot.{Spot}
 use Rattle.slice_border.specs.Pieces.{spot_on, whole_spot, is_flat_at, passes_at, spots_at}
-use Rattle.slice_snap.specs.Spots.{point_of}
+use Rattle.slice_pieces.specs.Spots.{point_of}
 use Rattle.slice_border.proofs.Middle.{size_of}
 use Rattle.slice_border.proofs.Winding.{either_over}
 use Rattle.slice_border.proofs.BalanceTurns.{gap, is_right, ahead_level, ahead_over, ahead_under, drop_zero}

@@ -17,9 +17,9 @@ use Rattle.scad_geom.proofs.Signs.{at_least_mul}
 use Rattle.scad_geom.proofs.Heights.{at_most_chain, lower_weak, same_at_least, same_at_most}
 use Rattle.scad_geom.proofs.Turns.{beyond_mul}
 use Rattle.scad_base.proofs.Integers.{at_most_of_less, gap_of_at_most}
-use Rattle.slice_snap.specs.declared.piece.Spot.{Spot}
-use Rattle.slice_snap.specs.declared.piece.Piece.{Piece}
-use Rattle.slice_snap.specs.Spots.{point_of}
+use Rattle.slice_pieces.specs.declared.piece.Spot.{Spot}
+use Rattle.slice_pieces.specs.declared.piece.Piece.{Piece}
+use Rattle.slice_pieces.specs.Spots.{point_of}
 use Rattle.slice_border.specs.Pieces.{piece_between, IsLeft, GoRight, HasSpot, covers, stretch_piece, flat_pieces, across}
 use Rattle.slice_border.proofs.Winding.{IsSpotAt}
 use Rattle.slice_border.proofs.BalanceTurns.{gap, is_right, ahead}

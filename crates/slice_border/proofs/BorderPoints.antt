@@ -21,15 +21,15 @@ use Rattle.scad_geom.proofs.Heights.{lower_then_at_most, at_most_then_lower, low
 use Rattle.scad_geom.proofs.Order.{apart_levels}
 use Rattle.scad_geom.proofs.Turns.{level_at}
 use Rattle.slice_events.specs.Levels.{IsRising, AreLevels}
-use Rattle.slice_slab.specs.Bundles.{edge_at, AreBundles}
-use Rattle.slice_slab.proofs.Live.{IsLive, live_bundles}
-use Rattle.slice_snap.specs.declared.piece.Spot.{Spot}
-use Rattle.slice_snap.specs.declared.piece.Piece.{Piece}
+use Rattle.slice_bundles.specs.Bundles.{edge_at, AreBundles}
+use Rattle.slice_bundles.proofs.Live.{IsLive, live_bundles}
+use Rattle.slice_pieces.specs.declared.piece.Spot.{Spot}
+use Rattle.slice_pieces.specs.declared.piece.Piece.{Piece}
 use Rattle.slice_border.specs.Pieces.{spot_on, piece_between, bundle_piece, slab_pieces, spots_at, IsLeft, GoRight, AreStops, covers, stretch_piece, flat_pieces, AreLevelPieces, ArePieces}
-use Rattle.slice_snap.specs.Spots.{point_of}
+use Rattle.slice_pieces.specs.Spots.{point_of}
 use Rattle.slice_border.specs.BorderPoints.{IsBorderPoint}
 use Rattle.winding_laws.specs.Approach.{AreLevel}
-use Rattle.slice_snap.specs.Inside.{IsBelow, IsLeftOf, IsBetween, IsInside}
+use Rattle.slice_pieces.specs.Inside.{IsBelow, IsLeftOf, IsBetween, IsInside}
 use Rattle.scad_base.proofs.Integers.{gap_of_less}
 use Rattle.slice_border.proofs.Middle.{size_of, half_point, lower_scaled, scaled_below, value_right_at, value_left_at, value_right, value_left}
 use Rattle.slice_border.proofs.Slabs.{side_up_is, later_live, later_ranked}

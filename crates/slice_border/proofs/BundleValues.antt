@@ -14,7 +14,7 @@ use Rattle.scad_geom.specs.Sign.{is_zero}
 use Rattle.scad_geom.proofs.Order.{front, back}
 use Rattle.scad_geom.proofs.Shapes.{nothing_held}
 use Rattle.scad_geom.proofs.Turns.{heading}
-use Rattle.slice_slab.specs.Bundles.{no_edge, reaches, reaching, AreBundles}
+use Rattle.slice_bundles.specs.Bundles.{no_edge, reaches, reaching, AreBundles}
 use Rattle.slice_border.specs.Tally.{heading_of, headings}
 use Rattle.slice_border.specs.Beside.{left_value, AreMembers, RisesFirst}
 use Rattle.scad_geom.proofs.Sums.{sum_z}

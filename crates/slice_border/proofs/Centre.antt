@@ -7,8 +7,8 @@ use Rattle.scad_geom.specs.declared.level.LeafEdge.{LeafEdge}
 use Rattle.scad_geom.specs.declared.shape.Shape.{Shape}
 use Rattle.scad_geom.specs.Winding.{counted}
 use Rattle.scad_geom.specs.Shape.{is_in_by, is_in}
-use Rattle.slice_snap.specs.declared.piece.Piece.{Piece}
-use Rattle.slice_snap.specs.Pieces.{wind_pieces}
+use Rattle.slice_pieces.specs.declared.piece.Piece.{Piece}
+use Rattle.slice_pieces.specs.Pieces.{wind_pieces}
 use Rattle.slice_border.specs.Pieces.{ArePieces}
 use Rattle.scad_geom.specs.Half.{centre}
 use Rattle.slice_border.specs.Centre.{holds_centre}

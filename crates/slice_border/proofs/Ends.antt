@@ -6,7 +6,7 @@ use Rattle.std.specs.Prelude.{Option, Some, None}
 use Rattle.std.specs.List.{AllByRecursion, All, position, concat}
 use Rattle.std.proofs.lemmas.Int.{ints}
 use Rattle.std.proofs.lemmas.List.Elements.{All-from_recursion}
-use Rattle.slice_snap.proofs.Ends.{joined}
+use Rattle.slice_pieces.proofs.Ends.{joined}
 use Rattle.scad_geom.specs.declared.level.Level.{Level}
 use Rattle.scad_geom.specs.declared.level.LeafEdge.{LeafEdge}
 use Rattle.scad_geom.specs.declared.shape.Shape.{Shape}
@@ -15,12 +15,12 @@ use Rattle.scad_geom.specs.Level.{IsLower, IsSameHeight}
 use Rattle.scad_geom.proofs.Heights.{lower_then_at_most, lower_weak}
 use Rattle.scad_geom.proofs.Order.{front, back}
 use Rattle.slice_events.specs.Levels.{IsRising}
-use Rattle.slice_slab.specs.Bundles.{edge_at}
-use Rattle.slice_snap.specs.declared.piece.Spot.{Spot}
-use Rattle.slice_snap.specs.declared.piece.Piece.{Piece}
+use Rattle.slice_bundles.specs.Bundles.{edge_at}
+use Rattle.slice_pieces.specs.declared.piece.Spot.{Spot}
+use Rattle.slice_pieces.specs.declared.piece.Piece.{Piece}
 use Rattle.slice_border.specs.Pieces.{spot_on, piece_between, bundle_piece, slab_pieces, covers, stretch_piece, flat_pieces, AreLevelPieces, ArePieces}
-use Rattle.slice_snap.specs.Spots.{point_of}
-use Rattle.slice_snap.specs.Pieces.{ends_of, HaveOneLevel}
+use Rattle.slice_pieces.specs.Spots.{point_of}
+use Rattle.slice_pieces.specs.Pieces.{ends_of, HaveOneLevel}
 use Rattle.slice_border.proofs.Passing.{IsLive, live_bundles}
 use Rattle.slice_border.proofs.Middle.{half_point}
 use Rattle.slice_border.proofs.Winding.{IsSpotAt, stops_at}

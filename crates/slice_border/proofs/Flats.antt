@@ -6,8 +6,8 @@ use Rattle.std.proofs.lemmas.Bool.{and_left}
 use Rattle.std.proofs.lemmas.List.{at_drop_more, drop_all}
 use Rattle.std.proofs.lemmas.Iterator.Adapters.{position_from-zero}
 use Rattle.scad_geom.specs.declared.level.LeafEdge.{LeafEdge}
-use Rattle.slice_slab.specs.Bundles.{no_edge}
-use Rattle.slice_snap.specs.declared.piece.Spot.{Spot}
+use Rattle.slice_bundles.specs.Bundles.{no_edge}
+use Rattle.slice_pieces.specs.declared.piece.Spot.{Spot}
 use Rattle.slice_border.specs.Pieces.{is_flat_at, covers}
 use Rattle.slice_border.specs.Flats.{flats_from, first_cover}
 

@@ -22,12 +22,12 @@ use Rattle.winding_laws.proofs.Farness.{parts_are_clear}
 use Rattle.winding_laws.proofs.Rounding.{rounding_keeps_winding}
 use Rattle.winding_laws.proofs.Lengths.{lengths_keep_winding}
 use Rattle.winding_laws.proofs.Cancelling.{cancelling_keeps_winding}
-use Rattle.slice_slab.specs.Bundles.{no_edge, edge_at}
-use Rattle.slice_snap.specs.declared.piece.Piece.{Piece}
-use Rattle.slice_snap.specs.Spots.{point_of}
-use Rattle.slice_snap.specs.Pieces.{way_of, ways_of, wind_pieces}
-use Rattle.slice_snap.specs.Rounding.{rounded_edges}
-use Rattle.slice_snap.proofs.Balance.{merged_balanced}
+use Rattle.slice_bundles.specs.Bundles.{no_edge, edge_at}
+use Rattle.slice_pieces.specs.declared.piece.Piece.{Piece}
+use Rattle.slice_pieces.specs.Spots.{point_of}
+use Rattle.slice_pieces.specs.Pieces.{way_of, ways_of, wind_pieces}
+use Rattle.slice_pieces.specs.Rounding.{rounded_edges}
+use Rattle.slice_pieces.proofs.Balance.{merged_balanced}
 use Rattle.slice_loops.proofs.Winding.{outlines_keep_winding}
 use Rattle.slice_border.specs.Pieces.{ArePieces}
 use Rattle.slice_border.specs.Outlines.{AreMadeOf}

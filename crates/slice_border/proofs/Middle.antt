@@ -17,7 +17,7 @@ use Rattle.scad_geom.specs.Level.{IsLower, IsAtMost}
 use Rattle.scad_geom.specs.Heights.{AreNeighbours}
 use Rattle.scad_geom.specs.EdgeOrder.{IsBefore}
 use Rattle.scad_base.proofs.Integers.{less_of_gap, gap_of_less, at_most_of_gap, gap_of_at_most, at_most_of_less}
-use Rattle.slice_slab.specs.Bundles.{no_edge, edge_at, Precedes, AreRanked, AreBundles}
+use Rattle.slice_bundles.specs.Bundles.{no_edge, edge_at, Precedes, AreRanked, AreBundles}
 use Rattle.scad_base.proofs.Products.{positive_product}
 use Rattle.scad_geom.proofs.Signs.{at_least_mul, pos_left}
 use Rattle.scad_geom.proofs.Lines.{left_of_by}
@@ -28,7 +28,7 @@ use Rattle.scad_geom.specs.Line.{run, offset, left_of}
 use Rattle.scad_geom.proofs.Ring.{ring, num, ◌⊕◌, ◌⊖◌, ◌⊗◌, v0, v1, v2, v3, v4}
 use Rattle.scad_geom.proofs.Order.{back, before_inside}
 use Rattle.slice_border.specs.Pieces.{spot_on, middle}
-use Rattle.slice_snap.specs.Spots.{point_of}
+use Rattle.slice_pieces.specs.Spots.{point_of}
 use Rattle.std.specs.Prelude.{unsigned_abs}
 use Rattle.slice_border.proofs.Passing.{IsLive, live_bundles, passing, Around}
 use Rattle.slice_border.proofs.Values.{value_of, is_in_passing}

@@ -27,15 +27,15 @@ use Rattle.winding_laws.proofs.Lines.{lines_are_all}
 use Rattle.winding_laws.proofs.Nearby.{near_on, half_and_quarter, on_same}
 use Rattle.winding_laws.proofs.Rounding.{rounded_close}
 use Rattle.winding_laws.proofs.Squares.{near_by_close}
-use Rattle.slice_slab.specs.Bundles.{edge_at}
-use Rattle.slice_snap.specs.declared.piece.Piece.{Piece}
-use Rattle.slice_snap.specs.Spots.{point_of}
-use Rattle.slice_snap.specs.Pieces.{way_of, ways_of}
-use Rattle.slice_snap.specs.Inside.{IsInside}
-use Rattle.slice_snap.specs.Naming.{HasLength}
-use Rattle.slice_snap.specs.Merging.{joined, MeetAlone, AreMerged, all_joined, two_join}
-use Rattle.slice_snap.specs.Rounding.{rounded_edges}
-use Rattle.slice_snap.specs.Cancelling.{AreCancelled}
+use Rattle.slice_bundles.specs.Bundles.{edge_at}
+use Rattle.slice_pieces.specs.declared.piece.Piece.{Piece}
+use Rattle.slice_pieces.specs.Spots.{point_of}
+use Rattle.slice_pieces.specs.Pieces.{way_of, ways_of}
+use Rattle.slice_pieces.specs.Inside.{IsInside}
+use Rattle.slice_pieces.specs.Naming.{HasLength}
+use Rattle.slice_pieces.specs.Merging.{joined, MeetAlone, AreMerged, all_joined, two_join}
+use Rattle.slice_pieces.specs.Rounding.{rounded_edges}
+use Rattle.slice_pieces.specs.Cancelling.{AreCancelled}
 use Rattle.slice_border.specs.Pieces.{ArePieces}
 use Rattle.slice_border.specs.BorderPoints.{IsBorderPoint}
 use Rattle.slice_border.specs.NearBorder.{HasBorderNear, OutlinesAreNearBorder}

@@ -28,11 +28,11 @@ use Rattle.scad_geom.proofs.Order.{back}
 use Rattle.winding_laws.specs.Points.{IsOn}
 use Rattle.winding_laws.proofs.Parts.{on_turned}
 use Rattle.slice_events.specs.Levels.{IsRising, AreLevels}
-use Rattle.slice_slab.specs.Bundles.{no_edge, edge_at, AreRanked}
-use Rattle.slice_slab.proofs.Live.{IsLive, live_bundles}
-use Rattle.slice_snap.specs.declared.piece.Spot.{Spot}
-use Rattle.slice_snap.specs.declared.piece.Piece.{Piece}
-use Rattle.slice_snap.specs.Spots.{point_of}
+use Rattle.slice_bundles.specs.Bundles.{no_edge, edge_at, AreRanked}
+use Rattle.slice_bundles.proofs.Live.{IsLive, live_bundles}
+use Rattle.slice_pieces.specs.declared.piece.Spot.{Spot}
+use Rattle.slice_pieces.specs.declared.piece.Piece.{Piece}
+use Rattle.slice_pieces.specs.Spots.{point_of}
 use Rattle.slice_border.specs.Pieces.{spot_on, piece_between, bundle_piece, slab_pieces, is_flat_at, IsLeft, GoRight, AreStops, covers, stretch_piece, flat_pieces, AreLevelPieces}
 use Rattle.slice_border.specs.OnEdges.{EndsLieOn, PiecesLieOnEdges}
 use Rattle.slice_border.proofs.Middle.{size_of, half_point}

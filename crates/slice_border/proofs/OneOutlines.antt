@@ -6,12 +6,12 @@ use Rattle.scad_geom.specs.declared.point.Edge.{Edge}
 use Rattle.scad_geom.proofs.Balance.{once}
 use Rattle.scad_geom.proofs.Places.{same_edge, same_edge_then_equal, same_edge_itself}
 use Rattle.winding_laws.specs.Edges.{rounded_edge, has_length}
-use Rattle.slice_snap.specs.declared.piece.Piece.{Piece}
-use Rattle.slice_snap.specs.Pieces.{way_of, ways_of}
-use Rattle.slice_snap.specs.Rounding.{rounded_edges}
-use Rattle.slice_snap.proofs.Counts.{times_permuted, from_times}
-use Rattle.slice_snap.proofs.OneMerging.{merged_are_one}
-use Rattle.slice_snap.proofs.OneRest.{many, many-cons, cancelled_are_one}
+use Rattle.slice_pieces.specs.declared.piece.Piece.{Piece}
+use Rattle.slice_pieces.specs.Pieces.{way_of, ways_of}
+use Rattle.slice_pieces.specs.Rounding.{rounded_edges}
+use Rattle.slice_pieces.proofs.Counts.{times_permuted, from_times}
+use Rattle.slice_pieces.proofs.OneMerging.{merged_are_one}
+use Rattle.slice_pieces.proofs.OneRest.{many, many-cons, cancelled_are_one}
 use Rattle.slice_loops.proofs.Unique.{outlines_are_one}
 use Rattle.slice_border.specs.NothingOpen.{MadeAreOne}
 use Rattle.std.proofs.Common.{zero-add}

@@ -16,7 +16,7 @@ use Rattle.scad_geom.specs.EdgeOrder.{AreAligned}
 use Rattle.scad_geom.proofs.Lines.{left_of_by}
 use Rattle.scad_geom.proofs.Order.{aligned_all}
 use Rattle.scad_geom.proofs.Turns.{level_at, Spans, beyond_mul}
-pub use Rattle.slice_slab.proofs.Live.{IsLive, live_bundles}
+pub use Rattle.slice_bundles.proofs.Live.{IsLive, live_bundles}
 pub use Rattle.slice_border.specs.Beside.{passing}
 use Rattle.slice_border.specs.Beside.{lies_left}
 

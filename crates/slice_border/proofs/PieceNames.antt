@@ -25,12 +25,12 @@ use Rattle.scad_geom.proofs.Points.{same_height, same_across}
 use Rattle.scad_geom.proofs.Heights.{heights_positive}
 use Rattle.scad_geom.proofs.Order.{back}
 use Rattle.slice_events.specs.Levels.{IsRising, AreLevels}
-use Rattle.slice_slab.specs.Bundles.{no_edge, edge_at, AreRanked}
-use Rattle.slice_snap.specs.declared.piece.Spot.{Spot}
-use Rattle.slice_snap.specs.declared.piece.Piece.{Piece}
-use Rattle.slice_snap.specs.Spots.{point_of}
-use Rattle.slice_snap.specs.Inside.{IsBelow, IsLeftOf}
-use Rattle.slice_snap.specs.Naming.{IsOnLine, LiesAlong, HasLength, AreNamed}
+use Rattle.slice_bundles.specs.Bundles.{no_edge, edge_at, AreRanked}
+use Rattle.slice_pieces.specs.declared.piece.Spot.{Spot}
+use Rattle.slice_pieces.specs.declared.piece.Piece.{Piece}
+use Rattle.slice_pieces.specs.Spots.{point_of}
+use Rattle.slice_pieces.specs.Inside.{IsBelow, IsLeftOf}
+use Rattle.slice_pieces.specs.Naming.{IsOnLine, LiesAlong, HasLength, AreNamed}
 use Rattle.scad_base.proofs.Lists.{AllByRecursion-append}
 use Rattle.slice_border.specs.Pieces.{spot_on, piece_between, bundle_piece, slab_pieces, is_flat_at, IsLeft, GoRight, AreStops, covers, stretch_piece, flat_pieces, AreLevelPieces, ArePieces}
 use Rattle.slice_border.proofs.Passing.{IsLive, live_bundles}

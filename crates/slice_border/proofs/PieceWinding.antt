@@ -16,11 +16,11 @@ use Rattle.winding_laws.specs.Points.{IsOn}
 use Rattle.winding_laws.proofs.Amid.{three_on_line}
 use Rattle.winding_laws.proofs.Order.{order_keeps_winding}
 use Rattle.winding_laws.proofs.Joining.{joining_keeps_winding}
-use Rattle.slice_slab.specs.Bundles.{edge_at}
-use Rattle.slice_snap.specs.declared.piece.Piece.{Piece}
-use Rattle.slice_snap.specs.Spots.{point_of}
-use Rattle.slice_snap.specs.Pieces.{way_of, ways_of, wind_pieces}
-use Rattle.slice_snap.specs.Merging.{joined, MeetAlone, AreMerged, all_joined, two_join}
+use Rattle.slice_bundles.specs.Bundles.{edge_at}
+use Rattle.slice_pieces.specs.declared.piece.Piece.{Piece}
+use Rattle.slice_pieces.specs.Spots.{point_of}
+use Rattle.slice_pieces.specs.Pieces.{way_of, ways_of, wind_pieces}
+use Rattle.slice_pieces.specs.Merging.{joined, MeetAlone, AreMerged, all_joined, two_join}
 use Rattle.slice_border.specs.OnEdges.{EndsLieOn}
 
 -- a piece's name is there, and both its ends are points of the edge of the name

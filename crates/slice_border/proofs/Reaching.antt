@@ -15,11 +15,11 @@ use Rattle.scad_geom.proofs.Leaves.{wind_leaf}
 use Rattle.scad_geom.specs.Level.{level_of, IsLower, IsAtMost}
 use Rattle.scad_geom.specs.Heights.{heights, AreNeighbours}
 pub use Rattle.slice_border.specs.Beside.{lies_left}
-use Rattle.slice_slab.specs.Bundles.{no_edge, reaches, reaching}
+use Rattle.slice_bundles.specs.Bundles.{no_edge, reaches, reaching}
 use Rattle.scad_geom.proofs.Heights.{Reaches, lower_then_at_most, at_most_then_lower}
 use Rattle.scad_geom.proofs.Order.{all_ends}
 use Rattle.scad_geom.proofs.Turns.{level_at, Over, NotOver, Spans, over_up, not_over_down, heading, reaching_turn, under_turn, over_turn}
-use Rattle.slice_slab.proofs.Live.{reaches_is}
+use Rattle.slice_bundles.proofs.Live.{reaches_is}
 use Rattle.scad_geom.proofs.Sums.{sum_z}
 use Rattle.std.proofs.lemmas.Bool.{true≢false}
 use Rattle.scad_base.proofs.Tests.{cond_same}

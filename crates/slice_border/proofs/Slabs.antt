@@ -4,7 +4,7 @@ use lib.IntN.{ℤ, pos, negsuc, ◌+ℤ◌, ◌-ℤ◌, ◌*ℤ◌, neg_ℤ, +�
 use lib.Signed.{◌<ℤ◌}
 use Rattle.std.specs.Prelude.{if◌then◌else◌}
 use Rattle.std.specs.List.{AllByRecursion, concat}
-use Rattle.slice_snap.proofs.Ways.{wind_pieces-append}
+use Rattle.slice_pieces.proofs.Ways.{wind_pieces-append}
 use Rattle.scad_geom.specs.declared.point.Edge.{Edge}
 use Rattle.scad_geom.specs.declared.level.Level.{Level}
 use Rattle.scad_geom.specs.declared.level.LeafEdge.{LeafEdge}
@@ -14,7 +14,7 @@ use Rattle.scad_geom.specs.Point.{Point}
 use Rattle.scad_geom.specs.Winding.{is_beyond}
 use Rattle.scad_geom.specs.Shape.{is_in_by}
 use Rattle.scad_geom.specs.Level.{IsLower}
-use Rattle.slice_slab.specs.Bundles.{edge_at, AreRanked, AreBundles}
+use Rattle.slice_bundles.specs.Bundles.{edge_at, AreRanked, AreBundles}
 use Rattle.scad_base.proofs.Products.{positive_product}
 use Rattle.scad_geom.proofs.Turns.{level_at, Spans, beyond_mul}
 use Rattle.slice_border.proofs.Reaching.{lies_left}
@@ -26,10 +26,10 @@ use Rattle.scad_geom.proofs.Ring.{ring, num, ◌⊕◌, ◌⊖◌, ◌⊗◌, v0
 use Rattle.scad_geom.proofs.Turns.{Over, NotOver, over_true, over_false, rising_turn, falling_turn}
 use Rattle.scad_geom.proofs.Shapes.{nothing_held}
 use Rattle.scad_geom.proofs.Order.{back}
-use Rattle.slice_snap.specs.declared.piece.Spot.{Spot}
+use Rattle.slice_pieces.specs.declared.piece.Spot.{Spot}
 use Rattle.slice_border.specs.Pieces.{spot_on, piece_between, bundle_piece, slab_pieces}
-use Rattle.slice_snap.specs.Spots.{point_of}
-use Rattle.slice_snap.specs.Pieces.{wind_pieces}
+use Rattle.slice_pieces.specs.Spots.{point_of}
+use Rattle.slice_pieces.specs.Pieces.{wind_pieces}
 use Rattle.std.specs.Prelude.{unsigned_abs}
 use Rattle.slice_border.proofs.Passing.{IsLive, live_bundles, passing, HeadPasses, Around}
 use Rattle.slice_border.proofs.Values.{all_pass, value_of, is_in_passing}

@@ -11,7 +11,7 @@ use Rattle.std.proofs.lemmas.List.Elements.{recursion_from_All, All-from_recursi
 use Rattle.std.proofs.lemmas.List.Sorted.{All-permutation, IsPermutation-map, IsPermutation-sym}
 use Rattle.scad_geom.specs.Level.{IsAtMost}
 use Rattle.scad_geom.proofs.Heights.{at_most_chain, lower_then_at_most}
-use Rattle.slice_snap.specs.declared.piece.Spot.{Spot}
+use Rattle.slice_pieces.specs.declared.piece.Spot.{Spot}
 use Rattle.slice_border.specs.Pieces.{IsLeft, IsSameAcross, GoRight, HasSpot, IsOneOf, across}
 use Rattle.slice_border.specs.Stops.{is_left, AreSorted, spots_in, AreStopsOf}
 use Rattle.slice_events.specs.Distinct.{distinct_by}

@@ -8,7 +8,7 @@ use Rattle.scad_geom.specs.declared.level.LeafEdge.{LeafEdge}
 use Rattle.scad_geom.specs.declared.shape.Shape.{Shape}
 use Rattle.scad_geom.specs.Shape.{shape_holds}
 use Rattle.scad_geom.specs.Sign.{is_zero}
-use Rattle.slice_slab.specs.Bundles.{no_edge}
+use Rattle.slice_bundles.specs.Bundles.{no_edge}
 use Rattle.slice_border.specs.Tally.{IsTally, heading_of, headings}
 use Rattle.slice_border.specs.Keeping.{in_by, Tells, AreSmall}
 use Rattle.slice_border.proofs.Keeping.{heading_size}

@@ -13,9 +13,9 @@ use Rattle.scad_geom.specs.Level.{IsLower, IsAtMost}
 use Rattle.scad_geom.specs.Point.{Point}
 use Rattle.scad_geom.proofs.Heights.{heights_positive}
 use Rattle.slice_events.specs.Levels.{IsRising, AreLevels}
-use Rattle.slice_slab.specs.Bundles.{AreBundles}
-use Rattle.slice_snap.specs.declared.piece.Spot.{Spot}
-use Rattle.slice_snap.specs.Spots.{point_of}
+use Rattle.slice_bundles.specs.Bundles.{AreBundles}
+use Rattle.slice_pieces.specs.declared.piece.Spot.{Spot}
+use Rattle.slice_pieces.specs.Spots.{point_of}
 use Rattle.slice_border.specs.Beside.{passing, TellBeside}
 use Rattle.slice_border.proofs.BundleValues.{left_is, outside_right}
 use Rattle.slice_border.proofs.Middle.{scaled, lower_scaled, at_most_scaled, scaled_below, scaled_at_most}

@@ -13,7 +13,7 @@ use Rattle.scad_geom.proofs.Leaves.{wind_leaf}
 use Rattle.scad_geom.specs.Shape.{shape_holds, is_in_by}
 use Rattle.scad_geom.specs.Sign.{is_zero}
 use Rattle.scad_geom.specs.EdgeOrder.{AreAligned}
-use Rattle.slice_slab.specs.Bundles.{no_edge, edge_at, reaching, IsBundle, Precedes, AreRanked, AreBundles}
+use Rattle.slice_bundles.specs.Bundles.{no_edge, edge_at, reaching, IsBundle, Precedes, AreRanked, AreBundles}
 use Rattle.scad_geom.proofs.Order.{before_between}
 use Rattle.scad_geom.proofs.Turns.{level_at}
 use Rattle.scad_geom.proofs.Sums.{sum_z, sum_z-append, sum_z-permutation}

@@ -18,10 +18,10 @@ use Rattle.scad_geom.specs.Heights.{heights}
 use Rattle.scad_geom.proofs.Heights.{at_most_chain, heights_positive}
 use Rattle.scad_geom.proofs.Turns.{Over, NotOver, over_up, not_over_down}
 use Rattle.slice_events.specs.Levels.{IsRising, HasHeight, AreLevels}
-use Rattle.slice_snap.specs.declared.piece.Piece.{Piece}
-use Rattle.slice_snap.specs.Pieces.{wind_pieces}
+use Rattle.slice_pieces.specs.declared.piece.Piece.{Piece}
+use Rattle.slice_pieces.specs.Pieces.{wind_pieces}
 use Rattle.slice_border.specs.Pieces.{slab_pieces, flat_pieces, AreLevelPieces, ArePieces}
-use Rattle.slice_snap.proofs.Ways.{wind_pieces-append}
+use Rattle.slice_pieces.proofs.Ways.{wind_pieces-append}
 use Rattle.slice_border.proofs.Slabs.{slab_winding}
 use Rattle.slice_border.proofs.Winding.{outside_below, outside_above, either_over, stops_still, slab_over, slab_under, two_zeros}
 

@@ -15,7 +15,7 @@ use Rattle.scad_geom.specs.Line.{rise}
 use Rattle.scad_geom.specs.Point.{Point}
 use Rattle.scad_geom.proofs.Leaves.{wind_leaf}
 use Rattle.scad_geom.specs.Shape.{is_in_by}
-use Rattle.slice_slab.specs.Bundles.{no_edge, edge_at, AreRanked, AreBundles}
+use Rattle.slice_bundles.specs.Bundles.{no_edge, edge_at, AreRanked, AreBundles}
 use Rattle.scad_geom.proofs.Turns.{level_at}
 use Rattle.scad_geom.specs.Point.{whole}
 use Rattle.scad_geom.specs.Winding.{is_over, turn}
@@ -23,17 +23,17 @@ use Rattle.scad_geom.specs.Heights.{heights}
 use Rattle.scad_geom.proofs.Turns.{Over, NotOver, flat_turn, under_turn, over_turn}
 use Rattle.scad_geom.proofs.Shapes.{nothing_held}
 use Rattle.scad_geom.proofs.Order.{back, all_ends}
-use Rattle.slice_snap.specs.declared.piece.Spot.{Spot}
+use Rattle.slice_pieces.specs.declared.piece.Spot.{Spot}
 use Rattle.slice_border.specs.Pieces.{spot_on, whole_spot, piece_between, bundle_piece, slab_pieces, is_flat_at, passes_at, spots_at, IsOneOf, AreStops, covers, stretch_piece, flat_pieces}
-use Rattle.slice_snap.specs.Spots.{point_of}
-use Rattle.slice_snap.specs.Pieces.{wind_pieces}
+use Rattle.slice_pieces.specs.Spots.{point_of}
+use Rattle.slice_pieces.specs.Pieces.{wind_pieces}
 use Rattle.std.specs.Prelude.{unsigned_abs, Option, Some, None}
 use Rattle.std.specs.List.{position}
 use Rattle.std.proofs.lemmas.Bool.{and_parts}
 use Rattle.slice_border.proofs.Passing.{IsLive, live_bundles}
 use Rattle.slice_border.proofs.Middle.{size_of, half_point}
 use Rattle.slice_border.proofs.Slabs.{spot_over, spot_not_over}
-use Rattle.slice_snap.proofs.Ways.{wind_pieces-append}
+use Rattle.slice_pieces.proofs.Ways.{wind_pieces-append}
 
 -- ---- where no edge passes a point's height, nothing is inside
 nothing_around : (above right : Bool) (p : Point) (leaf : ℕ) (es : List LeafEdge)

@@ -8,7 +8,7 @@ use Rattle.std.proofs.lemmas.Int.{ints, unsigned_abs-mul}
 use Rattle.std.proofs.lemmas.Nat.{mul-le}
 use Rattle.std.proofs.lemmas.List.Elements.{recursion_from_All, All-from_recursion}
 use Rattle.scad_base.proofs.Integers.{gap_of_at_most}
-use Rattle.slice_snap.proofs.Ends.{joined, from_ends}
+use Rattle.slice_pieces.proofs.Ends.{joined, from_ends}
 use Rattle.scad_base.proofs.Lists.{AllByRecursion-append}
 use Rattle.scad_geom.specs.declared.point.Edge.{Edge}
 use Rattle.scad_geom.specs.declared.level.Level.{Level}
@@ -21,17 +21,17 @@ use Rattle.scad_geom.proofs.Ring.{ring, ◌⊕◌, ◌⊖◌, ◌⊗◌, v0, v1,
 use Rattle.scad_geom.proofs.Bounds.{low_within, high_within}
 use Rattle.scad_geom.proofs.Heights.{Reaches, lower_then_at_most, at_most_then_lower}
 use Rattle.slice_events.specs.Levels.{IsRising}
-use Rattle.slice_slab.specs.Bundles.{edge_at, reaches}
-use Rattle.slice_slab.proofs.Live.{IsLive, live_bundles, reaches_is}
-use Rattle.slice_snap.specs.declared.piece.Spot.{Spot}
-use Rattle.slice_snap.specs.declared.piece.Piece.{Piece}
+use Rattle.slice_bundles.specs.Bundles.{edge_at, reaches}
+use Rattle.slice_bundles.proofs.Live.{IsLive, live_bundles, reaches_is}
+use Rattle.slice_pieces.specs.declared.piece.Spot.{Spot}
+use Rattle.slice_pieces.specs.declared.piece.Piece.{Piece}
 use Rattle.slice_border.specs.Pieces.{spot_on, whole_spot, slab_pieces, is_flat_at, passes_at, spots_at, AreStops, flat_pieces, AreLevelPieces, ArePieces}
-use Rattle.slice_snap.specs.Pieces.{ends_of}
-use Rattle.slice_snap.specs.Spots.{IsSpotWithin}
-use Rattle.slice_snap.specs.Pieces.{IsPieceWithin}
+use Rattle.slice_pieces.specs.Pieces.{ends_of}
+use Rattle.slice_pieces.specs.Spots.{IsSpotWithin}
+use Rattle.slice_pieces.specs.Pieces.{IsPieceWithin}
 use Rattle.scad_base.proofs.Lists.{AllByRecursion-append}
 use Rattle.slice_border.proofs.Winding.{of_stops}
-use Rattle.slice_snap.proofs.Ends.{joined}
+use Rattle.slice_pieces.proofs.Ends.{joined}
 use Rattle.slice_border.proofs.Ends.{flat_ends, slab_ends, AtBoth, each_of}
 
 -- ---- where an edge passes a height: between its ends

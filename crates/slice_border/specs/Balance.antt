@@ -1,10 +1,10 @@
 -- Borders that are closed: at each point as many pieces start as end.
 use Rattle.std.specs.Prelude.{List}
-use Rattle.slice_snap.specs.Pieces.{ArePiecesBalanced}
+use Rattle.slice_pieces.specs.Pieces.{ArePiecesBalanced}
 use Rattle.scad_geom.specs.Leaves.{AreLeavesBalanced}
 use Rattle.scad_geom.specs.declared.level.LeafEdge.{LeafEdge}
 use Rattle.scad_geom.specs.declared.shape.Shape.{Shape}
-use Rattle.slice_snap.specs.declared.piece.Piece.{Piece}
+use Rattle.slice_pieces.specs.declared.piece.Piece.{Piece}
 use Rattle.slice_border.specs.Pieces.{ArePieces}
 
 -- ---- the law

@@ -8,9 +8,9 @@ use Rattle.scad_geom.specs.Shape.{is_in_by}
 use Rattle.scad_geom.specs.Line.{rise, left_of}
 use Rattle.scad_geom.specs.Point.{Point}
 use Rattle.scad_geom.specs.Winding.{is_beyond}
-use Rattle.slice_slab.specs.Bundles.{no_edge, edge_at}
-use Rattle.slice_snap.specs.declared.piece.Spot.{Spot}
-use Rattle.slice_snap.specs.Spots.{point_of}
+use Rattle.slice_bundles.specs.Bundles.{no_edge, edge_at}
+use Rattle.slice_pieces.specs.declared.piece.Spot.{Spot}
+use Rattle.slice_pieces.specs.Spots.{point_of}
 use Rattle.slice_border.specs.Tally.{is_held, headings}
 
 -- whether a shape holds what lies to the left of these bundles and of no others

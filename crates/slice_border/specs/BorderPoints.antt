@@ -1,12 +1,12 @@
 -- Border points, and the points inside a piece.
 use Rattle.std.specs.Prelude.{Bool, true, false, List, pos, ◌≡◌, ◌<ℤ◌, All}
-use Rattle.slice_snap.specs.Inside.{IsInside}
+use Rattle.slice_pieces.specs.Inside.{IsInside}
 use Rattle.scad_geom.specs.declared.level.LeafEdge.{LeafEdge}
 use Rattle.scad_geom.specs.declared.shape.Shape.{Shape}
 use Rattle.scad_geom.specs.Point.{Point}
 use Rattle.scad_geom.specs.Shape.{is_in_by}
-use Rattle.slice_snap.specs.declared.piece.Piece.{Piece}
-use Rattle.slice_snap.specs.Spots.{point_of}
+use Rattle.slice_pieces.specs.declared.piece.Piece.{Piece}
+use Rattle.slice_pieces.specs.Spots.{point_of}
 use Rattle.slice_border.specs.Pieces.{ArePieces}
 
 -- a point hard by which the shape holds on one of the four sides and not on another

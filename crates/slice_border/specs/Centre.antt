@@ -7,8 +7,8 @@ use Rattle.scad_geom.specs.declared.shape.Shape.{Shape}
 use Rattle.scad_geom.specs.Winding.{wind, counted}
 use Rattle.scad_geom.specs.Shape.{shape_holds, is_in}
 use Rattle.scad_geom.specs.Sign.{is_zero}
-use Rattle.slice_snap.specs.declared.piece.Piece.{Piece}
-use Rattle.slice_snap.specs.Pieces.{wind_pieces}
+use Rattle.slice_pieces.specs.declared.piece.Piece.{Piece}
+use Rattle.slice_pieces.specs.Pieces.{wind_pieces}
 use Rattle.slice_border.specs.Pieces.{ArePieces}
 use Rattle.scad_geom.specs.Leaves.{edges_of}
 

@@ -1,9 +1,9 @@
 -- The ends of pieces, and that one height has one level.
 use Rattle.std.specs.Prelude.{List}
-use Rattle.slice_snap.specs.Pieces.{HaveOneLevel}
+use Rattle.slice_pieces.specs.Pieces.{HaveOneLevel}
 use Rattle.scad_geom.specs.declared.level.LeafEdge.{LeafEdge}
 use Rattle.scad_geom.specs.declared.shape.Shape.{Shape}
-use Rattle.slice_snap.specs.declared.piece.Piece.{Piece}
+use Rattle.slice_pieces.specs.declared.piece.Piece.{Piece}
 use Rattle.slice_border.specs.Pieces.{ArePieces}
 
 -- ---- the law

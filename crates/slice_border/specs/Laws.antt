@@ -5,8 +5,8 @@ use Rattle.scad_geom.specs.declared.shape.Shape.{Shape}
 use Rattle.scad_geom.specs.Point.{Point}
 use Rattle.scad_geom.specs.Shape.{is_in_by}
 use Rattle.scad_geom.specs.Winding.{counted}
-use Rattle.slice_snap.specs.declared.piece.Piece.{Piece}
-use Rattle.slice_snap.specs.Pieces.{wind_pieces}
+use Rattle.slice_pieces.specs.declared.piece.Piece.{Piece}
+use Rattle.slice_pieces.specs.Pieces.{wind_pieces}
 use Rattle.slice_border.specs.Pieces.{ArePieces}
 
 -- The pieces of a border wind once round each point that the shape holds, hard by the point on each side, and not at all round

@@ -2,9 +2,9 @@
 use Rattle.std.specs.Prelude.{◌≡◌, ℕ, List, All}
 use Rattle.scad_geom.specs.declared.point.Pt.{Pt}
 use Rattle.scad_geom.specs.declared.point.Edge.{Edge}
-use Rattle.slice_snap.specs.declared.piece.Piece.{Piece}
-use Rattle.slice_snap.specs.Pieces.{IsPieceWithin}
-use Rattle.slice_snap.specs.Naming.{AreNamed}
+use Rattle.slice_pieces.specs.declared.piece.Piece.{Piece}
+use Rattle.slice_pieces.specs.Pieces.{IsPieceWithin}
+use Rattle.slice_pieces.specs.Naming.{AreNamed}
 use Rattle.slice_border.specs.Outlines.{AreMadeOf}
 
 -- ---- the law

@@ -5,9 +5,9 @@ use Rattle.scad_geom.specs.declared.level.LeafEdge.{LeafEdge}
 use Rattle.scad_geom.specs.declared.shape.Shape.{Shape}
 use Rattle.scad_geom.specs.Point.{whole}
 use Rattle.winding_laws.specs.Points.{IsOn}
-use Rattle.slice_slab.specs.Bundles.{edge_at}
-use Rattle.slice_snap.specs.declared.piece.Piece.{Piece}
-use Rattle.slice_snap.specs.Spots.{point_of}
+use Rattle.slice_bundles.specs.Bundles.{edge_at}
+use Rattle.slice_pieces.specs.declared.piece.Piece.{Piece}
+use Rattle.slice_pieces.specs.Spots.{point_of}
 use Rattle.slice_border.specs.Pieces.{ArePieces}
 
 -- both ends of a piece are points of an edge

@@ -5,10 +5,10 @@ use Rattle.scad_geom.specs.declared.point.Pt.{Pt}
 use Rattle.scad_geom.specs.declared.point.Edge.{Edge}
 use Rattle.scad_geom.specs.declared.level.LeafEdge.{LeafEdge}
 use Rattle.scad_geom.specs.declared.shape.Shape.{Shape}
-use Rattle.slice_snap.specs.declared.piece.Piece.{Piece}
-use Rattle.slice_snap.specs.Merging.{AreMerged}
-use Rattle.slice_snap.specs.Rounding.{rounded_edges}
-use Rattle.slice_snap.specs.Cancelling.{AreCancelled}
+use Rattle.slice_pieces.specs.declared.piece.Piece.{Piece}
+use Rattle.slice_pieces.specs.Merging.{AreMerged}
+use Rattle.slice_pieces.specs.Rounding.{rounded_edges}
+use Rattle.slice_pieces.specs.Cancelling.{AreCancelled}
 use Rattle.slice_loops.specs.Outlines.{AreOutlines}
 use Rattle.slice_border.specs.Pieces.{ArePieces}
 

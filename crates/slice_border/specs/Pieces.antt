@@ -2,7 +2,7 @@
 use Rattle.std.specs.Prelude.{Bool, true, false, ◌&&◌, ◌||◌, if◌then◌else◌, List, [], ◌∷◌, ◌++◌, ℕ, Option, None, Some, ◌≡◌, ◌⊎◌, ⊤, ℤ, pos, ◌+ℤ◌, ◌*ℤ◌, int_lt, int_le, unsigned_abs}
 use Rattle.std.specs.List.{AllByRecursion, position}
 use Rattle.std.specs.Ordering.{int_eq}
-use Rattle.slice_snap.specs.Spots.{point_of}
+use Rattle.slice_pieces.specs.Spots.{point_of}
 use Rattle.scad_geom.specs.declared.point.Edge.{Edge}
 use Rattle.scad_geom.specs.declared.level.Level.{Level}
 use Rattle.scad_geom.specs.declared.level.LeafEdge.{LeafEdge}
@@ -13,9 +13,9 @@ use Rattle.scad_geom.specs.Level.{IsLower, IsSameHeight}
 use Rattle.scad_geom.specs.Shape.{is_in_by}
 use Rattle.scad_geom.specs.Sign.{is_zero}
 use Rattle.slice_events.specs.Levels.{AreLevels}
-use Rattle.slice_slab.specs.Bundles.{edge_at, AreBundles}
-use Rattle.slice_snap.specs.declared.piece.Spot.{Spot}
-use Rattle.slice_snap.specs.declared.piece.Piece.{Piece}
+use Rattle.slice_bundles.specs.Bundles.{edge_at, AreBundles}
+use Rattle.slice_pieces.specs.declared.piece.Spot.{Spot}
+use Rattle.slice_pieces.specs.declared.piece.Piece.{Piece}
 
 -- where the line of an edge that isn't flat passes a height
 abbrev pub spot_on : Edge → Level → Spot

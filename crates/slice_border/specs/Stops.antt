@@ -3,7 +3,7 @@ use Rattle.std.specs.Prelude.{Bool, List, [], ◌∷◌, map, ⊤}
 use Rattle.std.specs.List.{AllByRecursion}
 use Rattle.scad_geom.specs.Level.{IsAtMost}
 use Rattle.slice_events.specs.Collection.{is_lower}
-use Rattle.slice_snap.specs.declared.piece.Spot.{Spot}
+use Rattle.slice_pieces.specs.declared.piece.Spot.{Spot}
 use Rattle.slice_border.specs.declared.stop.Stop.{Stop}
 use Rattle.slice_border.specs.Pieces.{across, GoRight, HasSpot, IsOneOf}
 

@@ -5,7 +5,7 @@ use Rattle.scad_geom.specs.declared.level.LeafEdge.{LeafEdge}
 use Rattle.scad_geom.specs.declared.shape.Shape.{Shape}
 use Rattle.scad_geom.specs.Shape.{shape_holds}
 use Rattle.scad_geom.specs.Sign.{is_zero}
-use Rattle.slice_slab.specs.Bundles.{no_edge}
+use Rattle.slice_bundles.specs.Bundles.{no_edge}
 
 -- numbers by leaf; past the list's end they are 0
 abbrev pub IsTally : List ℤ → (ℕ → ℤ) → Type 0

@@ -1,11 +1,11 @@
 -- The ends of pieces are in range.
 use Rattle.std.specs.Prelude.{List, ℕ, ◌<◌, All}
-use Rattle.slice_snap.specs.Pieces.{IsPieceWithin}
+use Rattle.slice_pieces.specs.Pieces.{IsPieceWithin}
 use Rattle.scad_geom.specs.declared.level.LeafEdge.{LeafEdge}
 use Rattle.scad_geom.specs.declared.shape.Shape.{Shape}
 use Rattle.scad_geom.specs.Within.{IsEdgeWithin}
 use Rattle.scad_geom.specs.Level.{IsLevelWithin}
-use Rattle.slice_snap.specs.declared.piece.Piece.{Piece}
+use Rattle.slice_pieces.specs.declared.piece.Piece.{Piece}
 use Rattle.slice_border.specs.Pieces.{ArePieces}
 
 -- ---- the law

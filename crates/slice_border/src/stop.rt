@@ -10,7 +10,7 @@ ghost use Rattle.slice_border.specs.Pieces.{spot_on, whole_spot};
 use scad_geom::line::{rise, x_at};
 use scad_geom::wide::times;
 use scad_geom::{Edge, Level};
-use slice_snap::Spot;
+use slice_pieces::Spot;
 use std::cmp::Ordering;
 
 /// A spot whose numbers are small enough for the comparisons.

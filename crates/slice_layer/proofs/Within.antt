@@ -25,12 +25,12 @@ use Rattle.scad_geom.proofs.Ring.{ring, num, ◌⊕◌, ◌⊖◌, ◌⊗◌, v0
 use Rattle.scad_geom.proofs.Signs.{at_least_mul, at_least_left, sum_at_least}
 use Rattle.winding_laws.specs.Edges.{turned, rounded_edge, has_length}
 use Rattle.winding_laws.specs.Points.{IsOn}
-use Rattle.slice_slab.specs.Bundles.{no_edge, edge_at}
-use Rattle.slice_snap.specs.declared.piece.Piece.{Piece}
-use Rattle.slice_snap.specs.Spots.{point_of}
-use Rattle.slice_snap.specs.Pieces.{way_of, ways_of}
-use Rattle.slice_snap.specs.Cancelling.{AreCancelled}
-use Rattle.slice_snap.specs.Rounding.{rounded_edges}
+use Rattle.slice_bundles.specs.Bundles.{no_edge, edge_at}
+use Rattle.slice_pieces.specs.declared.piece.Piece.{Piece}
+use Rattle.slice_pieces.specs.Spots.{point_of}
+use Rattle.slice_pieces.specs.Pieces.{way_of, ways_of}
+use Rattle.slice_pieces.specs.Cancelling.{AreCancelled}
+use Rattle.slice_pieces.specs.Rounding.{rounded_edges}
 use Rattle.slice_border.specs.Outlines.{AreOutlinesOf}
 use Rattle.slice_border.proofs.PieceWinding.{IsPlaced, placed_proper, merged_placed}
 use Rattle.slice_border.proofs.Membership.{pieces_are_placed}

@@ -5,7 +5,7 @@ use lib.Signed.{◌<ℤ◌, ◌≤ℤ◌}
 use Rattle.std.proofs.lemmas.Int.{ints}
 use Rattle.scad_geom.specs.declared.level.Level.{Level}
 use Rattle.scad_geom.proofs.Heights.{lower_then_at_most, at_most_then_lower, at_most_chain, lower_chain, lower_weak, same_at_least, same_at_most}
-use Rattle.slice_snap.specs.declared.piece.Spot.{Spot}
+use Rattle.slice_pieces.specs.declared.piece.Spot.{Spot}
 use Rattle.slice_border.specs.Pieces.{across, IsLeft, IsSameAcross}
 use Rattle.slice_border.proofs.Winding.{IsSpotAt}
 use Rattle.slice_outlines.specs.Heights.{IsNotRightOf}

@@ -21,11 +21,11 @@ use Rattle.scad_geom.specs.Heights.{heights, AreNeighbours}
 use Rattle.scad_geom.proofs.Heights.{heights_positive, at_most_chain, lower_weak}
 use Rattle.scad_geom.proofs.Order.{front, back}
 use Rattle.slice_events.specs.Levels.{AreLevels}
-use Rattle.slice_slab.specs.Bundles.{no_edge, edge_at, AreBundles, AreRanked}
-use Rattle.slice_slab.proofs.Live.{IsLive, live_bundles}
-use Rattle.slice_snap.specs.declared.piece.Spot.{Spot}
-use Rattle.slice_snap.specs.Spots.{point_of}
-use Rattle.slice_snap.specs.Rounding.{rounded_edges}
+use Rattle.slice_bundles.specs.Bundles.{no_edge, edge_at, AreBundles, AreRanked}
+use Rattle.slice_bundles.proofs.Live.{IsLive, live_bundles}
+use Rattle.slice_pieces.specs.declared.piece.Spot.{Spot}
+use Rattle.slice_pieces.specs.Spots.{point_of}
+use Rattle.slice_pieces.specs.Rounding.{rounded_edges}
 use Rattle.slice_border.specs.Pieces.{whole_spot, passes_at, is_flat_at, spots_at, GoRight, HasSpot, IsOneOf}
 use Rattle.slice_border.specs.Beside.{left_value, passing}
 use Rattle.slice_border.specs.Tally.{headings, is_held}

@@ -8,9 +8,9 @@ use Rattle.scad_geom.specs.declared.level.Level.{Level}
 use Rattle.scad_geom.specs.declared.level.LeafEdge.{LeafEdge}
 use Rattle.scad_geom.specs.Line.{rise, x_at}
 use Rattle.scad_geom.proofs.Order.{front, back}
-use Rattle.slice_slab.specs.Bundles.{edge_at}
-use Rattle.slice_slab.specs.KeptOrder.{IsLeftAt}
-use Rattle.slice_snap.specs.declared.piece.Spot.{Spot}
+use Rattle.slice_bundles.specs.Bundles.{edge_at}
+use Rattle.slice_bundles.specs.KeptOrder.{IsLeftAt}
+use Rattle.slice_pieces.specs.declared.piece.Spot.{Spot}
 use Rattle.slice_border.specs.Pieces.{spot_on, passes_at, spots_at, IsLeft, IsSameAcross, IsOneOf, GoRight}
 use Rattle.slice_border.proofs.Middle.{size_of}
 use Rattle.slice_border.proofs.Winding.{IsSpotAt}

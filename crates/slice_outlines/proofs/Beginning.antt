@@ -19,7 +19,7 @@ use Rattle.slice_outlines.specs.declared.sweep.Sweep.{Sweep}
 use Rattle.slice_outlines.specs.declared.flat.Flat.{Flat}
 use Rattle.slice_outlines.specs.Flats.{IsFlatOf}
 use Rattle.slice_outlines.specs.Sweep.{IsReadyForFirst, IsFrontBelow, ArePassedBelowFirst}
-use Rattle.slice_slab.specs.Bundles.{no_edge}
+use Rattle.slice_bundles.specs.Bundles.{no_edge}
 
 -- ---- the first level is the lowest height
 at_or_above : (l : Level) (ls : List Level) (h : Level) → AllByRecursion (λ (u : Level). pos 0 <ℤ u.d) (l ∷ ls)

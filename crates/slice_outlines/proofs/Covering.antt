@@ -5,7 +5,7 @@ use Rattle.std.specs.List.{AllByRecursion, position}
 use Rattle.std.proofs.lemmas.Bool.{cases_lt}
 use Rattle.std.proofs.lemmas.List.Quantifiers.{position-Some}
 use Rattle.scad_geom.specs.declared.level.LeafEdge.{LeafEdge}
-use Rattle.slice_slab.specs.Bundles.{no_edge}
+use Rattle.slice_bundles.specs.Bundles.{no_edge}
 use Rattle.slice_border.proofs.BalanceFlat.{none_covers}
 use Rattle.slice_outlines.specs.declared.flat.Flat.{Flat}
 use Rattle.slice_outlines.specs.Along.{lesser, least_from, least}

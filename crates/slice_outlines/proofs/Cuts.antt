@@ -17,9 +17,9 @@ use Rattle.scad_geom.specs.Sign.{is_zero}
 use Rattle.scad_geom.specs.Point.{Point}
 use Rattle.scad_geom.proofs.Order.{front, back}
 use Rattle.winding_laws.proofs.Sameness.{cancel_mul}
-use Rattle.slice_slab.specs.Bundles.{no_edge, edge_at}
-use Rattle.slice_snap.specs.declared.piece.Spot.{Spot}
-use Rattle.slice_snap.specs.Spots.{point_of}
+use Rattle.slice_bundles.specs.Bundles.{no_edge, edge_at}
+use Rattle.slice_pieces.specs.declared.piece.Spot.{Spot}
+use Rattle.slice_pieces.specs.Spots.{point_of}
 use Rattle.slice_border.specs.Pieces.{spot_on, whole_spot, is_flat_at, IsLeft}
 use Rattle.slice_border.specs.Beside.{left_value, passing, lies_left, is_right_of}
 use Rattle.slice_border.proofs.Winding.{IsSpotAt}

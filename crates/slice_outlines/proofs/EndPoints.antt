@@ -26,10 +26,10 @@ use Rattle.scad_geom.proofs.Ring.{ring, num, ◌⊕◌, ◌⊖◌, ◌⊗◌, v0
 use Rattle.scad_base.proofs.Products.{positive_product}
 use Rattle.winding_laws.specs.Edges.{rounded}
 use Rattle.winding_laws.proofs.Rounding.{rounded_same}
-use Rattle.slice_slab.specs.Bundles.{no_edge, edge_at, reaches}
-use Rattle.slice_slab.proofs.Live.{reaches_is}
-use Rattle.slice_snap.specs.Spots.{point_of, IsSpotWithin}
-use Rattle.slice_snap.proofs.SameSpots.{to_eq}
+use Rattle.slice_bundles.specs.Bundles.{no_edge, edge_at, reaches}
+use Rattle.slice_bundles.proofs.Live.{reaches_is}
+use Rattle.slice_pieces.specs.Spots.{point_of, IsSpotWithin}
+use Rattle.slice_pieces.proofs.SameSpots.{to_eq}
 use Rattle.slice_border.specs.Pieces.{spot_on, passes_at}
 use Rattle.slice_border.proofs.Middle.{size_of}
 use Rattle.slice_border.proofs.Within.{by_weights, weights_add, size_above}

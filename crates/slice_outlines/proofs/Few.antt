@@ -3,7 +3,7 @@ use Rattle.std.proofs.Common.{ℕ, ◌^◌, ◌<◌, ◌≤◌, List, [], ◌∷
 use Rattle.std.specs.List.{concat}
 use Rattle.scad_geom.specs.declared.level.Level.{Level}
 use Rattle.scad_geom.specs.declared.level.LeafEdge.{LeafEdge}
-use Rattle.slice_slab.specs.Bundles.{AreBundles, AreRanked}
+use Rattle.slice_bundles.specs.Bundles.{AreBundles, AreRanked}
 use Rattle.slice_border.specs.Beside.{AreMembers}
 use Rattle.slice_border.proofs.BundleValues.{are_members}
 

@@ -7,8 +7,8 @@ use Rattle.scad_geom.specs.declared.point.Edge.{Edge}
 use Rattle.scad_geom.specs.declared.level.Level.{Level}
 use Rattle.scad_geom.specs.declared.level.LeafEdge.{LeafEdge}
 use Rattle.scad_geom.proofs.Order.{front}
-use Rattle.slice_slab.specs.Bundles.{edge_at}
-use Rattle.slice_slab.specs.KeptOrder.{IsSamePlaceAt}
+use Rattle.slice_bundles.specs.Bundles.{edge_at}
+use Rattle.slice_bundles.specs.KeptOrder.{IsSamePlaceAt}
 use Rattle.slice_sweep.specs.Strands.{head}
 use Rattle.slice_sweep.specs.Changes.{Group, all_below, all_at, Stand, IsTogetherAt}
 use Rattle.slice_outlines.specs.declared.mark.Mark.{Mark}

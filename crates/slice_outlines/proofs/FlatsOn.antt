@@ -23,7 +23,7 @@ use Rattle.scad_geom.specs.Heights.{heights, AreNeighbours}
 use Rattle.scad_geom.proofs.Heights.{lower_chain, same_lower}
 use Rattle.scad_geom.proofs.Order.{all_ends}
 use Rattle.winding_laws.proofs.Sameness.{cancel_mul}
-use Rattle.slice_slab.specs.Bundles.{no_edge, edge_at}
+use Rattle.slice_bundles.specs.Bundles.{no_edge, edge_at}
 use Rattle.slice_border.specs.Pieces.{is_flat_at}
 use Rattle.slice_outlines.specs.declared.flat.Flat.{Flat}
 use Rattle.slice_outlines.specs.Flats.{IsFlatOf, LiesOn, AreFlats, IsOff, flat_cmp, flat_numbers, numbers_of}

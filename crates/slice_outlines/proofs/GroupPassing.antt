@@ -7,7 +7,7 @@ use Rattle.std.proofs.lemmas.Bool.{cases_lt}
 use Rattle.std.proofs.lemmas.List.{get_or-take, append-nil, drop-drop, length-map}
 use Rattle.scad_geom.specs.declared.point.Edge.{Edge}
 use Rattle.scad_geom.specs.declared.shape.Shape.{Shape}
-use Rattle.slice_snap.specs.declared.piece.Spot.{Spot}
+use Rattle.slice_pieces.specs.declared.piece.Spot.{Spot}
 use Rattle.slice_border.specs.Beside.{left_value}
 use Rattle.slice_sweep.specs.Changes.{Group, staying}
 use Rattle.slice_sweep.specs.Front.{bundles_in}

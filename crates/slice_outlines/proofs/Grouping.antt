@@ -7,9 +7,9 @@ use Rattle.scad_geom.specs.declared.point.Pt.{Pt}
 use Rattle.scad_geom.specs.declared.point.Edge.{Edge}
 use Rattle.scad_geom.proofs.Order.{front, back}
 use Rattle.winding_laws.specs.Edges.{rounded}
-use Rattle.slice_slab.specs.Bundles.{edge_at}
-use Rattle.slice_snap.specs.declared.piece.Spot.{Spot}
-use Rattle.slice_snap.specs.Spots.{point_of}
+use Rattle.slice_bundles.specs.Bundles.{edge_at}
+use Rattle.slice_pieces.specs.declared.piece.Spot.{Spot}
+use Rattle.slice_pieces.specs.Spots.{point_of}
 use Rattle.slice_sweep.specs.Front.{bundles_in}
 use Rattle.slice_border.specs.Pieces.{spot_on, IsSameAcross}
 use Rattle.slice_outlines.specs.declared.course.Course.{Course}

@@ -15,7 +15,7 @@ use Rattle.std.proofs.lemmas.List.{at_drop_more, drop_more, drop_all}
 use Rattle.std.proofs.lemmas.List.Sorted.{ranks_by}
 use Rattle.scad_geom.specs.declared.level.Level.{Level}
 use Rattle.scad_geom.specs.declared.level.LeafEdge.{LeafEdge}
-use Rattle.slice_slab.specs.Bundles.{no_edge}
+use Rattle.slice_bundles.specs.Bundles.{no_edge}
 use Rattle.slice_outlines.specs.declared.flat.Flat.{Flat}
 use Rattle.slice_outlines.specs.Flats.{flat_numbers, flat_cmp, LiesOn, IsOff, JoinOn, AreJoined, StartsBehind}
 

@@ -11,9 +11,9 @@ use Rattle.std.proofs.lemmas.List.{append-nil, drop_all, take_all, drop_more}
 use Rattle.scad_geom.specs.declared.level.Level.{Level}
 use Rattle.scad_geom.specs.declared.level.LeafEdge.{LeafEdge}
 use Rattle.scad_geom.specs.Limits.{coordinate_limit}
-use Rattle.slice_slab.specs.Bundles.{no_edge, edge_at}
-use Rattle.slice_snap.specs.declared.piece.Spot.{Spot}
-use Rattle.slice_snap.specs.Spots.{IsSpotWithin}
+use Rattle.slice_bundles.specs.Bundles.{no_edge, edge_at}
+use Rattle.slice_pieces.specs.declared.piece.Spot.{Spot}
+use Rattle.slice_pieces.specs.Spots.{IsSpotWithin}
 use Rattle.slice_border.specs.Pieces.{spot_on, whole_spot, passes_at, IsLeft}
 use Rattle.slice_border.proofs.Middle.{size_of}
 use Rattle.slice_sweep.specs.declared.change.Change.{Change}

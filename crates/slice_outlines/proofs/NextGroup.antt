@@ -2,7 +2,7 @@
 use Rattle.std.proofs.Common.{◌≡◌, ◌⊎◌, inl, inr, ℕ, ◌+◌, ◌-◌, ◌≤◌, List, [], ◌∷◌, ◌++◌, length, take, drop, sym, ap, ap₂, ◌∙◌, subst, arith}
 use Rattle.std.specs.List.{AllByRecursion}
 use Rattle.std.proofs.lemmas.List.{drop-drop, take_at, drop_at, length-append, length-drop}
-use Rattle.slice_snap.specs.declared.piece.Spot.{Spot}
+use Rattle.slice_pieces.specs.declared.piece.Spot.{Spot}
 use Rattle.slice_border.specs.Pieces.{IsSameAcross}
 use Rattle.slice_sweep.specs.declared.change.Change.{Change}
 use Rattle.slice_sweep.specs.Changes.{Group, all_below, all_above, all_at}
@@ -12,7 +12,7 @@ use Rattle.slice_outlines.specs.declared.height.Height.{Height}
 use Rattle.slice_outlines.specs.declared.groups.Passed.{Passed}
 use Rattle.slice_outlines.specs.Runs.{after}
 use Rattle.winding_laws.specs.Edges.{rounded}
-use Rattle.slice_snap.specs.Spots.{point_of}
+use Rattle.slice_pieces.specs.Spots.{point_of}
 use Rattle.slice_outlines.specs.Marks.{spot_at}
 use Rattle.slice_outlines.specs.Heights.{IsRunOf, MeetAt, MeetAcross, IsGroupAt, marks_of}
 use Rattle.slice_outlines.specs.Ahead.{IsSameSpot, AreMarksAt, LieAhead, IsBehind, AreBetween, first_spot}

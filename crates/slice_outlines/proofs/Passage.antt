@@ -4,7 +4,7 @@ use Rattle.std.specs.Prelude.{nat_le, ◌&&◌}
 use Rattle.std.proofs.lemmas.List.{append-nil, drop-drop, drop-map, drop_more, drop_at}
 use Rattle.scad_geom.specs.declared.level.Level.{Level}
 use Rattle.scad_geom.specs.declared.level.LeafEdge.{LeafEdge}
-use Rattle.slice_snap.specs.declared.piece.Spot.{Spot}
+use Rattle.slice_pieces.specs.declared.piece.Spot.{Spot}
 use Rattle.slice_sweep.specs.declared.change.Change.{Change}
 use Rattle.slice_sweep.specs.Changes.{Group, all_below, all_above, all_at, staying}
 use Rattle.slice_sweep.specs.Front.{bundles_in}
@@ -18,7 +18,7 @@ use Rattle.slice_outlines.specs.declared.groups.Passed.{Passed}
 use Rattle.slice_outlines.specs.Runs.{after}
 use Rattle.slice_outlines.specs.Cursors.{StandOn, StayOn}
 use Rattle.winding_laws.specs.Edges.{rounded}
-use Rattle.slice_snap.specs.Spots.{point_of}
+use Rattle.slice_pieces.specs.Spots.{point_of}
 use Rattle.slice_outlines.specs.Marks.{names_in, AreKept}
 use Rattle.slice_outlines.specs.Heights.{Onwards, IsBalancedBefore, MeetAt, MeetAcross, IsCountOf, IsOf}
 use Rattle.slice_outlines.specs.Along.{HasComeOver}

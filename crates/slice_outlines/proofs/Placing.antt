@@ -9,10 +9,10 @@ use Rattle.scad_geom.specs.declared.point.Edge.{Edge}
 use Rattle.scad_geom.specs.declared.level.Level.{Level}
 use Rattle.scad_geom.specs.declared.level.LeafEdge.{LeafEdge}
 use Rattle.winding_laws.specs.Edges.{rounded}
-use Rattle.slice_slab.specs.Bundles.{edge_at}
-use Rattle.slice_snap.specs.declared.piece.Spot.{Spot}
-use Rattle.slice_snap.specs.Spots.{point_of}
-use Rattle.slice_snap.specs.Rounding.{rounded_edges}
+use Rattle.slice_bundles.specs.Bundles.{edge_at}
+use Rattle.slice_pieces.specs.declared.piece.Spot.{Spot}
+use Rattle.slice_pieces.specs.Spots.{point_of}
+use Rattle.slice_pieces.specs.Rounding.{rounded_edges}
 use Rattle.slice_border.specs.Pieces.{spot_on}
 use Rattle.slice_border.proofs.Keeping.{same_leaf}
 use Rattle.sweep_laws.specs.Ways.{Way, way_between, pieces_of}

@@ -11,9 +11,9 @@ use Rattle.scad_geom.specs.declared.level.Level.{Level}
 use Rattle.scad_geom.specs.declared.level.LeafEdge.{LeafEdge}
 use Rattle.winding_laws.specs.Edges.{rounded}
 use Rattle.winding_laws.specs.Nearness.{IsPoint}
-use Rattle.slice_slab.specs.Bundles.{edge_at}
-use Rattle.slice_snap.specs.declared.piece.Spot.{Spot}
-use Rattle.slice_snap.specs.Spots.{point_of}
+use Rattle.slice_bundles.specs.Bundles.{edge_at}
+use Rattle.slice_pieces.specs.declared.piece.Spot.{Spot}
+use Rattle.slice_pieces.specs.Spots.{point_of}
 use Rattle.slice_border.specs.Pieces.{passes_at, IsLeft, IsSameAcross}
 use Rattle.slice_border.proofs.Winding.{IsSpotAt}
 use Rattle.sweep_laws.proofs.Spots.{spot_at as edge_spot, same_place}

@@ -16,8 +16,8 @@ use Rattle.scad_base.proofs.Integers.{gap_of_at_most, at_most_of_less}
 use Rattle.scad_geom.proofs.Heights.{at_most_chain, at_most_then_lower, lower_then_at_most, lower_chain}
 use Rattle.scad_geom.proofs.Ring.{ring, ◌⊖◌, ◌⊗◌, v0, v1, v2}
 use Rattle.scad_geom.proofs.Signs.{at_least_mul}
-use Rattle.slice_slab.specs.Bundles.{edge_at}
-use Rattle.slice_snap.specs.declared.piece.Spot.{Spot}
+use Rattle.slice_bundles.specs.Bundles.{edge_at}
+use Rattle.slice_pieces.specs.declared.piece.Spot.{Spot}
 use Rattle.slice_border.specs.Pieces.{across, passes_at, whole_spot, IsLeft}
 use Rattle.slice_border.specs.Stops.{is_left}
 use Rattle.slice_border.proofs.Within.{size_above}

@@ -11,8 +11,8 @@ use Rattle.scad_geom.specs.declared.point.Edge.{Edge}
 use Rattle.scad_geom.specs.declared.level.Level.{Level}
 use Rattle.scad_geom.specs.declared.level.LeafEdge.{LeafEdge}
 use Rattle.scad_geom.proofs.Order.{front, back}
-use Rattle.slice_slab.specs.Bundles.{no_edge, edge_at}
-use Rattle.slice_snap.specs.declared.piece.Spot.{Spot}
+use Rattle.slice_bundles.specs.Bundles.{no_edge, edge_at}
+use Rattle.slice_pieces.specs.declared.piece.Spot.{Spot}
 use Rattle.slice_border.specs.Pieces.{whole_spot, is_flat_at, edge_spots, passes_at, spots_at, covers, IsLeft, GoRight, HasSpot, IsOneOf}
 use Rattle.slice_border.proofs.Winding.{IsSpotAt, of_stops}
 use Rattle.sweep_laws.proofs.Stops.{spots_are_there}

@@ -11,9 +11,9 @@ use Rattle.scad_geom.specs.declared.level.Level.{Level}
 use Rattle.scad_geom.specs.declared.level.LeafEdge.{LeafEdge}
 use Rattle.scad_geom.proofs.Order.{front}
 use Rattle.scad_geom.proofs.Ring.{ring, num, ◌⊗◌, ◌⊕◌, v0, v1}
-use Rattle.slice_snap.specs.declared.piece.Spot.{Spot}
+use Rattle.slice_pieces.specs.declared.piece.Spot.{Spot}
 use Rattle.slice_border.specs.Pieces.{whole_spot, passes_at, spots_at, IsLeft, IsOneOf}
-use Rattle.slice_slab.specs.Bundles.{edge_at}
+use Rattle.slice_bundles.specs.Bundles.{edge_at}
 use Rattle.sweep_laws.proofs.Spots.{spot_at as edge_spot}
 use Rattle.slice_outlines.proofs.EndPoints.{passes_then_rises}
 use Rattle.std.proofs.lemmas.List.Elements.{recursion_from_All}

@@ -19,12 +19,12 @@ use Rattle.scad_geom.specs.Heights.{heights}
 use Rattle.scad_geom.proofs.Heights.{at_most_chain, lower_weak, same_at_most, heights_positive}
 use Rattle.scad_geom.proofs.Order.{back, all_ends}
 use Rattle.slice_events.specs.Levels.{IsRising, HasHeight, AreLevels}
-use Rattle.slice_slab.specs.Bundles.{no_edge, edge_at, AreBundles}
-use Rattle.slice_slab.specs.KeptOrder.{IsNotRightAt, AllStand, AllStandInOrder}
-use Rattle.slice_slab.proofs.KeptOrder.{bundles_keep_order}
-use Rattle.slice_snap.specs.declared.piece.Spot.{Spot}
-use Rattle.slice_snap.specs.Spots.{IsSpotWithin}
-use Rattle.slice_snap.specs.Rounding.{rounded_edges}
+use Rattle.slice_bundles.specs.Bundles.{no_edge, edge_at, AreBundles}
+use Rattle.slice_bundles.specs.KeptOrder.{IsNotRightAt, AllStand, AllStandInOrder}
+use Rattle.slice_bundles.proofs.KeptOrder.{bundles_keep_order}
+use Rattle.slice_pieces.specs.declared.piece.Spot.{Spot}
+use Rattle.slice_pieces.specs.Spots.{IsSpotWithin}
+use Rattle.slice_pieces.specs.Rounding.{rounded_edges}
 use Rattle.slice_border.specs.Pieces.{spot_on, whole_spot, passes_at, spots_at, IsOneOf}
 use Rattle.slice_border.proofs.Winding.{of_stops}
 use Rattle.slice_border.proofs.Middle.{size_of}

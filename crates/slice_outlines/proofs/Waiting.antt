@@ -12,9 +12,9 @@ use Rattle.scad_geom.specs.declared.level.LeafEdge.{LeafEdge}
 use Rattle.scad_geom.proofs.Heights.{lower_chain}
 use Rattle.scad_geom.specs.Limits.{coordinate_limit}
 use Rattle.scad_geom.proofs.Order.{front, back}
-use Rattle.slice_snap.specs.Spots.{IsSpotWithin}
-use Rattle.slice_slab.specs.Bundles.{edge_at}
-use Rattle.slice_snap.specs.declared.piece.Spot.{Spot}
+use Rattle.slice_pieces.specs.Spots.{IsSpotWithin}
+use Rattle.slice_bundles.specs.Bundles.{edge_at}
+use Rattle.slice_pieces.specs.declared.piece.Spot.{Spot}
 use Rattle.slice_border.specs.Pieces.{spot_on, across, whole_spot, passes_at, IsLeft, IsSameAcross, GoRight, HasSpot}
 use Rattle.slice_border.specs.Stops.{is_left}
 use Rattle.slice_outlines.specs.declared.mark.Mark.{Mark}

@@ -18,8 +18,8 @@ use Rattle.scad_geom.specs.Sign.{is_zero}
 use Rattle.scad_geom.specs.Level.{IsAtMost}
 use Rattle.scad_geom.proofs.Heights.{lower_then_at_most}
 use Rattle.scad_geom.proofs.Ring.{ring, num, ◌⊗◌, v0, v1, v2}
-use Rattle.slice_slab.specs.Bundles.{no_edge, edge_at}
-use Rattle.slice_snap.specs.declared.piece.Spot.{Spot}
+use Rattle.slice_bundles.specs.Bundles.{no_edge, edge_at}
+use Rattle.slice_pieces.specs.declared.piece.Spot.{Spot}
 use Rattle.slice_border.specs.Pieces.{across, whole_spot, is_flat_at, covers, IsLeft}
 use Rattle.slice_outlines.specs.declared.flat.Flat.{Flat}
 use Rattle.slice_border.specs.declared.stop.Stop.{Stop}

@@ -7,8 +7,8 @@ use Rattle.scad_geom.specs.declared.level.Level.{Level}
 use Rattle.scad_geom.specs.declared.level.LeafEdge.{LeafEdge}
 use Rattle.scad_geom.specs.declared.shape.Shape.{Shape}
 use Rattle.scad_geom.specs.Line.{rise, x_at}
-use Rattle.slice_slab.specs.Bundles.{edge_at}
-use Rattle.slice_slab.specs.KeptOrder.{IsSamePlaceAt}
+use Rattle.slice_bundles.specs.Bundles.{edge_at}
+use Rattle.slice_bundles.specs.KeptOrder.{IsSamePlaceAt}
 use Rattle.slice_sweep.specs.declared.change.Change.{Change}
 use Rattle.slice_sweep.specs.Changes.{Group, Tell, all_below, all_above}
 use Rattle.slice_outlines.specs.declared.mark.Mark.{Mark}

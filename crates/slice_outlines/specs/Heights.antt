@@ -6,9 +6,9 @@ use Rattle.scad_geom.specs.declared.point.Edge.{Edge}
 use Rattle.scad_geom.specs.declared.level.Level.{Level}
 use Rattle.scad_geom.specs.declared.shape.Shape.{Shape}
 use Rattle.winding_laws.specs.Edges.{rounded}
-use Rattle.slice_slab.specs.Bundles.{edge_at}
-use Rattle.slice_snap.specs.declared.piece.Spot.{Spot}
-use Rattle.slice_snap.specs.Spots.{point_of}
+use Rattle.slice_bundles.specs.Bundles.{edge_at}
+use Rattle.slice_pieces.specs.declared.piece.Spot.{Spot}
+use Rattle.slice_pieces.specs.Spots.{point_of}
 use Rattle.slice_sweep.specs.declared.change.Change.{Change}
 use Rattle.slice_sweep.specs.Front.{bundles_in}
 use Rattle.slice_border.specs.Beside.{left_value}

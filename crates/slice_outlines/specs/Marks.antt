@@ -4,9 +4,9 @@ use Rattle.scad_geom.specs.declared.point.Pt.{Pt}
 use Rattle.scad_geom.specs.declared.level.Level.{Level}
 use Rattle.scad_geom.specs.declared.level.LeafEdge.{LeafEdge}
 use Rattle.winding_laws.specs.Edges.{rounded}
-use Rattle.slice_snap.specs.Spots.{point_of}
-use Rattle.slice_snap.specs.declared.piece.Spot.{Spot}
-use Rattle.slice_slab.specs.Bundles.{edge_at}
+use Rattle.slice_pieces.specs.Spots.{point_of}
+use Rattle.slice_pieces.specs.declared.piece.Spot.{Spot}
+use Rattle.slice_bundles.specs.Bundles.{edge_at}
 use Rattle.slice_border.specs.Pieces.{spot_on}
 use Rattle.sweep_laws.specs.Fronts.{Strand, value_before}
 use Rattle.slice_outlines.specs.declared.mark.Mark.{Mark}

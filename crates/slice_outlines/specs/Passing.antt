@@ -3,7 +3,7 @@ use Rattle.std.specs.Prelude.{Bool, true, false, cond, not, ◌&&◌, ◌==◌, 
 use Rattle.scad_geom.specs.declared.point.Pt.{Pt}
 use Rattle.scad_geom.specs.declared.point.Edge.{Edge}
 use Rattle.winding_laws.specs.Edges.{rounded}
-use Rattle.slice_snap.specs.Spots.{point_of}
+use Rattle.slice_pieces.specs.Spots.{point_of}
 use Rattle.sweep_laws.specs.Ways.{Way}
 use Rattle.sweep_laws.specs.Edges.{edges_between}
 use Rattle.slice_outlines.specs.declared.course.Course.{Course}

@@ -8,7 +8,7 @@ use Rattle.scad_geom.specs.declared.shape.Shape.{Shape}
 use Rattle.scad_geom.specs.Level.{level_of, IsLower, IsAtMost}
 use Rattle.scad_geom.specs.Heights.{AreNeighbours}
 use Rattle.slice_events.specs.Levels.{AreLevels}
-use Rattle.slice_snap.specs.Rounding.{rounded_edges}
+use Rattle.slice_pieces.specs.Rounding.{rounded_edges}
 use Rattle.slice_sweep.specs.Front.{bundles_in, IsReadyFor, IsBegunTo}
 use Rattle.sweep_laws.specs.Ways.{Way, pieces_of}
 use Rattle.sweep_laws.specs.Fronts.{Strand, bundles_of, IsFront}

@@ -6,7 +6,7 @@ ghost use Rattle.slice_outlines.specs.declared.course.Course.{Course};
 ghost use Rattle.slice_outlines.specs.Passing.{alone, or_none, going_on, edges_to};
 
 use scad_geom::{Edge, Pt};
-use slice_snap::has_length;
+use slice_pieces::has_length;
 use std::alloc::AllocError;
 
 /// A piece by its name, whether it runs as the sweep does, with the inside on its left, and the point, rounded, where

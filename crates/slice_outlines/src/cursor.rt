@@ -6,7 +6,7 @@ ghost use Rattle.scad_geom.specs.declared.shape.Shape.{Shape};
 ghost use Rattle.scad_geom.specs.Limits.{coordinate_limit};
 ghost use Rattle.scad_geom.specs.Within.{IsEdgeWithin};
 ghost use Rattle.scad_geom.specs.Level.{IsLevelWithin};
-ghost use Rattle.slice_slab.specs.Bundles.{edge_at};
+ghost use Rattle.slice_bundles.specs.Bundles.{edge_at};
 ghost use Rattle.slice_sweep.specs.Front.{bundles_in, IsReadyFor};
 ghost use Rattle.slice_sweep.specs.Changes.{Group, Tell};
 ghost use Rattle.slice_border.specs.Beside.{AreMembers, left_value};

@@ -7,7 +7,7 @@ ghost use Rattle.scad_geom.specs.declared.level.LeafEdge.{LeafEdge};
 ghost use Rattle.scad_geom.specs.Limits.{coordinate_limit};
 ghost use Rattle.scad_geom.specs.Within.{IsEdgeWithin};
 ghost use Rattle.scad_geom.specs.Level.{IsLevelWithin};
-ghost use Rattle.slice_slab.specs.Bundles.{edge_at};
+ghost use Rattle.slice_bundles.specs.Bundles.{edge_at};
 ghost use Rattle.slice_outlines.specs.Flats.{AreFlats, IsFlatOf, numbers_of, flat_numbers, flat_cmp, LiesOn, IsOff, AreJoined, StartsBehind};
 
 use crate::flat::Flat;

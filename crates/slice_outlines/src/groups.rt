@@ -2,8 +2,8 @@
 ghost use Rattle.std.specs.Prelude.{◌≡◌, ◌<◌, ◌≤◌, ◌++◌, ◌∷◌, [], ◌&&◌, nat_le, true, false, None, List, length, IfOk, OnOk};
 ghost use Rattle.scad_geom.specs.declared.point.Pt.{Pt};
 ghost use Rattle.winding_laws.specs.Edges.{rounded};
-ghost use Rattle.slice_snap.specs.Spots.{point_of};
-ghost use Rattle.slice_snap.specs.declared.piece.Spot.{Spot};
+ghost use Rattle.slice_pieces.specs.Spots.{point_of};
+ghost use Rattle.slice_pieces.specs.declared.piece.Spot.{Spot};
 ghost use Rattle.slice_sweep.specs.Front.{bundles_in};
 ghost use Rattle.slice_border.specs.Beside.{AreMembers};
 ghost use Rattle.slice_outlines.specs.Marks.{AreThere, mark_at};

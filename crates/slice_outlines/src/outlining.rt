@@ -17,7 +17,7 @@ use scad_geom::{Edge, LeafEdge, Level, Loop, Shape};
 use slice_border::BoolFault;
 use slice_events::{EventFault, levels};
 use slice_loops::join;
-use slice_snap::cancel;
+use slice_pieces::cancel;
 use std::alloc::{AllocError, Global};
 
 /// The closed outlines of a shape over the leaves of an edge list, with the inside on their left: the pieces of its

@@ -5,14 +5,14 @@ ghost use Rattle.scad_geom.specs.Limits.{coordinate_limit};
 ghost use Rattle.scad_geom.specs.Within.{IsWithin, IsEdgeWithin};
 ghost use Rattle.scad_geom.specs.Level.{IsLevelWithin};
 ghost use Rattle.winding_laws.specs.Edges.{rounded};
-ghost use Rattle.slice_snap.specs.Spots.{point_of};
+ghost use Rattle.slice_pieces.specs.Spots.{point_of};
 ghost use Rattle.slice_border.specs.Pieces.{spot_on, passes_at};
 
 use scad_geom::line::{high, low};
 use scad_geom::wide::times;
 use scad_geom::{Edge, Level, Pt};
 use slice_border::spot_on;
-use slice_snap::rounded;
+use slice_pieces::rounded;
 
 /// Where an edge that isn't flat passes a height, rounded: at an end the end itself.
 pub(crate) fn rounded_on(e: &Edge, at: &Level) -> Pt

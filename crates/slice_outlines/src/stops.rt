@@ -3,7 +3,7 @@ ghost use Rattle.std.specs.Prelude.{◌≡◌, ◌++◌, ◌∷◌, [], true, If
 ghost use Rattle.scad_geom.specs.Limits.{coordinate_limit};
 ghost use Rattle.scad_geom.specs.Within.{IsEdgeWithin};
 ghost use Rattle.scad_geom.specs.Level.{IsLevelWithin};
-ghost use Rattle.slice_slab.specs.Bundles.{edge_at};
+ghost use Rattle.slice_bundles.specs.Bundles.{edge_at};
 ghost use Rattle.slice_border.specs.Pieces.{whole_spot, passes_at};
 ghost use Rattle.slice_outlines.specs.Marks.{spot_at};
 ghost use Rattle.slice_border.specs.Stops.{spots_in, AreStopsOf};

@@ -4,9 +4,9 @@ ghost use Rattle.std.specs.List.{AllByRecursion};
 ghost use Rattle.std.specs.List.Sorted.{IsPartitionPoint};
 ghost use Rattle.scad_geom.specs.Limits.{coordinate_limit};
 ghost use Rattle.winding_laws.specs.Edges.{rounded};
-ghost use Rattle.slice_slab.specs.Bundles.{edge_at};
-ghost use Rattle.slice_snap.specs.declared.piece.Spot.{Spot};
-ghost use Rattle.slice_snap.specs.Spots.{point_of, IsSpotWithin};
+ghost use Rattle.slice_bundles.specs.Bundles.{edge_at};
+ghost use Rattle.slice_pieces.specs.declared.piece.Spot.{Spot};
+ghost use Rattle.slice_pieces.specs.Spots.{point_of, IsSpotWithin};
 ghost use Rattle.slice_border.specs.Pieces.{whole_spot, passes_at, HasSpot};
 ghost use Rattle.slice_border.specs.Stops.{is_left, AreStopsOf, spots_in};
 ghost use Rattle.slice_outlines.specs.Marks.{left_of_first, mark_at, spot_at, names_in};
@@ -31,7 +31,7 @@ use crate::run::Run;
 use crate::stops::{stop_of, stops};
 use scad_geom::Pt;
 use slice_border::{Stop, compare, whole_spot};
-use slice_snap::rounded;
+use slice_pieces::rounded;
 use std::alloc::{AllocError, Global};
 
 /// The strands below a height and above it that lie from one x to another.

@@ -19,7 +19,7 @@ ghost use Rattle.slice_outlines.specs.Stops.{AllPass};
 ghost use Rattle.slice_outlines.specs.Heights.{Onwards, IsOf};
 ghost use Rattle.slice_outlines.specs.Ahead.{HasComeTo};
 ghost use Rattle.slice_outlines.specs.Level.{IsAtLevel, IsValuedAt, AreSpotsOf};
-ghost use Rattle.slice_snap.specs.declared.piece.Spot.{Spot};
+ghost use Rattle.slice_pieces.specs.declared.piece.Spot.{Spot};
 
 use crate::above::marks_above;
 use crate::cursors::Cursors;

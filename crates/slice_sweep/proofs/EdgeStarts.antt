@@ -16,11 +16,11 @@ use Rattle.scad_geom.specs.Level.{level_of, IsAtMost}
 use Rattle.scad_geom.specs.Heights.{heights, AreNeighbours}
 use Rattle.scad_geom.proofs.Heights.{at_most_then_lower}
 use Rattle.scad_geom.proofs.Order.{front, back, all_ends}
-use Rattle.slice_slab.specs.declared.start.Start.{Start}
-use Rattle.slice_slab.specs.Bundles.{no_edge, edge_at, IsBundle}
-use Rattle.slice_slab.specs.Starts.{AreStarts, AreRising, IsStartOf, numbers_of, is_begun, begun_at, pending_at}
-use Rattle.slice_slab.proofs.Beginning.{begun_too, pending_too, all_begun, all_pending}
-use Rattle.slice_slab.proofs.Live.{reaches_is}
+use Rattle.slice_bundles.specs.declared.start.Start.{Start}
+use Rattle.slice_bundles.specs.Bundles.{no_edge, edge_at, IsBundle}
+use Rattle.slice_bundles.specs.Starts.{AreStarts, AreRising, IsStartOf, numbers_of, is_begun, begun_at, pending_at}
+use Rattle.slice_bundles.proofs.Beginning.{begun_too, pending_too, all_begun, all_pending}
+use Rattle.slice_bundles.proofs.Live.{reaches_is}
 use Rattle.slice_sweep.specs.declared.strand.Strand.{Strand}
 use Rattle.slice_sweep.specs.Strands.{bundles_of, numbers_in, IsReaching, IsHeld, weakened, fresh}
 use Rattle.slice_sweep.specs.Changes.{has_started}

@@ -21,9 +21,9 @@ use Rattle.scad_geom.specs.Level.{level_of, IsLower, IsAtMost, IsLevelWithin}
 use Rattle.scad_geom.specs.Heights.{heights, AreNeighbours}
 use Rattle.scad_geom.proofs.Heights.{at_most_then_lower}
 use Rattle.scad_geom.proofs.Order.{front, back, all_ends}
-use Rattle.slice_slab.specs.Bundles.{no_edge, edge_at, reaches, IsBundle, AreRanked}
-use Rattle.slice_slab.proofs.Live.{reaches_is}
-use Rattle.slice_slab.specs.KeptOrder.{IsSamePlaceAt, AllStand}
+use Rattle.slice_bundles.specs.Bundles.{no_edge, edge_at, reaches, IsBundle, AreRanked}
+use Rattle.slice_bundles.proofs.Live.{reaches_is}
+use Rattle.slice_bundles.specs.KeptOrder.{IsSamePlaceAt, AllStand}
 use Rattle.slice_sweep.specs.declared.strand.Strand.{Strand}
 use Rattle.slice_sweep.specs.Keys.{IsBelowKey}
 use Rattle.slice_sweep.specs.Chains.{Chain, Joins}

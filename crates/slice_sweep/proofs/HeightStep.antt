@@ -16,18 +16,18 @@ use Rattle.scad_geom.specs.EdgeOrder.{IsBefore, AreAligned}
 use Rattle.scad_geom.specs.Heights.{AreNeighbours}
 use Rattle.scad_geom.proofs.Heights.{at_most_chain, lower_weak, lower_chain}
 use Rattle.scad_geom.proofs.Order.{aligned_all, before_between}
-use Rattle.slice_slab.specs.declared.start.Start.{Start}
-use Rattle.slice_slab.specs.Active.{times}
-use Rattle.slice_slab.specs.Bundles.{no_edge, edge_at, reaches, reaching, IsBundle, Precedes, AreRanked, AreBundles}
-use Rattle.slice_slab.specs.Starts.{AreRising, IsStartOf, numbers_of, all_numbers, begun_at, pending_at}
-use Rattle.slice_slab.specs.Touching.{touches}
-use Rattle.slice_slab.proofs.Standing.{none_live}
+use Rattle.slice_bundles.specs.declared.start.Start.{Start}
+use Rattle.slice_bundles.specs.Active.{times}
+use Rattle.slice_bundles.specs.Bundles.{no_edge, edge_at, reaches, reaching, IsBundle, Precedes, AreRanked, AreBundles}
+use Rattle.slice_bundles.specs.Starts.{AreRising, IsStartOf, numbers_of, all_numbers, begun_at, pending_at}
+use Rattle.slice_bundles.specs.Touching.{touches}
+use Rattle.slice_bundles.proofs.Standing.{none_live}
 use Rattle.std.proofs.lemmas.List.Elements.{All-from_recursion}
-use Rattle.slice_slab.proofs.Live.{reaches_is}
-use Rattle.slice_slab.proofs.Bundling.{before_chain}
-use Rattle.slice_slab.proofs.Beginning.{parted, begun_too, pending_too, all_begun, all_pending, of_numbers}
-use Rattle.slice_slab.proofs.Choice.{reaching_is, once_where, none_where}
-use Rattle.slice_slab.proofs.Times.{times-append, standing, from_times}
+use Rattle.slice_bundles.proofs.Live.{reaches_is}
+use Rattle.slice_bundles.proofs.Bundling.{before_chain}
+use Rattle.slice_bundles.proofs.Beginning.{parted, begun_too, pending_too, all_begun, all_pending, of_numbers}
+use Rattle.slice_bundles.proofs.Choice.{reaching_is, once_where, none_where}
+use Rattle.slice_bundles.proofs.Times.{times-append, standing, from_times}
 use Rattle.slice_sweep.specs.declared.strand.Strand.{Strand}
 use Rattle.slice_sweep.specs.Chains.{Chain}
 use Rattle.slice_sweep.specs.Strands.{bundles_of, numbers_in, head, LiesNotRight, IsReaching, IsHeld, AreHeld, AreApart, AreWaiting}

@@ -17,7 +17,7 @@ use Rattle.scad_geom.proofs.Heights.{at_most_chain, apart_turned}
 use Rattle.scad_geom.proofs.Lines.{gap_is}
 use Rattle.scad_geom.proofs.Ring.{ring, num, ◌⊕◌, ◌⊖◌, ◌⊗◌, v0, v1, v2, v3, v4, v5}
 use Rattle.scad_geom.proofs.Signs.{at_least_mul, at_most_mul, sub_mul, one_more_times}
-use Rattle.slice_slab.specs.KeptOrder.{IsLeftAt}
+use Rattle.slice_bundles.specs.KeptOrder.{IsLeftAt}
 use Rattle.slice_sweep.specs.Keys.{parts, IsBelowKey, stale}
 
 pub floor_is : (n d q : ℤ) → pos 0 <ℤ d → q ≡ int_div_euclid n d

@@ -11,10 +11,10 @@ use Rattle.std.proofs.lemmas.List.Sorted.{All-permutation, IsPermutation-map}
 use Rattle.scad_geom.specs.declared.level.Level.{Level}
 use Rattle.scad_geom.specs.declared.level.LeafEdge.{LeafEdge}
 use Rattle.scad_geom.specs.EdgeOrder.{IsBefore, AreAligned}
-use Rattle.slice_slab.specs.Bundles.{edge_at, Precedes, AreRanked}
-use Rattle.slice_slab.specs.KeptOrder.{IsSamePlaceAt, AllStand}
-use Rattle.slice_slab.specs.Passages.{joined}
-use Rattle.slice_slab.proofs.Bundling.{aligned_chain, aligned_before, before_chain, Rises, HeadRises}
+use Rattle.slice_bundles.specs.Bundles.{edge_at, Precedes, AreRanked}
+use Rattle.slice_bundles.specs.KeptOrder.{IsSamePlaceAt, AllStand}
+use Rattle.slice_bundles.specs.Passages.{joined}
+use Rattle.slice_bundles.proofs.Bundling.{aligned_chain, aligned_before, before_chain, Rises, HeadRises}
 use Rattle.slice_sweep.specs.declared.ray.Ray.{Ray}
 use Rattle.slice_sweep.specs.Rays.{IsRayOf, numbers_of, is_parallel, bundles_of, AreSorted}
 use Rattle.slice_sweep.proofs.Lists.{weaker}

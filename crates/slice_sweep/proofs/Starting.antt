@@ -9,10 +9,10 @@ use Rattle.scad_geom.specs.declared.level.Level.{Level}
 use Rattle.scad_geom.specs.declared.level.LeafEdge.{LeafEdge}
 use Rattle.scad_geom.specs.Level.{IsLevelWithin}
 use Rattle.scad_geom.proofs.Order.{front, back}
-use Rattle.slice_slab.specs.Active.{times}
-use Rattle.slice_slab.proofs.Times.{times-append}
-use Rattle.slice_slab.specs.Bundles.{edge_at}
-use Rattle.slice_slab.specs.KeptOrder.{IsLeftAt, IsNotRightAt}
+use Rattle.slice_bundles.specs.Active.{times}
+use Rattle.slice_bundles.proofs.Times.{times-append}
+use Rattle.slice_bundles.specs.Bundles.{edge_at}
+use Rattle.slice_bundles.specs.KeptOrder.{IsLeftAt, IsNotRightAt}
 use Rattle.slice_sweep.specs.declared.strand.Strand.{Strand}
 use Rattle.slice_sweep.specs.Chains.{Chain, Joins}
 use Rattle.slice_sweep.specs.Strands.{numbers_in, head, LiesNotRight, IsReaching, IsHeld, AreHeld, AreApart, AreWaiting, weakened, fresh, no_strand, strand_at}

@@ -8,8 +8,8 @@ use Rattle.std.specs.List.{AllByRecursion}
 use Rattle.std.proofs.lemmas.List.Elements.{recursion_from_All, All-drop}
 use Rattle.scad_geom.specs.declared.level.Level.{Level}
 use Rattle.scad_geom.specs.declared.level.LeafEdge.{LeafEdge}
-use Rattle.slice_slab.specs.Starts.{AreStarts, AreRising, IsStartOf, numbers_of, begun_at, pending_at}
-use Rattle.slice_slab.proofs.Beginning.{rising_drop}
+use Rattle.slice_bundles.specs.Starts.{AreStarts, AreRising, IsStartOf, numbers_of, begun_at, pending_at}
+use Rattle.slice_bundles.proofs.Beginning.{rising_drop}
 use Rattle.slice_sweep.specs.declared.lower_end.LowerEnd.{LowerEnd}
 use Rattle.slice_sweep.specs.LowerEnds.{starts_of}
 

@@ -12,8 +12,8 @@ use Rattle.scad_geom.specs.Line.{high, lean, apart}
 use Rattle.scad_geom.specs.Level.{level_of, IsLower, IsLevelWithin}
 use Rattle.scad_geom.specs.EdgeOrder.{IsBefore}
 use Rattle.scad_geom.proofs.Heights.{lower_weak}
-use Rattle.slice_slab.specs.Bundles.{edge_at}
-use Rattle.slice_slab.specs.KeptOrder.{IsLeftAt}
+use Rattle.slice_bundles.specs.Bundles.{edge_at}
+use Rattle.slice_bundles.specs.KeptOrder.{IsLeftAt}
 use Rattle.slice_sweep.specs.declared.strand.Strand.{Strand}
 use Rattle.slice_sweep.specs.Keys.{parts, IsBelowKey, stale}
 use Rattle.slice_sweep.specs.Chains.{Chain}

@@ -6,7 +6,7 @@ use Rattle.std.specs.Ordering.{int_eq}
 use Rattle.scad_geom.specs.declared.level.Level.{Level}
 use Rattle.scad_geom.specs.declared.level.LeafEdge.{LeafEdge}
 use Rattle.scad_geom.specs.Line.{low}
-use Rattle.slice_slab.specs.KeptOrder.{IsLeftAt, IsSamePlaceAt}
+use Rattle.slice_bundles.specs.KeptOrder.{IsLeftAt, IsSamePlaceAt}
 use Rattle.slice_sweep.specs.declared.change.Change.{Change}
 use Rattle.slice_sweep.specs.declared.strand.Strand.{Strand}
 use Rattle.slice_sweep.specs.Chains.{Chain}

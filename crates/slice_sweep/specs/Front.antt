@@ -5,10 +5,10 @@ use Rattle.scad_geom.specs.declared.level.Level.{Level}
 use Rattle.scad_geom.specs.declared.level.LeafEdge.{LeafEdge}
 use Rattle.scad_geom.specs.Line.{low}
 use Rattle.scad_geom.specs.Level.{level_of, IsLower, IsAtMost}
-use Rattle.slice_slab.specs.declared.start.Start.{Start}
-use Rattle.slice_slab.specs.Bundles.{edge_at, reaches}
-use Rattle.slice_slab.specs.Starts.{AreStarts, AreRising, numbers_of}
-use Rattle.slice_slab.specs.Active.{times}
+use Rattle.slice_bundles.specs.declared.start.Start.{Start}
+use Rattle.slice_bundles.specs.Bundles.{edge_at, reaches}
+use Rattle.slice_bundles.specs.Starts.{AreStarts, AreRising, numbers_of}
+use Rattle.slice_bundles.specs.Active.{times}
 use Rattle.slice_sweep.specs.declared.front.Front.{Front}
 use Rattle.slice_sweep.specs.LowerEnds.{starts_of}
 use Rattle.slice_sweep.specs.Strands.{bundles_of, numbers_in, AreWaiting}

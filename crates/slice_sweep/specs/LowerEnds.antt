@@ -1,6 +1,6 @@
--- The lower ends of edges, as the starts of which slice_slab's definitions speak.
+-- The lower ends of edges, as the starts of which slice_bundles' definitions speak.
 use Rattle.std.specs.Prelude.{List, map}
-use Rattle.slice_slab.specs.declared.start.Start.{Start}
+use Rattle.slice_bundles.specs.declared.start.Start.{Start}
 use Rattle.slice_sweep.specs.declared.lower_end.LowerEnd.{LowerEnd}
 
 abbrev pub start_of : LowerEnd → Start

@@ -4,8 +4,8 @@ use Rattle.std.specs.List.{AllByRecursion}
 use Rattle.scad_geom.specs.declared.level.Level.{Level}
 use Rattle.scad_geom.specs.declared.level.LeafEdge.{LeafEdge}
 use Rattle.scad_geom.specs.EdgeOrder.{IsBefore}
-use Rattle.slice_slab.specs.Active.{times}
-use Rattle.slice_slab.specs.Bundles.{edge_at, reaches}
+use Rattle.slice_bundles.specs.Active.{times}
+use Rattle.slice_bundles.specs.Bundles.{edge_at, reaches}
 use Rattle.slice_sweep.specs.declared.strand.Strand.{Strand}
 use Rattle.slice_sweep.specs.Chains.{Chain, Joins}
 use Rattle.slice_sweep.specs.Strands.{head, numbers_in, strand_at, LiesLeft, IsTogether, IsReaching, IsHeld, AreHeld, AreApart}

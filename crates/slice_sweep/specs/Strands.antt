@@ -6,8 +6,8 @@ use Rattle.scad_geom.specs.declared.level.Level.{Level}
 use Rattle.scad_geom.specs.declared.level.LeafEdge.{LeafEdge}
 use Rattle.scad_geom.specs.Line.{high}
 use Rattle.scad_geom.specs.Level.{level_of, IsLower, IsAtMost}
-use Rattle.slice_slab.specs.Bundles.{no_edge, edge_at, reaches, IsBundle}
-use Rattle.slice_slab.specs.KeptOrder.{IsLeftAt, IsNotRightAt, IsSamePlaceAt}
+use Rattle.slice_bundles.specs.Bundles.{no_edge, edge_at, reaches, IsBundle}
+use Rattle.slice_bundles.specs.KeptOrder.{IsLeftAt, IsNotRightAt, IsSamePlaceAt}
 use Rattle.slice_sweep.specs.declared.strand.Strand.{Strand}
 use Rattle.slice_sweep.specs.Keys.{IsBelowKey, stale}
 use Rattle.slice_sweep.specs.Chains.{Chain}

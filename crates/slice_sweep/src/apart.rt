@@ -3,7 +3,7 @@ ghost use Rattle.std.specs.Prelude.{◌≡◌, ◌<◌, ◌+◌, [], true, List,
 ghost use Rattle.scad_geom.specs.declared.level.LeafEdge.{LeafEdge};
 ghost use Rattle.scad_geom.specs.Limits.{coordinate_limit};
 ghost use Rattle.scad_geom.specs.Level.{IsLevelWithin};
-ghost use Rattle.slice_slab.specs.KeptOrder.{IsLeftAt};
+ghost use Rattle.slice_bundles.specs.KeptOrder.{IsLeftAt};
 ghost use Rattle.slice_sweep.specs.Keys.{IsBelowKey};
 ghost use Rattle.slice_sweep.specs.Strands.{head, strand_at};
 ghost use Rattle.slice_sweep.specs.Front.{bundles_in, IsReadyFor};

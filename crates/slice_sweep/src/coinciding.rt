@@ -4,7 +4,7 @@ ghost use Rattle.slice_sweep.specs.Rays.{bundles_of, is_parallel, ends_bundle};
 
 use crate::ray::Ray;
 use crate::slope::are_parallel;
-use slice_slab::Bundle;
+use slice_bundles::Bundle;
 use std::alloc::{AllocError, Global};
 use std::mem;
 

@@ -6,8 +6,8 @@ ghost use Rattle.scad_geom.specs.Limits.{coordinate_limit};
 ghost use Rattle.scad_geom.specs.Line.{rise};
 ghost use Rattle.scad_geom.specs.Within.{IsEdgeWithin};
 ghost use Rattle.scad_geom.specs.Level.{IsLevelWithin};
-ghost use Rattle.slice_slab.specs.Bundles.{edge_at, reaches, AreRanked};
-ghost use Rattle.slice_slab.specs.KeptOrder.{IsSamePlaceAt, AllStand};
+ghost use Rattle.slice_bundles.specs.Bundles.{edge_at, reaches, AreRanked};
+ghost use Rattle.slice_bundles.specs.KeptOrder.{IsSamePlaceAt, AllStand};
 ghost use Rattle.slice_sweep.specs.Rays.{numbers_of, IsRayOf};
 
 use crate::coinciding::group;
@@ -16,7 +16,7 @@ use crate::slope::sort;
 use crate::step::Step;
 use scad_geom::line::{ends_from, rise, run, starts_by};
 use scad_geom::{Edge, LeafEdge, Level};
-use slice_slab::Bundle;
+use slice_bundles::Bundle;
 use std::alloc::AllocError;
 
 /// Of the edges of these numbers, which lie at one place at the lower height, those that reach the upper one: by slope,
@@ -77,7 +77,7 @@ fn ray(edges: &[LeafEdge], k: u32) -> Ray
 }
 
 /// Whether an edge isn't flat and reaches both heights.
-#[tactic(auto, using(scad_geom::proofs::Casts::casts), unfolding(slice_slab::specs::Bundles::reaches))]
+#[tactic(auto, using(scad_geom::proofs::Casts::casts), unfolding(slice_bundles::specs::Bundles::reaches))]
 pub(crate) fn reaches(e: &Edge, lower: &Level, upper: &Level) -> bool
     requires edge { IsEdgeWithin coordinate_limit e.now }
     requires lower { IsLevelWithin coordinate_limit lower.now }

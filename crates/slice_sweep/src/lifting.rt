@@ -5,7 +5,7 @@ ghost use Rattle.scad_geom.specs.Limits.{coordinate_limit};
 ghost use Rattle.scad_geom.specs.Within.{IsEdgeWithin};
 ghost use Rattle.scad_geom.specs.Level.{IsLevelWithin};
 ghost use Rattle.scad_geom.specs.Heights.{AreNeighbours};
-ghost use Rattle.slice_slab.specs.Bundles.{AreBundles};
+ghost use Rattle.slice_bundles.specs.Bundles.{AreBundles};
 ghost use Rattle.slice_sweep.specs.Changes.{AreChanges};
 ghost use Rattle.slice_sweep.specs.Front.{bundles_in, IsReadyFor, StartFrom, IsBegunTo};
 

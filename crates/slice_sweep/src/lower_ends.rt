@@ -6,8 +6,8 @@ ghost use Rattle.scad_geom.specs.Limits.{coordinate_limit};
 ghost use Rattle.scad_geom.specs.Line.{low};
 ghost use Rattle.scad_geom.specs.Within.{IsEdgeWithin};
 ghost use Rattle.scad_geom.specs.Level.{IsLevelWithin};
-ghost use Rattle.slice_slab.specs.Bundles.{edge_at};
-ghost use Rattle.slice_slab.specs.Starts.{AreStarts, AreRising, numbers_of, all_numbers, begun_at, pending_at, is_begun};
+ghost use Rattle.slice_bundles.specs.Bundles.{edge_at};
+ghost use Rattle.slice_bundles.specs.Starts.{AreStarts, AreRising, numbers_of, all_numbers, begun_at, pending_at, is_begun};
 ghost use Rattle.slice_sweep.specs.LowerEnds.{start_of, starts_of};
 
 use crate::lower_end::LowerEnd;

@@ -3,7 +3,7 @@ ghost use Rattle.std.specs.Prelude.{◌≡◌, ◌<◌, ◌≤◌, ◌+◌, ◌-
 ghost use Rattle.std.specs.List.{AllByRecursion};
 ghost use Rattle.scad_geom.specs.Line.{high};
 ghost use Rattle.scad_geom.specs.Heights.{AreNeighbours};
-ghost use Rattle.slice_slab.specs.Bundles.{edge_at};
+ghost use Rattle.slice_bundles.specs.Bundles.{edge_at};
 ghost use Rattle.slice_sweep.specs.declared.change.Change.{Change};
 ghost use Rattle.slice_sweep.specs.declared.strand.Strand.{Strand};
 ghost use Rattle.slice_sweep.specs.Strands.{AreWaiting, AreThere, bundles_of, strand_at};

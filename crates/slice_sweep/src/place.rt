@@ -4,8 +4,8 @@ ghost use Rattle.scad_geom.specs.Limits.{coordinate_limit};
 ghost use Rattle.scad_geom.specs.Line.{rise, x_at};
 ghost use Rattle.scad_geom.specs.Within.{IsEdgeWithin};
 ghost use Rattle.scad_geom.specs.Level.{IsLevelWithin};
-ghost use Rattle.slice_slab.specs.Bundles.{edge_at, reaches};
-ghost use Rattle.slice_slab.specs.KeptOrder.{IsLeftAt, IsNotRightAt};
+ghost use Rattle.slice_bundles.specs.Bundles.{edge_at, reaches};
+ghost use Rattle.slice_bundles.specs.KeptOrder.{IsLeftAt, IsNotRightAt};
 ghost use Rattle.slice_sweep.specs.Spots.{IsBetween};
 ghost use Rattle.slice_sweep.specs.Strands.{head, AreThere, strand_at};
 

@@ -4,7 +4,7 @@ ghost use Rattle.slice_sweep.specs.Strands.{fresh, weakened};
 
 use crate::key::STALE;
 use crate::strand::Strand;
-use slice_slab::Bundle;
+use slice_bundles::Bundle;
 use std::alloc::{AllocError, Global};
 
 /// Takes the key of the strand before a place.

@@ -5,7 +5,7 @@ ghost use Rattle.scad_geom.specs.Limits.{coordinate_limit};
 ghost use Rattle.scad_geom.specs.Line.{low, rise, x_at};
 ghost use Rattle.scad_geom.specs.Within.{IsEdgeWithin};
 ghost use Rattle.scad_geom.specs.Level.{IsLevelWithin};
-ghost use Rattle.slice_slab.specs.Bundles.{reaches};
+ghost use Rattle.slice_bundles.specs.Bundles.{reaches};
 ghost use Rattle.slice_sweep.specs.Spots.{IsBetween};
 
 use crate::group::by_start;

@@ -3,8 +3,8 @@ ghost use Rattle.std.specs.Prelude.{◌≡◌, ◌<◌, ◌≤◌, ◌+◌, ◌^
 ghost use Rattle.scad_geom.specs.Limits.{coordinate_limit};
 ghost use Rattle.scad_geom.specs.Within.{IsEdgeWithin};
 ghost use Rattle.scad_geom.specs.Level.{IsLevelWithin};
-ghost use Rattle.slice_slab.specs.Active.{times};
-ghost use Rattle.slice_slab.specs.Bundles.{edge_at, reaches};
+ghost use Rattle.slice_bundles.specs.Active.{times};
+ghost use Rattle.slice_bundles.specs.Bundles.{edge_at, reaches};
 ghost use Rattle.std.specs.List.{AllByRecursion};
 ghost use Rattle.slice_sweep.specs.Strands.{bundles_of, numbers_in, fresh, AreWaiting, IsReaching};
 ghost use Rattle.slice_sweep.specs.Lows.{AreLow};
@@ -17,7 +17,7 @@ use crate::place::place;
 use crate::replace::weaken;
 use crate::strand::Strand;
 use scad_geom::{LeafEdge, Level};
-use slice_slab::Bundle;
+use slice_bundles::Bundle;
 use std::alloc::AllocError;
 
 /// Puts the edges of these numbers that aren't flat and reach a height to their places.

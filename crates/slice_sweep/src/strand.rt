@@ -1,6 +1,6 @@
 //! A bundle on the front.
 
-use slice_slab::Bundle;
+use slice_bundles::Bundle;
 
 /// A bundle and its wake-up key: at a height below the key none of its edges ends and it doesn't meet the next bundle.
 #[derive(Drop)]

@@ -6,8 +6,8 @@ ghost use Rattle.scad_geom.specs.Line.{high, rise};
 ghost use Rattle.scad_geom.specs.Within.{IsEdgeWithin};
 ghost use Rattle.scad_geom.specs.EdgeOrder.{IsBefore};
 ghost use Rattle.scad_geom.specs.Level.{IsLevelWithin, IsLower};
-ghost use Rattle.slice_slab.specs.Bundles.{edge_at};
-ghost use Rattle.slice_slab.specs.KeptOrder.{IsLeftAt};
+ghost use Rattle.slice_bundles.specs.Bundles.{edge_at};
+ghost use Rattle.slice_bundles.specs.KeptOrder.{IsLeftAt};
 ghost use Rattle.slice_sweep.specs.Keys.{IsBelowKey, stale};
 ghost use Rattle.slice_sweep.specs.Strands.{head, EndAbove, LiesLeft, AreThere, strand_at, bundles_of};
 ghost use Rattle.slice_sweep.specs.Lows.{AreLow};
@@ -19,7 +19,7 @@ use crate::step::Step;
 use crate::strand::Strand;
 use scad_geom::line::high;
 use scad_geom::{Edge, LeafEdge, Pt};
-use slice_slab::Bundle;
+use slice_bundles::Bundle;
 
 /// Makes the keys of the mended strands that a height has left without one: those that have come, and the one to the
 /// left of each change.

@@ -6,9 +6,9 @@ use Rattle.scad_base.proofs.Lists.{AllByRecursion-append}
 use Rattle.scad_geom.specs.Point.{Point, is_same_point}
 use Rattle.winding_laws.specs.Nearness.{IsPoint}
 use Rattle.winding_laws.proofs.Sameness.{same_through}
-use Rattle.slice_snap.specs.declared.piece.Spot.{Spot}
-use Rattle.slice_snap.specs.Spots.{point_of}
-use Rattle.slice_snap.proofs.Courses.{turn_same}
+use Rattle.slice_pieces.specs.declared.piece.Spot.{Spot}
+use Rattle.slice_pieces.specs.Spots.{point_of}
+use Rattle.slice_pieces.proofs.Courses.{turn_same}
 use Rattle.sweep_laws.specs.Ways.{Way, piece_of, pieces_of, IsAt, IsAway}
 use Rattle.sweep_laws.specs.Visits.{Visit, outs_of, IsAtOne, Leads, AreInSweepOrder}
 use Rattle.sweep_laws.proofs.Touches.{LiesAway}

@@ -31,9 +31,9 @@ use Rattle.scad_geom.proofs.Turns.{beyond_mul, level_turn, level_at, Over, over_
 use Rattle.winding_laws.specs.Nearness.{IsPoint, IsProper}
 use Rattle.winding_laws.proofs.Sameness.{AreSame, are_same, are_same_turned, cancel_mul, one_axis}
 use Rattle.winding_laws.proofs.Totals.{starts, ends, sums_apart, equal_by_gaps, balanced_totals}
-use Rattle.slice_slab.specs.Bundles.{no_edge, AreBundles}
-use Rattle.slice_snap.specs.declared.piece.Spot.{Spot}
-use Rattle.slice_snap.specs.Spots.{point_of}
+use Rattle.slice_bundles.specs.Bundles.{no_edge, AreBundles}
+use Rattle.slice_pieces.specs.declared.piece.Spot.{Spot}
+use Rattle.slice_pieces.specs.Spots.{point_of}
 use Rattle.slice_border.specs.Beside.{passing}
 use Rattle.slice_border.specs.Tally.{headings}
 use Rattle.slice_border.proofs.BalanceEdges.{IsAside}

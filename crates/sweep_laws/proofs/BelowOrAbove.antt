@@ -15,7 +15,7 @@ use Rattle.scad_geom.specs.Level.{level_of, IsLower, IsAtMost}
 use Rattle.scad_geom.specs.Heights.{heights, AreNeighbours}
 use Rattle.scad_geom.proofs.Heights.{at_most_chain}
 use Rattle.scad_geom.proofs.Order.{all_ends}
-use Rattle.slice_slab.specs.Bundles.{no_edge, edge_at, reaches}
+use Rattle.slice_bundles.specs.Bundles.{no_edge, edge_at, reaches}
 use Rattle.slice_border.specs.Pieces.{passes_at}
 
 -- ---- each edge that meets the height comes from below or goes on above

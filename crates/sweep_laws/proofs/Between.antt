@@ -9,10 +9,10 @@ use Rattle.scad_base.proofs.Lists.{AllByRecursion-append}
 use Rattle.scad_geom.specs.Point.{Point}
 use Rattle.scad_geom.proofs.Order.{front, back}
 use Rattle.winding_laws.specs.Nearness.{IsPoint}
-use Rattle.slice_snap.specs.declared.piece.Piece.{Piece}
-use Rattle.slice_snap.specs.Spots.{point_of}
-use Rattle.slice_snap.specs.Joining.{GoesOn, IsStuck}
-use Rattle.slice_snap.proofs.ChainEnds.{starts_permuted, ends_permuted}
+use Rattle.slice_pieces.specs.declared.piece.Piece.{Piece}
+use Rattle.slice_pieces.specs.Spots.{point_of}
+use Rattle.slice_pieces.specs.Joining.{GoesOn, IsStuck}
+use Rattle.slice_pieces.proofs.ChainEnds.{starts_permuted, ends_permuted}
 use Rattle.sweep_laws.specs.Ways.{Way, piece_of, pieces_of, IsAt, IsAway, AreOfDifferentNames}
 use Rattle.sweep_laws.specs.Visits.{OneGoesOn, Visit, outs_of, IsAtOne, Leads, AreInSweepOrder}
 use Rattle.sweep_laws.proofs.Touches.{ComesIn, GoesOut, LiesAway}

@@ -12,9 +12,9 @@ use Rattle.scad_geom.specs.Level.{IsAtMost}
 use Rattle.scad_geom.specs.Shape.{shape_holds}
 use Rattle.scad_geom.specs.Sign.{is_zero}
 use Rattle.scad_geom.proofs.Sums.{sum_z-append}
-use Rattle.slice_slab.proofs.Live.{live_bundles}
-use Rattle.slice_snap.specs.declared.piece.Spot.{Spot}
-use Rattle.slice_snap.specs.Spots.{point_of}
+use Rattle.slice_bundles.proofs.Live.{live_bundles}
+use Rattle.slice_pieces.specs.declared.piece.Spot.{Spot}
+use Rattle.slice_pieces.specs.Spots.{point_of}
 use Rattle.slice_border.specs.Pieces.{across, spots_at, GoRight, covers, AreStops}
 use Rattle.slice_border.specs.Beside.{RisesFirst}
 use Rattle.slice_border.specs.Tally.{headings}

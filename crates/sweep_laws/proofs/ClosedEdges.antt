@@ -8,9 +8,9 @@ use Rattle.winding_laws.specs.Edges.{rounded_edge}
 use Rattle.winding_laws.proofs.Lengths.{lengths_keep_balance}
 use Rattle.winding_laws.proofs.Order.{order_keeps_balance}
 use Rattle.winding_laws.proofs.Rounding.{rounding_keeps_balance}
-use Rattle.slice_snap.specs.Pieces.{way_of, ways_of}
-use Rattle.slice_snap.specs.Rounding.{rounded_edges}
-use Rattle.slice_snap.proofs.Balance.{merged_balanced}
+use Rattle.slice_pieces.specs.Pieces.{way_of, ways_of}
+use Rattle.slice_pieces.specs.Rounding.{rounded_edges}
+use Rattle.slice_pieces.proofs.Balance.{merged_balanced}
 use Rattle.slice_border.proofs.BalanceLevels.{pieces_are_balanced}
 use Rattle.slice_border.proofs.PieceWinding.{IsPlaced, placed_proper, merged_placed}
 use Rattle.slice_border.proofs.Membership.{pieces_are_placed}

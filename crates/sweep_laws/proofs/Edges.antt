@@ -7,9 +7,9 @@ use Rattle.scad_geom.specs.declared.point.Edge.{Edge}
 use Rattle.scad_geom.proofs.Balance.{same_whole, same_place-is}
 use Rattle.winding_laws.specs.Edges.{rounded, rounded_edge, has_length}
 use Rattle.winding_laws.proofs.Rounding.{rounded_same}
-use Rattle.slice_snap.specs.declared.piece.Spot.{Spot}
-use Rattle.slice_snap.specs.Spots.{point_of}
-use Rattle.slice_snap.specs.Pieces.{way_of, ways_of}
+use Rattle.slice_pieces.specs.declared.piece.Spot.{Spot}
+use Rattle.slice_pieces.specs.Spots.{point_of}
+use Rattle.slice_pieces.specs.Pieces.{way_of, ways_of}
 use Rattle.sweep_laws.specs.Ways.{Way, piece_of, pieces_of}
 use Rattle.sweep_laws.specs.Edges.{edge_between, WaysGiveEdges, SameSpotsRoundAlike}
 

@@ -14,9 +14,9 @@ use Rattle.scad_geom.specs.Level.{IsAtMost}
 use Rattle.scad_geom.specs.Shape.{is_in_by}
 use Rattle.scad_geom.proofs.Heights.{lower_chain, lower_weak, at_most_chain}
 use Rattle.scad_geom.proofs.Order.{front, back}
-use Rattle.slice_snap.specs.declared.piece.Spot.{Spot}
-use Rattle.slice_snap.specs.declared.piece.Piece.{Piece}
-use Rattle.slice_snap.specs.Spots.{point_of}
+use Rattle.slice_pieces.specs.declared.piece.Spot.{Spot}
+use Rattle.slice_pieces.specs.declared.piece.Piece.{Piece}
+use Rattle.slice_pieces.specs.Spots.{point_of}
 use Rattle.slice_border.specs.Pieces.{across, IsLeft, GoRight, piece_between, covers, stretch_piece, flat_pieces}
 use Rattle.slice_border.specs.Beside.{left_value, RisesFirst, passing}
 use Rattle.slice_border.specs.Beside.{TellBeside}

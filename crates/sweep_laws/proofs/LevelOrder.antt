@@ -9,9 +9,9 @@ use Rattle.scad_geom.specs.declared.level.LeafEdge.{LeafEdge}
 use Rattle.scad_geom.specs.Level.{IsLower}
 use Rattle.scad_geom.proofs.Order.{front, back}
 use Rattle.winding_laws.proofs.Sameness.{same_itself}
-use Rattle.slice_slab.specs.Bundles.{edge_at}
-use Rattle.slice_snap.specs.declared.piece.Spot.{Spot}
-use Rattle.slice_snap.specs.Spots.{point_of}
+use Rattle.slice_bundles.specs.Bundles.{edge_at}
+use Rattle.slice_pieces.specs.declared.piece.Spot.{Spot}
+use Rattle.slice_pieces.specs.Spots.{point_of}
 use Rattle.slice_border.specs.Pieces.{spot_on}
 use Rattle.slice_border.specs.Beside.{RisesFirst}
 use Rattle.slice_border.proofs.Winding.{IsSpotAt}

@@ -17,11 +17,11 @@ use Rattle.scad_geom.specs.Level.{IsAtMost}
 use Rattle.scad_geom.specs.Heights.{AreNeighbours}
 use Rattle.scad_geom.proofs.Heights.{lower_then_at_most, at_most_chain, same_at_least, same_at_most}
 use Rattle.scad_geom.proofs.Order.{front, back}
-use Rattle.slice_slab.specs.Bundles.{edge_at, AreBundles}
-use Rattle.slice_slab.proofs.Live.{IsLive, live_bundles}
-use Rattle.slice_snap.specs.declared.piece.Spot.{Spot}
-use Rattle.slice_snap.specs.declared.piece.Piece.{Piece}
-use Rattle.slice_snap.specs.Spots.{point_of}
+use Rattle.slice_bundles.specs.Bundles.{edge_at, AreBundles}
+use Rattle.slice_bundles.proofs.Live.{IsLive, live_bundles}
+use Rattle.slice_pieces.specs.declared.piece.Spot.{Spot}
+use Rattle.slice_pieces.specs.declared.piece.Piece.{Piece}
+use Rattle.slice_pieces.specs.Spots.{point_of}
 use Rattle.slice_border.specs.Pieces.{spot_on, across, IsLeft, piece_between, bundle_piece, slab_pieces}
 use Rattle.slice_border.specs.Beside.{left_value, RisesFirst, passing, lies_left}
 use Rattle.slice_border.proofs.Middle.{size_of, value_left, value_right}

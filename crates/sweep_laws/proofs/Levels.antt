@@ -18,9 +18,9 @@ use Rattle.scad_geom.specs.Sign.{is_zero}
 use Rattle.scad_geom.proofs.Order.{front, back}
 use Rattle.winding_laws.specs.Nearness.{IsPoint}
 use Rattle.winding_laws.proofs.Sameness.{same_itself, same_through}
-use Rattle.slice_slab.specs.Bundles.{no_edge, edge_at}
-use Rattle.slice_snap.specs.declared.piece.Spot.{Spot}
-use Rattle.slice_snap.specs.Spots.{point_of}
+use Rattle.slice_bundles.specs.Bundles.{no_edge, edge_at}
+use Rattle.slice_pieces.specs.declared.piece.Spot.{Spot}
+use Rattle.slice_pieces.specs.Spots.{point_of}
 use Rattle.slice_border.specs.Pieces.{spot_on, is_flat_at, covers}
 use Rattle.slice_border.specs.Beside.{RisesFirst}
 use Rattle.slice_border.proofs.Winding.{IsSpotAt}

@@ -18,11 +18,11 @@ use Rattle.scad_geom.specs.Heights.{heights, AreNeighbours}
 use Rattle.scad_geom.specs.Point.{Point}
 use Rattle.scad_geom.proofs.Heights.{Reaches, heights_positive, at_most_then_lower, lower_weak}
 use Rattle.scad_geom.proofs.Order.{front, back}
-use Rattle.slice_slab.specs.Bundles.{edge_at}
-use Rattle.slice_slab.proofs.Live.{IsLive, live_bundles}
-use Rattle.slice_snap.specs.declared.piece.Spot.{Spot}
-use Rattle.slice_snap.specs.declared.piece.Piece.{Piece}
-use Rattle.slice_snap.specs.Spots.{point_of}
+use Rattle.slice_bundles.specs.Bundles.{edge_at}
+use Rattle.slice_bundles.proofs.Live.{IsLive, live_bundles}
+use Rattle.slice_pieces.specs.declared.piece.Spot.{Spot}
+use Rattle.slice_pieces.specs.declared.piece.Piece.{Piece}
+use Rattle.slice_pieces.specs.Spots.{point_of}
 use Rattle.slice_border.specs.Pieces.{spot_on, passes_at, spots_at, IsLeft, GoRight, HasSpot, flat_pieces}
 use Rattle.slice_border.specs.Beside.{left_value, RisesFirst}
 use Rattle.slice_border.specs.Beside.{TellBeside}

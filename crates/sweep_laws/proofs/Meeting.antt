@@ -7,13 +7,13 @@ use Rattle.std.proofs.lemmas.List.Sorted.{IsPermutation-trans}
 use Rattle.scad_geom.specs.Point.{Point}
 use Rattle.scad_geom.proofs.Balance.{once}
 use Rattle.winding_laws.specs.Nearness.{IsPoint}
-use Rattle.slice_snap.specs.declared.piece.Spot.{Spot}
-use Rattle.slice_snap.specs.declared.piece.Piece.{Piece}
-use Rattle.slice_snap.specs.Spots.{point_of}
-use Rattle.slice_snap.specs.Pieces.{ways_of}
-use Rattle.slice_snap.specs.Merging.{MeetAlone}
-use Rattle.slice_snap.proofs.ChainEnds.{point_alike}
-use Rattle.slice_snap.proofs.TwoPairs.{swap}
+use Rattle.slice_pieces.specs.declared.piece.Spot.{Spot}
+use Rattle.slice_pieces.specs.declared.piece.Piece.{Piece}
+use Rattle.slice_pieces.specs.Spots.{point_of}
+use Rattle.slice_pieces.specs.Pieces.{ways_of}
+use Rattle.slice_pieces.specs.Merging.{MeetAlone}
+use Rattle.slice_pieces.proofs.ChainEnds.{point_alike}
+use Rattle.slice_pieces.proofs.TwoPairs.{swap}
 use Rattle.sweep_laws.specs.Ways.{Way, piece_of, IsAt, IsAway}
 use Rattle.sweep_laws.specs.Visits.{IsOneCourse}
 use Rattle.sweep_laws.proofs.Touches.{ComesIn, GoesOut, LiesAway, at_to, at_from}

@@ -10,13 +10,13 @@ use Rattle.scad_geom.specs.Segment.{Segment}
 use Rattle.scad_geom.specs.Balance.{starts_at, ends_at}
 use Rattle.scad_geom.proofs.Balance.{once, starts-cons, ends-cons}
 use Rattle.winding_laws.specs.Nearness.{IsPoint}
-use Rattle.slice_snap.specs.declared.piece.Spot.{Spot}
-use Rattle.slice_snap.specs.declared.piece.Piece.{Piece}
-use Rattle.slice_snap.specs.Spots.{point_of}
-use Rattle.slice_snap.specs.Pieces.{ways_of}
-use Rattle.slice_snap.specs.Merging.{joined}
-use Rattle.slice_snap.specs.Joining.{GoesOn, IsStuck}
-use Rattle.slice_snap.proofs.ChainEnds.{starts_permuted, ends_permuted, point_alike}
+use Rattle.slice_pieces.specs.declared.piece.Spot.{Spot}
+use Rattle.slice_pieces.specs.declared.piece.Piece.{Piece}
+use Rattle.slice_pieces.specs.Spots.{point_of}
+use Rattle.slice_pieces.specs.Pieces.{ways_of}
+use Rattle.slice_pieces.specs.Merging.{joined}
+use Rattle.slice_pieces.specs.Joining.{GoesOn, IsStuck}
+use Rattle.slice_pieces.proofs.ChainEnds.{starts_permuted, ends_permuted, point_alike}
 use Rattle.sweep_laws.specs.Ways.{Way, piece_of, pieces_of, IsAt, AreOfDifferentNames}
 use Rattle.sweep_laws.specs.Visits.{grown, IsOneCourse, OneGoesOn}
 use Rattle.sweep_laws.proofs.Touches.{ComesIn, GoesOut, LiesAway, forwards, backwards, at_to, at_from, ends_in, starts_in, ends_out, starts_out, no_ends, no_starts}

@@ -11,9 +11,9 @@ use Rattle.scad_geom.specs.Line.{rise}
 use Rattle.scad_geom.specs.Level.{IsLower}
 use Rattle.scad_geom.specs.Point.{is_same_point}
 use Rattle.scad_geom.proofs.Points.{same_height, same_across}
-use Rattle.slice_snap.specs.declared.piece.Spot.{Spot}
-use Rattle.slice_snap.specs.Spots.{point_of}
-use Rattle.slice_snap.proofs.SameSpots.{to_eq, crossed_back, mul_beside}
+use Rattle.slice_pieces.specs.declared.piece.Spot.{Spot}
+use Rattle.slice_pieces.specs.Spots.{point_of}
+use Rattle.slice_pieces.proofs.SameSpots.{to_eq, crossed_back, mul_beside}
 use Rattle.scad_geom.proofs.Ring.{crossed}
 use Rattle.slice_border.specs.Pieces.{spot_on, IsLeft, IsSameAcross}
 use Rattle.slice_border.proofs.Middle.{size_of, scaled, lower_scaled, scaled_below}

@@ -10,7 +10,7 @@ use Rattle.scad_geom.specs.Level.{IsAtMost}
 use Rattle.scad_geom.specs.Heights.{heights}
 use Rattle.scad_geom.specs.Shape.{shape_holds}
 use Rattle.scad_geom.specs.Sign.{is_zero}
-use Rattle.slice_slab.proofs.Live.{live_bundles}
+use Rattle.slice_bundles.proofs.Live.{live_bundles}
 use Rattle.slice_border.specs.Beside.{left_value, RisesFirst}
 use Rattle.slice_border.specs.Tally.{headings}
 use Rattle.sweep_laws.specs.Fronts.{Strand, bundles_of, AreValued}

@@ -16,8 +16,8 @@ use Rattle.scad_geom.specs.Line.{rise}
 use Rattle.scad_geom.specs.Level.{IsAtMost}
 use Rattle.scad_geom.specs.Heights.{heights}
 use Rattle.scad_geom.specs.Sign.{is_zero}
-use Rattle.slice_slab.specs.Bundles.{edge_at, reaches, AreBundles}
-use Rattle.slice_snap.specs.declared.piece.Spot.{Spot}
+use Rattle.slice_bundles.specs.Bundles.{edge_at, reaches, AreBundles}
+use Rattle.slice_pieces.specs.declared.piece.Spot.{Spot}
 use Rattle.slice_border.specs.Pieces.{spot_on, whole_spot, is_flat_at, passes_at, edge_spots, spots_at, HasSpot, IsOneOf, AreStops}
 use Rattle.slice_border.proofs.Winding.{IsSpotAt, of_stops, spots_are_at}
 use Rattle.sweep_laws.specs.Fronts.{Strand, bundles_of}

@@ -14,9 +14,9 @@ use Rattle.scad_geom.specs.Line.{rise, x_at}
 use Rattle.scad_geom.specs.EdgeOrder.{AreAligned}
 use Rattle.scad_geom.proofs.Heights.{same_chain}
 use Rattle.scad_geom.proofs.Order.{front, back, aligned_all}
-use Rattle.slice_slab.specs.Bundles.{edge_at, reaches, reaching, IsBundle, AreRanked, AreBundles}
-use Rattle.slice_slab.proofs.Live.{IsLive, live_bundles}
-use Rattle.slice_snap.specs.declared.piece.Spot.{Spot}
+use Rattle.slice_bundles.specs.Bundles.{edge_at, reaches, reaching, IsBundle, AreRanked, AreBundles}
+use Rattle.slice_bundles.proofs.Live.{IsLive, live_bundles}
+use Rattle.slice_pieces.specs.declared.piece.Spot.{Spot}
 use Rattle.slice_border.specs.Pieces.{spot_on, across, IsSameAcross, HasSpot}
 use Rattle.slice_border.proofs.Middle.{size_of}
 use Rattle.slice_border.proofs.Winding.{IsSpotAt}

@@ -11,8 +11,8 @@ use Rattle.scad_geom.specs.declared.level.LeafEdge.{LeafEdge}
 use Rattle.scad_geom.specs.Line.{rise}
 use Rattle.scad_geom.specs.EdgeOrder.{IsBefore}
 use Rattle.scad_geom.proofs.Order.{front}
-use Rattle.slice_slab.specs.Bundles.{edge_at, Precedes, AreRanked}
-use Rattle.slice_snap.specs.declared.piece.Spot.{Spot}
+use Rattle.slice_bundles.specs.Bundles.{edge_at, Precedes, AreRanked}
+use Rattle.slice_pieces.specs.declared.piece.Spot.{Spot}
 use Rattle.slice_border.specs.Pieces.{spot_on, covers}
 use Rattle.sweep_laws.specs.Ways.{Way, way_between, AreOfDifferentNames}
 use Rattle.sweep_laws.specs.Fronts.{Strand, bundles_of, value_before, way_up, ways_up, way_from, ways_from}

@@ -16,12 +16,12 @@ use Rattle.scad_geom.specs.Level.{IsLower, IsAtMost}
 use Rattle.scad_geom.specs.Heights.{heights, AreNeighbours}
 use Rattle.scad_geom.proofs.Heights.{heights_positive, lower_then_at_most, lower_weak, at_most_chain}
 use Rattle.slice_events.specs.Levels.{IsRising}
-use Rattle.slice_slab.specs.Bundles.{edge_at}
-use Rattle.slice_slab.proofs.Live.{live_bundles}
-use Rattle.slice_snap.specs.declared.piece.Spot.{Spot}
-use Rattle.slice_snap.specs.declared.piece.Piece.{Piece}
-use Rattle.slice_snap.specs.Rounding.{rounded_edges}
-use Rattle.slice_snap.proofs.Pairs.{permuted_merged}
+use Rattle.slice_bundles.specs.Bundles.{edge_at}
+use Rattle.slice_bundles.proofs.Live.{live_bundles}
+use Rattle.slice_pieces.specs.declared.piece.Spot.{Spot}
+use Rattle.slice_pieces.specs.declared.piece.Piece.{Piece}
+use Rattle.slice_pieces.specs.Rounding.{rounded_edges}
+use Rattle.slice_pieces.proofs.Pairs.{permuted_merged}
 use Rattle.slice_border.specs.Pieces.{spot_on, passes_at, flat_pieces, slab_pieces, AreLevelPieces}
 use Rattle.slice_border.proofs.Telling.{tell_first}
 use Rattle.slice_border.proofs.Walk.{UpTo, at_first, at_next, neighbours_next}

@@ -7,13 +7,13 @@ use Rattle.std.proofs.lemmas.List.Elements.{All-weaker, All-from_recursion, recu
 use Rattle.std.proofs.lemmas.List.Sorted.{All-permutation, IsPermutation-refl, IsPermutation-sym, IsPermutation-middle}
 use Rattle.scad_base.proofs.Lists.{AllByRecursion-append}
 use Rattle.winding_laws.specs.Nearness.{IsPoint}
-use Rattle.slice_snap.specs.declared.piece.Spot.{Spot}
-use Rattle.slice_snap.specs.declared.piece.Piece.{Piece}
-use Rattle.slice_snap.specs.Spots.{point_of}
-use Rattle.slice_snap.specs.Merging.{joined, MeetAlone, AreMerged, all_joined, two_join}
-use Rattle.slice_snap.specs.Joining.{GoesOn, IsStuck}
-use Rattle.slice_snap.proofs.Pairs.{permuted_merged}
-use Rattle.slice_snap.proofs.ChainEnds.{stays_stuck, none_meet_alone}
+use Rattle.slice_pieces.specs.declared.piece.Spot.{Spot}
+use Rattle.slice_pieces.specs.declared.piece.Piece.{Piece}
+use Rattle.slice_pieces.specs.Spots.{point_of}
+use Rattle.slice_pieces.specs.Merging.{joined, MeetAlone, AreMerged, all_joined, two_join}
+use Rattle.slice_pieces.specs.Joining.{GoesOn, IsStuck}
+use Rattle.slice_pieces.proofs.Pairs.{permuted_merged}
+use Rattle.slice_pieces.proofs.ChainEnds.{stays_stuck, none_meet_alone}
 use Rattle.sweep_laws.specs.Ways.{Way, piece_of, pieces_of, IsAt, IsAway, AreOfDifferentNames}
 use Rattle.sweep_laws.specs.Visits.{grown, IsOneCourse, Pass, goes_on, all_end, Visit, outs_of, IsAtOne, Leads, AreInSweepOrder, Walk, over, visit, WalksMerge}
 use Rattle.sweep_laws.proofs.Touches.{ComesIn, GoesOut, LiesAway}

@@ -12,7 +12,7 @@ use Rattle.scad_geom.proofs.Leaves.{wind_leaf}
 use Rattle.scad_geom.proofs.Order.{front, back}
 use Rattle.scad_geom.proofs.Sums.{sum_z, sum_z-append, sum_z-permutation}
 use Rattle.scad_geom.proofs.Turns.{heading}
-use Rattle.slice_slab.specs.Bundles.{no_edge, edge_at, reaching, IsBundle, AreRanked, AreBundles}
+use Rattle.slice_bundles.specs.Bundles.{no_edge, edge_at, reaching, IsBundle, AreRanked, AreBundles}
 use Rattle.slice_border.specs.Tally.{heading_of, headings}
 use Rattle.slice_border.proofs.Reaching.{heading_for, lies_left, wind_reaching}
 use Rattle.slice_border.proofs.Passing.{IsLive, live_bundles, same_side, passing, HeadPasses, Around}

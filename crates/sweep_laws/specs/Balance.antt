@@ -7,9 +7,9 @@ use Rattle.scad_geom.specs.declared.shape.Shape.{Shape}
 use Rattle.scad_geom.specs.Point.{Point}
 use Rattle.scad_geom.specs.Heights.{AreNeighbours}
 use Rattle.scad_geom.specs.Leaves.{AreLeavesBalanced}
-use Rattle.slice_slab.specs.Bundles.{AreBundles}
-use Rattle.slice_snap.specs.declared.piece.Spot.{Spot}
-use Rattle.slice_snap.specs.Spots.{point_of}
+use Rattle.slice_bundles.specs.Bundles.{AreBundles}
+use Rattle.slice_pieces.specs.declared.piece.Spot.{Spot}
+use Rattle.slice_pieces.specs.Spots.{point_of}
 use Rattle.slice_border.specs.Tally.{headings}
 use Rattle.slice_border.specs.Beside.{left_value, passing}
 use Rattle.slice_border.specs.Pieces.{AreStops}

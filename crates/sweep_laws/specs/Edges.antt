@@ -5,9 +5,9 @@ use Rattle.scad_geom.specs.declared.point.Edge.{Edge}
 use Rattle.scad_geom.specs.Point.{is_same_point}
 use Rattle.winding_laws.specs.Edges.{rounded, has_length}
 use Rattle.winding_laws.specs.Nearness.{IsPoint}
-use Rattle.slice_snap.specs.Spots.{point_of}
-use Rattle.slice_snap.specs.Rounding.{rounded_edges}
-use Rattle.slice_snap.specs.declared.piece.Spot.{Spot}
+use Rattle.slice_pieces.specs.Spots.{point_of}
+use Rattle.slice_pieces.specs.Rounding.{rounded_edges}
+use Rattle.slice_pieces.specs.declared.piece.Spot.{Spot}
 use Rattle.sweep_laws.specs.Ways.{Way, pieces_of}
 
 -- the edge between two whole points, one way or the other

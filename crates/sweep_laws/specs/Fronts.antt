@@ -4,8 +4,8 @@ use Rattle.std.specs.Prelude.{Bool, ◌≡◌, ⊤, List, [], ◌∷◌, ◌++�
 use Rattle.scad_geom.specs.declared.level.Level.{Level}
 use Rattle.scad_geom.specs.declared.level.LeafEdge.{LeafEdge}
 use Rattle.scad_geom.specs.declared.shape.Shape.{Shape}
-use Rattle.slice_slab.specs.Bundles.{edge_at, AreBundles}
-use Rattle.slice_snap.specs.declared.piece.Spot.{Spot}
+use Rattle.slice_bundles.specs.Bundles.{edge_at, AreBundles}
+use Rattle.slice_pieces.specs.declared.piece.Spot.{Spot}
 use Rattle.slice_border.specs.Pieces.{spot_on}
 use Rattle.slice_border.specs.Beside.{left_value}
 use Rattle.sweep_laws.specs.Ways.{Way, way_between}

@@ -6,7 +6,7 @@ use Rattle.scad_geom.specs.declared.shape.Shape.{Shape}
 use Rattle.scad_geom.specs.Level.{IsAtMost}
 use Rattle.scad_geom.specs.Leaves.{AreLeavesBalanced}
 use Rattle.scad_geom.specs.Heights.{heights, AreNeighbours}
-use Rattle.slice_slab.specs.Bundles.{AreBundles}
+use Rattle.slice_bundles.specs.Bundles.{AreBundles}
 use Rattle.sweep_laws.specs.Fronts.{bundles_of, value_before, IsFront}
 use Rattle.sweep_laws.specs.Crossing.{Place, all_below, all_above, ArePassed, IsCrossing}
 use Rattle.sweep_laws.specs.Staying.{IsUncovered}

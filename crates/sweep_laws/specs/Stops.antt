@@ -6,7 +6,7 @@ use Rattle.scad_geom.specs.declared.level.Level.{Level}
 use Rattle.scad_geom.specs.declared.level.LeafEdge.{LeafEdge}
 use Rattle.scad_geom.specs.Level.{IsAtMost}
 use Rattle.scad_geom.specs.Heights.{heights, AreNeighbours}
-use Rattle.slice_slab.specs.Bundles.{edge_at, AreBundles}
+use Rattle.slice_bundles.specs.Bundles.{edge_at, AreBundles}
 use Rattle.slice_border.specs.Pieces.{spot_on, whole_spot, is_flat_at, passes_at, spots_at, GoRight, HasSpot, IsOneOf, AreStops}
 use Rattle.sweep_laws.specs.Fronts.{bundles_of}
 use Rattle.sweep_laws.specs.Crossing.{Place, spots_of, all_below, all_above, MeetsAt}

@@ -10,10 +10,10 @@ use Rattle.scad_geom.specs.Segment.{segments}
 use Rattle.scad_geom.specs.Balance.{IsBalanced}
 use Rattle.scad_geom.specs.Leaves.{AreLeavesBalanced}
 use Rattle.slice_events.specs.Levels.{AreLevels}
-use Rattle.slice_snap.specs.declared.piece.Piece.{Piece}
-use Rattle.slice_snap.specs.Merging.{AreMerged}
-use Rattle.slice_snap.specs.Rounding.{rounded_edges}
-use Rattle.slice_snap.specs.Cancelling.{AreCancelled}
+use Rattle.slice_pieces.specs.declared.piece.Piece.{Piece}
+use Rattle.slice_pieces.specs.Merging.{AreMerged}
+use Rattle.slice_pieces.specs.Rounding.{rounded_edges}
+use Rattle.slice_pieces.specs.Cancelling.{AreCancelled}
 use Rattle.slice_loops.specs.Outlines.{AreOutlines}
 use Rattle.slice_border.specs.Pieces.{ArePieces}
 use Rattle.slice_border.specs.Outlines.{AreOutlinesOf}

@@ -4,9 +4,9 @@ use Rattle.std.specs.Prelude.{◌≡◌, ◌⊎◌, ⊤, List, [], ◌∷◌, �
 use Rattle.std.specs.List.{AllByRecursion}
 use Rattle.std.specs.List.Sorted.{IsPermutation}
 use Rattle.winding_laws.specs.Nearness.{IsPoint}
-use Rattle.slice_snap.specs.declared.piece.Spot.{Spot}
-use Rattle.slice_snap.specs.Merging.{AreMerged}
-use Rattle.slice_snap.specs.Spots.{point_of}
+use Rattle.slice_pieces.specs.declared.piece.Spot.{Spot}
+use Rattle.slice_pieces.specs.Merging.{AreMerged}
+use Rattle.slice_pieces.specs.Spots.{point_of}
 use Rattle.sweep_laws.specs.Ways.{Way, pieces_of, IsAt, IsAway, AreOfDifferentNames}
 
 -- ---- at one place

@@ -2,9 +2,9 @@
 use Rattle.std.specs.Prelude.{Bool, true, false, cond, ◌≡◌, ⊤, List, [], ◌∷◌, map, ℕ}
 use Rattle.std.specs.List.{AllByRecursion}
 use Rattle.scad_geom.specs.Point.{Point, is_same_point}
-use Rattle.slice_snap.specs.declared.piece.Spot.{Spot}
-use Rattle.slice_snap.specs.declared.piece.Piece.{Piece}
-use Rattle.slice_snap.specs.Spots.{point_of}
+use Rattle.slice_pieces.specs.declared.piece.Spot.{Spot}
+use Rattle.slice_pieces.specs.declared.piece.Piece.{Piece}
+use Rattle.slice_pieces.specs.Spots.{point_of}
 
 -- a piece's two ends, in the order in which the sweep comes to them, its name, and whether it runs
 -- from the near one to the far one

@@ -1,7 +1,7 @@
 -- Levels over one divisor are the same where their heights are.
 use Rattle.std.proofs.Common.{List, sym, subst}
-use Rattle.slice_snap.specs.declared.piece.Piece.{Piece}
-use Rattle.slice_snap.specs.Pieces.{HaveOneLevel}
+use Rattle.slice_pieces.specs.declared.piece.Piece.{Piece}
+use Rattle.slice_pieces.specs.Pieces.{HaveOneLevel}
 use Rattle.outline_samples.proofs.WholeLevels.{whole_levels}
 use Rattle.outline_samples.proofs.pieces.are_merged.Goals as goal
 

@@ -1,6 +1,6 @@
 use Rattle.std.specs.Prelude.{◌≡◌, pos, All}
 use Rattle.scad_geom.specs.Limits.{coordinate_limit}
-use Rattle.slice_snap.specs.Pieces.{IsPieceWithin}
+use Rattle.slice_pieces.specs.Pieces.{IsPieceWithin}
 use Rattle.outline_samples.proofs.pieces.pieces.Given as goal
 
 abbrev pub invariant-parts : goal.invariant-parts

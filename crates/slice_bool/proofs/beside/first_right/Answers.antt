@@ -1,7 +1,7 @@
 -- One more is passed while the next doesn't lie to the right of the stop.
 use Rattle.std.proofs.Common.{ℕ, sym, ◌∙◌, arith, List}
 use Rattle.scad_geom.specs.Point.{Point}
-use Rattle.slice_snap.specs.Spots.{point_of}
+use Rattle.slice_pieces.specs.Spots.{point_of}
 use Rattle.slice_bool.proofs.Along.{passed_more}
 use Rattle.slice_bool.proofs.beside.first_right.Goals as goal
 

@@ -1,7 +1,7 @@
 -- From stop to stop, the first bundle to its right.
 use Rattle.std.proofs.Common.{◌≡◌, ℕ, ◌-◌, ◌<◌, ◌≤◌, ◌++◌, ◌∷◌, [], Bool, true, false, List, length, get_or, sym, ap, ◌∙◌, arith, subst}
 use Rattle.scad_geom.specs.Point.{Point}
-use Rattle.slice_snap.specs.Spots.{point_of}
+use Rattle.slice_pieces.specs.Spots.{point_of}
 use Rattle.slice_border.specs.declared.stop.Stop.{Stop}
 use Rattle.slice_border.specs.Beside.{left_value, passing, is_right_of}
 use Rattle.slice_bool.proofs.Along.{any_stop, from_first, passed_both, passed_next, value_more}

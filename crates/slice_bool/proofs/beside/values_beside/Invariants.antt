@@ -1,5 +1,5 @@
 use Rattle.std.proofs.Common.{◌≡◌, ℕ, ◌<◌, ◌≤◌, true, false, List, length, get_or}
-use Rattle.slice_snap.specs.Spots.{point_of}
+use Rattle.slice_pieces.specs.Spots.{point_of}
 use Rattle.slice_border.specs.declared.stop.Stop.{Stop}
 use Rattle.slice_border.specs.Beside.{left_value, passing, is_right_of}
 use Rattle.slice_bool.proofs.beside.values_beside.Given as goal

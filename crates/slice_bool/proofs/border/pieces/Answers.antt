@@ -6,7 +6,7 @@ use Rattle.scad_geom.specs.declared.level.Level.{Level}
 use Rattle.scad_geom.specs.declared.level.LeafEdge.{LeafEdge}
 use Rattle.scad_geom.specs.declared.shape.Shape.{Shape}
 use Rattle.slice_events.specs.Levels.{AreLevels}
-use Rattle.slice_snap.specs.declared.piece.Piece.{Piece}
+use Rattle.slice_pieces.specs.declared.piece.Piece.{Piece}
 use Rattle.slice_border.specs.Pieces.{AreLevelPieces, ArePieces}
 use Rattle.slice_border.proofs.Ends.{heights_have_one_level}
 use Rattle.slice_border.proofs.Within.{spots_are_within}

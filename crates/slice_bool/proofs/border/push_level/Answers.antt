@@ -1,9 +1,9 @@
 -- The pieces on a level, and those between it and the next.
 use Rattle.std.proofs.Common.{ℕ, ◌+◌, List, refl, sym, ap, subst, drop, pos, get_or, IsPermutation}
 use Rattle.scad_geom.specs.declared.level.Level.{Level}
-use Rattle.slice_slab.specs.Bundles.{AreBundles}
-use Rattle.slice_slab.specs.Touching.{touching}
-use Rattle.slice_snap.specs.declared.piece.Piece.{Piece}
+use Rattle.slice_bundles.specs.Bundles.{AreBundles}
+use Rattle.slice_bundles.specs.Touching.{touching}
+use Rattle.slice_pieces.specs.declared.piece.Piece.{Piece}
 use Rattle.slice_border.specs.Pieces.{slab_pieces}
 use Rattle.slice_bool.specs.Parts.{AreUpToNext, AreBetweenLevels, Extends}
 use Rattle.slice_border.proofs.Neighbours.{neighbours_at}

@@ -2,7 +2,7 @@
 use Rattle.std.proofs.Common.{◌+◌, ◌∙◌, pos, sym, subst, true, false, ℕ, List}
 use Rattle.std.proofs.lemmas.Result.{IfOk-weaker}
 use Rattle.scad_geom.specs.declared.level.Level.{Level}
-use Rattle.slice_slab.specs.Bundles.{AreBundles}
+use Rattle.slice_bundles.specs.Bundles.{AreBundles}
 use Rattle.slice_bool.specs.declared.beside.Valued.{Valued}
 use Rattle.slice_border.specs.Levels.{level_at}
 use Rattle.slice_bool.specs.LeftValues.{AreLeftValues}

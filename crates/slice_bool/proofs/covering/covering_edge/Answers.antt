@@ -3,8 +3,8 @@ use Rattle.std.proofs.Common.{◌≡◌, ◌+◌, ◌<◌, ℕ, Bool, true, fals
 use Rattle.std.specs.Prelude.{if◌then◌else◌, Some}
 use Rattle.std.proofs.lemmas.List.{at_drop_more, at_drop_all}
 use Rattle.scad_geom.specs.declared.level.LeafEdge.{LeafEdge}
-use Rattle.slice_slab.specs.Bundles.{no_edge}
-use Rattle.slice_snap.specs.declared.piece.Spot.{Spot}
+use Rattle.slice_bundles.specs.Bundles.{no_edge}
+use Rattle.slice_pieces.specs.declared.piece.Spot.{Spot}
 use Rattle.slice_border.specs.Pieces.{covers}
 use Rattle.slice_border.specs.Flats.{first_cover}
 use Rattle.slice_border.proofs.Flats.{flats_cover}

@@ -1,9 +1,9 @@
 -- Without flat edges nothing is asked of the edges that meet the level, and else they stand as in the list.
 use Rattle.std.proofs.Common.{◌≡◌, ◌<◌, ◌∙◌, ℕ, List, [], All, sym, subst, length, IsPermutation}
 use Rattle.std.proofs.lemmas.List.Sorted.{All-permutation, IsNonDecreasingBy-from_sort}
-use Rattle.slice_slab.specs.Touching.{touching}
-use Rattle.slice_slab.proofs.Times.{ascends_from}
-use Rattle.slice_slab.proofs.Standing.{all_there}
+use Rattle.slice_bundles.specs.Touching.{touching}
+use Rattle.slice_bundles.proofs.Times.{ascends_from}
+use Rattle.slice_bundles.proofs.Standing.{all_there}
 use Rattle.slice_border.specs.Flats.{flats_from}
 use Rattle.slice_border.proofs.Keeping.{same_leaf}
 use Rattle.slice_bool.proofs.SomeStops.{empty_list}

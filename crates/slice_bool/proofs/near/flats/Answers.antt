@@ -1,7 +1,7 @@
 -- The number of a flat edge on the level is kept.
 use Rattle.std.proofs.Common.{◌∷◌, [], ◌++◌, ◌+◌, ℕ, Bool, cond, drop, get_or, filter, sym, ap, ◌∙◌, List, append_assoc}
 use Rattle.std.proofs.lemmas.List.{append-nil, at_drop_more, drop_all}
-use Rattle.slice_slab.specs.Bundles.{edge_at}
+use Rattle.slice_bundles.specs.Bundles.{edge_at}
 use Rattle.slice_border.specs.Pieces.{is_flat_at}
 use Rattle.slice_bool.proofs.near.flats.Goals as goal
 use Rattle.slice_bool.proofs.near.flats.Goals.{then-is_flat_at+in_ok-push, else-is_flat_at}

@@ -1,7 +1,7 @@
 -- The outlines were made of the pieces, which the call of `joined` saw as a slice.
 use Rattle.std.proofs.Common.{All, sym, subst}
 use Rattle.scad_geom.specs.Limits.{coordinate_limit}
-use Rattle.slice_snap.specs.Pieces.{HaveOneLevel, IsPieceWithin, ArePiecesBalanced}
+use Rattle.slice_pieces.specs.Pieces.{HaveOneLevel, IsPieceWithin, ArePiecesBalanced}
 use Rattle.slice_border.specs.Outlines.{AreMadeOf, AreOutlinesOf}
 use Rattle.slice_border.proofs.Membership.{outlines_hold_centres}
 use Rattle.slice_border.proofs.NearBorder.{outlines_are_near_border}

@@ -1,6 +1,6 @@
 -- The values on both sides of a bundle give its piece.
 use Rattle.std.proofs.Common.{◌≡◌, ◌+◌, ◌-◌, ◌++◌, ℕ, Bool, false, List, length, get_or, drop, sym, ap, ap₂, ◌∙◌, arith, subst, ◌<◌}
-use Rattle.slice_snap.specs.declared.piece.Piece.{Piece}
+use Rattle.slice_pieces.specs.declared.piece.Piece.{Piece}
 use Rattle.slice_border.specs.Pieces.{slab_pieces}
 use Rattle.slice_border.specs.Beside.{left_value}
 use Rattle.slice_border.specs.Beside.{RisesFirst}

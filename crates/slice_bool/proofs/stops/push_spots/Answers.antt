@@ -4,7 +4,7 @@ use mir.Syntax.{w32}
 use Rattle.scad_geom.proofs.Casts.{handed}
 use Rattle.std.proofs.lemmas.Result.{on_ok_weaker}
 use Rattle.std.specs.Prelude.{if◌then◌else◌}
-use Rattle.slice_snap.specs.declared.piece.Spot.{Spot}
+use Rattle.slice_pieces.specs.declared.piece.Spot.{Spot}
 use Rattle.slice_border.specs.Stops.{spots_in}
 use Rattle.slice_border.specs.Pieces.{is_flat_at, passes_at, spot_on, whole_spot}
 use Rattle.slice_bool.proofs.stops.push_spots.Goals as goal

@@ -2,8 +2,8 @@
 use Rattle.std.proofs.Common.{◌++◌, ◌+◌, drop, get_or, sym, ap, ◌∙◌, List, append_assoc}
 use Rattle.std.proofs.lemmas.List.{append-nil, at_drop_more, drop_all}
 use Rattle.scad_geom.specs.declared.level.LeafEdge.{LeafEdge}
-use Rattle.slice_slab.specs.Bundles.{no_edge}
-use Rattle.slice_snap.specs.declared.piece.Spot.{Spot}
+use Rattle.slice_bundles.specs.Bundles.{no_edge}
+use Rattle.slice_pieces.specs.declared.piece.Spot.{Spot}
 use Rattle.slice_border.specs.Pieces.{edge_spots, spots_at}
 use Rattle.slice_border.specs.Stops.{spots_in}
 use Rattle.slice_bool.proofs.stops.spots.Goals as goal

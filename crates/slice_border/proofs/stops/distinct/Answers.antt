@@ -1,7 +1,7 @@
 -- A stop that stays is kept.
 use Rattle.std.proofs.Common.{◌≤◌, ◌++◌, ◌∷◌, ◌+◌, ℕ, drop, refl, sym, ap, subst, ◌∙◌, List}
 use Rattle.std.proofs.lemmas.List.{length-map}
-use Rattle.slice_snap.specs.declared.piece.Spot.{Spot}
+use Rattle.slice_pieces.specs.declared.piece.Spot.{Spot}
 use Rattle.slice_border.specs.declared.stop.Stop.{Stop}
 use Rattle.slice_border.specs.Stops.{spots_in, is_left}
 use Rattle.slice_events.specs.Distinct.{distinct_by}

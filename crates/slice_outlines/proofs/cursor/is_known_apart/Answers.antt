@@ -5,8 +5,8 @@ use lib.Signed.{◌<ℤ◌}
 use Rattle.std.proofs.lemmas.Int.{ints}
 use Rattle.scad_geom.specs.declared.point.Edge.{Edge}
 use Rattle.scad_geom.specs.Line.{rise, x_at}
-use Rattle.slice_slab.specs.Bundles.{edge_at}
-use Rattle.slice_slab.specs.KeptOrder.{IsLeftAt}
+use Rattle.slice_bundles.specs.Bundles.{edge_at}
+use Rattle.slice_bundles.specs.KeptOrder.{IsLeftAt}
 use Rattle.slice_sweep.specs.Strands.{head}
 use Rattle.slice_sweep.specs.Front.{bundles_in}
 use Rattle.slice_outlines.specs.Marks.{mark_at}

@@ -1,7 +1,7 @@
 -- The place of a group is passed.
 use Rattle.std.proofs.Common.{◌≡◌, ◌-◌, ◌++◌, List, take, drop, sym, ap, ◌∙◌, subst, None, refl}
 use Rattle.winding_laws.specs.Edges.{rounded}
-use Rattle.slice_snap.specs.Spots.{point_of}
+use Rattle.slice_pieces.specs.Spots.{point_of}
 use Rattle.scad_geom.specs.declared.point.Pt.{Pt}
 use Rattle.scad_geom.specs.declared.point.Edge.{Edge}
 use Rattle.slice_outlines.specs.declared.mark.Mark.{Mark}

@@ -1,6 +1,6 @@
 -- Group after group is passed, up to a part of the height.
 use Rattle.std.proofs.Common.{◌≡◌, ◌+◌, ◌<◌, List, length, true, refl, ◌∙◌}
-use Rattle.slice_slab.specs.Bundles.{edge_at}
+use Rattle.slice_bundles.specs.Bundles.{edge_at}
 use Rattle.slice_sweep.specs.declared.change.Change.{Change}
 use Rattle.slice_border.specs.Pieces.{passes_at}
 use Rattle.slice_outlines.specs.declared.mark.Mark.{Mark}

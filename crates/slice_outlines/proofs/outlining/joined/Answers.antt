@@ -4,7 +4,7 @@ use Rattle.std.proofs.lemmas.Result.{IfOk-weaker}
 use Rattle.scad_geom.specs.declared.point.Edge.{Edge}
 use Rattle.scad_geom.specs.Segment.{segments}
 use Rattle.scad_geom.specs.Balance.{IsBalanced}
-use Rattle.slice_snap.specs.Cancelling.{AreCancelled}
+use Rattle.slice_pieces.specs.Cancelling.{AreCancelled}
 use Rattle.slice_loops.specs.Outlines.{AreOutlines}
 use Rattle.slice_border.specs.Outlines.{AreOutlinesOf}
 use Rattle.sweep_laws.proofs.ClosedEdges.{merged_edges_are_balanced}

@@ -2,7 +2,7 @@
 use Rattle.std.proofs.Common.{sym, ◌∙◌, subst}
 use Rattle.scad_geom.specs.Limits.{coordinate_limit}
 use Rattle.scad_geom.specs.Line.{low, high}
-use Rattle.slice_snap.specs.Spots.{IsSpotWithin}
+use Rattle.slice_pieces.specs.Spots.{IsSpotWithin}
 use Rattle.slice_outlines.proofs.EndPoints.{passes_then_rises, passing_within, lies_at, low_rounds, high_rounds}
 use Rattle.slice_outlines.proofs.spot.rounded_on.Goals as goal
 

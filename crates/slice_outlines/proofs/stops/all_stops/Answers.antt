@@ -1,6 +1,6 @@
 -- Those of strands below and above, and of the ends of flat edges.
 use Rattle.std.proofs.Common.{◌++◌, List, ap, ◌∙◌, append_assoc}
-use Rattle.slice_snap.specs.declared.piece.Spot.{Spot}
+use Rattle.slice_pieces.specs.declared.piece.Spot.{Spot}
 use Rattle.slice_border.specs.Stops.{spots_in}
 use Rattle.slice_outlines.specs.Stops.{mark_spots, flat_spots}
 use Rattle.slice_outlines.proofs.stops.all_stops.Goals as goal

@@ -1,7 +1,7 @@
 -- The left end, then the right one.
 use Rattle.std.proofs.Common.{◌≡◌, ◌++◌, ◌∷◌, [], List, rules, ap, ap₂, ◌∙◌, append_assoc}
 use Rattle.scad_geom.proofs.Casts.{casts}
-use Rattle.slice_snap.specs.declared.piece.Spot.{Spot}
+use Rattle.slice_pieces.specs.declared.piece.Spot.{Spot}
 use Rattle.slice_border.specs.Pieces.{whole_spot}
 use Rattle.slice_border.specs.declared.stop.Stop.{Stop}
 use Rattle.slice_border.specs.Stops.{spots_in}

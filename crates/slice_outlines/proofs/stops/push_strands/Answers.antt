@@ -1,7 +1,7 @@
 -- A strand's spot comes behind those of the strands to its left.
 use Rattle.std.proofs.Common.{◌+◌, ◌++◌, ◌∷◌, ℕ, List, drop, sym, ap, ◌∙◌}
 use Rattle.std.proofs.lemmas.List.{append-nil, at_drop_more, drop_all}
-use Rattle.slice_snap.specs.declared.piece.Spot.{Spot}
+use Rattle.slice_pieces.specs.declared.piece.Spot.{Spot}
 use Rattle.slice_border.specs.declared.stop.Stop.{Stop}
 use Rattle.slice_outlines.specs.declared.mark.Mark.{Mark}
 use Rattle.slice_outlines.specs.Marks.{no_mark}

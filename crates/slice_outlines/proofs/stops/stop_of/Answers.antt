@@ -1,5 +1,5 @@
 -- The edge is there, and rises.
-use Rattle.slice_slab.specs.Bundles.{edge_at}
+use Rattle.slice_bundles.specs.Bundles.{edge_at}
 use Rattle.slice_outlines.proofs.EndPoints.{passes_then_rises, passes_there}
 use Rattle.slice_outlines.proofs.stops.stop_of.Goals as goal
 

@@ -1,7 +1,7 @@
 -- The distinct ones of all places.
 use Rattle.std.proofs.Common.{List, subst}
 use Rattle.std.proofs.lemmas.Result.{IfOk-weaker}
-use Rattle.slice_snap.specs.declared.piece.Spot.{Spot}
+use Rattle.slice_pieces.specs.declared.piece.Spot.{Spot}
 use Rattle.slice_border.specs.Stops.{spots_in, AreStopsOf}
 use Rattle.slice_outlines.proofs.stops.stops.Goals as goal
 

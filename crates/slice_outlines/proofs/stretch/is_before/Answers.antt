@@ -3,7 +3,7 @@ use Rattle.std.proofs.Common.{ap, ◌∙◌}
 use Rattle.std.specs.Ordering.{is_lt}
 use Rattle.std.specs.Prelude.{pos, ◌*ℤ◌}
 use Rattle.scad_base.proofs.Tests.{is_lt-int_cmp}
-use Rattle.slice_snap.specs.declared.piece.Spot.{Spot}
+use Rattle.slice_pieces.specs.declared.piece.Spot.{Spot}
 use Rattle.slice_border.specs.Stops.{is_left}
 use Rattle.slice_outlines.proofs.stretch.is_before.Goals as goal
 

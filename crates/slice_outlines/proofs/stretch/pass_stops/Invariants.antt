@@ -1,5 +1,5 @@
 use Rattle.std.proofs.Common.{◌≡◌, List, ◌++◌, take, drop, None}
-use Rattle.slice_snap.specs.declared.piece.Spot.{Spot}
+use Rattle.slice_pieces.specs.declared.piece.Spot.{Spot}
 use Rattle.slice_outlines.specs.Marks.{names_in}
 use Rattle.slice_border.specs.Stops.{spots_in}
 use Rattle.slice_outlines.specs.Heights.{Onwards, IsOf}

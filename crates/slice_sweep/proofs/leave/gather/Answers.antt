@@ -2,8 +2,8 @@
 use Rattle.std.proofs.Common.{◌≡◌, refl, ◌∷◌, [], ◌++◌, ◌+◌, drop, arith, get_or, filter, Bool, sym, ap, ◌∙◌, subst, List, ℕ}
 use Rattle.std.specs.List.{All}
 use Rattle.std.proofs.lemmas.List.Elements.{All-push}
-use Rattle.slice_slab.specs.Bundles.{edge_at, reaches}
-use Rattle.slice_slab.proofs.Loops.{mapped_step, pass_step, last_step, filter_yes, filter_no}
+use Rattle.slice_bundles.specs.Bundles.{edge_at, reaches}
+use Rattle.slice_bundles.proofs.Loops.{mapped_step, pass_step, last_step, filter_yes, filter_no}
 use Rattle.slice_sweep.specs.declared.ray.Ray.{Ray}
 use Rattle.slice_sweep.specs.Rays.{numbers_of, IsRayOf}
 use Rattle.slice_sweep.proofs.leave.gather.Goals as goal

@@ -1,6 +1,6 @@
 use Rattle.std.proofs.Common.{◌≡◌, ◌++◌, drop, filter}
 use Rattle.std.specs.List.{All}
-use Rattle.slice_slab.specs.Bundles.{edge_at, reaches}
+use Rattle.slice_bundles.specs.Bundles.{edge_at, reaches}
 use Rattle.slice_sweep.specs.Rays.{numbers_of, IsRayOf}
 use Rattle.slice_sweep.proofs.leave.gather.Given as goal
 

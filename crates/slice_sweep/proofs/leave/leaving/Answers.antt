@@ -2,7 +2,7 @@
 use Rattle.std.proofs.Common.{sym, ap, ◌∙◌, subst, filter, List, ℕ, IsPermutation, Bool}
 use Rattle.std.specs.List.{concat}
 use Rattle.std.proofs.lemmas.Result.{IfOk-weaker}
-use Rattle.slice_slab.specs.Bundles.{edge_at, reaches, AreRanked}
+use Rattle.slice_bundles.specs.Bundles.{edge_at, reaches, AreRanked}
 use Rattle.slice_sweep.specs.Rays.{bundles_of}
 use Rattle.slice_sweep.proofs.RayBundles.{leaving_made}
 use Rattle.slice_sweep.proofs.leave.leaving.Goals as goal

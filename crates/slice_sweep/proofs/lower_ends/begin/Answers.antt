@@ -2,8 +2,8 @@
 use Rattle.std.proofs.Common.{refl, sym, ap, ◌∙◌, List}
 use Rattle.std.proofs.Math.Seq.{drop-length}
 use Rattle.std.proofs.lemmas.List.{drop_all}
-use Rattle.slice_slab.specs.Starts.{numbers_of, begun_at, pending_at}
-use Rattle.slice_slab.proofs.Loops.{last_step}
+use Rattle.slice_bundles.specs.Starts.{numbers_of, begun_at, pending_at}
+use Rattle.slice_bundles.proofs.Loops.{last_step}
 use Rattle.slice_sweep.specs.declared.lower_end.LowerEnd.{LowerEnd}
 use Rattle.slice_sweep.specs.LowerEnds.{starts_of}
 use Rattle.slice_sweep.proofs.lower_ends.begin.Goals as goal

@@ -1,5 +1,5 @@
 use Rattle.std.proofs.Common.{◌≡◌, ◌++◌, drop}
-use Rattle.slice_slab.specs.Starts.{numbers_of, begun_at, pending_at}
+use Rattle.slice_bundles.specs.Starts.{numbers_of, begun_at, pending_at}
 use Rattle.slice_sweep.specs.LowerEnds.{starts_of}
 use Rattle.slice_sweep.proofs.lower_ends.begin.Given as goal
 

@@ -1,8 +1,8 @@
 -- Sorting moves the lower ends alone.
 use Rattle.std.proofs.Common.{subst, List, ℕ, IsPermutation}
 use Rattle.std.proofs.lemmas.List.Sorted.{All-permutation, IsPermutation-map}
-use Rattle.slice_slab.specs.declared.start.Start.{Start}
-use Rattle.slice_slab.specs.Starts.{IsStartOf, numbers_of}
+use Rattle.slice_bundles.specs.declared.start.Start.{Start}
+use Rattle.slice_bundles.specs.Starts.{IsStartOf, numbers_of}
 use Rattle.slice_sweep.specs.declared.lower_end.LowerEnd.{LowerEnd}
 use Rattle.slice_sweep.specs.LowerEnds.{start_of, starts_of}
 use Rattle.slice_sweep.proofs.lower_ends.lower_ends.Goals as goal

@@ -3,10 +3,10 @@ use Rattle.std.proofs.Common.{◌≡◌, refl, ◌∷◌, [], ◌++◌, ◌+◌,
 use Rattle.std.proofs.lemmas.List.{at_drop_more, map-append}
 use Rattle.std.proofs.lemmas.List.Elements.{All-push}
 use Rattle.scad_geom.specs.Line.{low}
-use Rattle.slice_slab.specs.declared.start.Start.{Start}
-use Rattle.slice_slab.specs.Bundles.{no_edge, edge_at}
-use Rattle.slice_slab.specs.Starts.{AreStarts, IsStartOf, numbers_of, numbers_from}
-use Rattle.slice_slab.proofs.Loops.{mapped_step, last_step}
+use Rattle.slice_bundles.specs.declared.start.Start.{Start}
+use Rattle.slice_bundles.specs.Bundles.{no_edge, edge_at}
+use Rattle.slice_bundles.specs.Starts.{AreStarts, IsStartOf, numbers_of, numbers_from}
+use Rattle.slice_bundles.proofs.Loops.{mapped_step, last_step}
 use Rattle.slice_sweep.specs.LowerEnds.{start_of, starts_of}
 use Rattle.slice_sweep.proofs.lower_ends.unsorted.Goals as goal
 

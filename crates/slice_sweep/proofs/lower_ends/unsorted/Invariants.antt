@@ -1,5 +1,5 @@
 use Rattle.std.proofs.Common.{◌≡◌, ◌++◌, drop}
-use Rattle.slice_slab.specs.Starts.{AreStarts, numbers_of, numbers_from, all_numbers}
+use Rattle.slice_bundles.specs.Starts.{AreStarts, numbers_of, numbers_from, all_numbers}
 use Rattle.slice_sweep.specs.LowerEnds.{starts_of}
 use Rattle.slice_sweep.proofs.lower_ends.unsorted.Given as goal
 

@@ -1,8 +1,8 @@
 -- The bundles of the edges that go on stand in the place of the group.
 use Rattle.std.proofs.Common.{◌≡◌, ◌+◌, ◌-◌, ◌<◌, ◌≤◌, ◌++◌, ◌∙◌, drop, filter, refl, sym, ap, subst, arith, rules, List, ℕ, length, All, IsPermutation}
 use Rattle.std.specs.List.{concat}
-use Rattle.slice_slab.specs.Bundles.{edge_at, reaches}
-use Rattle.slice_slab.specs.KeptOrder.{IsSamePlaceAt, AllStand}
+use Rattle.slice_bundles.specs.Bundles.{edge_at, reaches}
+use Rattle.slice_bundles.specs.KeptOrder.{IsSamePlaceAt, AllStand}
 use Rattle.slice_sweep.specs.declared.strand.Strand.{Strand}
 use Rattle.slice_sweep.specs.Strands.{numbers_in, fresh}
 use Rattle.slice_sweep.specs.Mending.{AreMendedTo, KeepTimes}

@@ -4,7 +4,7 @@ use lib.Signed.{◌≤ℤ◌}
 use Rattle.std.proofs.lemmas.Int.{ints, to_z-of_z}
 use Rattle.scad_geom.specs.declared.point.Edge.{Edge}
 use Rattle.scad_geom.proofs.Casts.{sizes}
-use Rattle.slice_slab.proofs.Live.{reaches_is}
+use Rattle.slice_bundles.proofs.Live.{reaches_is}
 use Rattle.slice_sweep.specs.Strands.{head}
 use Rattle.slice_sweep.proofs.Sides.{left_by_ends, right_by_ends}
 use Rattle.slice_sweep.proofs.place.is_left.Goals as goal

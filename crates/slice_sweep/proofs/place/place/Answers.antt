@@ -8,8 +8,8 @@ use Rattle.scad_geom.specs.declared.point.Edge.{Edge}
 use Rattle.scad_geom.specs.declared.level.Level.{Level}
 use Rattle.scad_geom.specs.declared.level.LeafEdge.{LeafEdge}
 use Rattle.scad_geom.specs.Line.{rise, x_at}
-use Rattle.slice_slab.specs.Bundles.{edge_at, reaches}
-use Rattle.slice_slab.specs.KeptOrder.{IsLeftAt, IsNotRightAt}
+use Rattle.slice_bundles.specs.Bundles.{edge_at, reaches}
+use Rattle.slice_bundles.specs.KeptOrder.{IsLeftAt, IsNotRightAt}
 use Rattle.slice_sweep.specs.declared.strand.Strand.{Strand}
 use Rattle.slice_sweep.specs.Strands.{head, no_strand, strand_at}
 use Rattle.slice_sweep.proofs.place.place.Goals as goal

@@ -1,6 +1,6 @@
 use Rattle.std.proofs.Common.{◌≡◌, ℕ, ◌+◌, ◌-◌, ◌<◌, ◌≤◌, length}
-use Rattle.slice_slab.specs.Bundles.{edge_at}
-use Rattle.slice_slab.specs.KeptOrder.{IsLeftAt, IsNotRightAt}
+use Rattle.slice_bundles.specs.Bundles.{edge_at}
+use Rattle.slice_bundles.specs.KeptOrder.{IsLeftAt, IsNotRightAt}
 use Rattle.slice_sweep.specs.Strands.{head, strand_at}
 use Rattle.slice_sweep.proofs.place.place.Given as goal
 

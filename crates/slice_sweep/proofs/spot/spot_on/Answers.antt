@@ -3,7 +3,7 @@ use Rattle.std.proofs.Common.{◌*ℤ◌, sym, ◌∙◌, FitsSigned}
 use Rattle.std.specs.Cmp.{signed_Decides}
 use Rattle.std.proofs.lemmas.Int.{to_z-of_z}
 use Rattle.scad_geom.specs.Line.{low}
-use Rattle.slice_slab.proofs.Live.{reaches_is}
+use Rattle.slice_bundles.proofs.Live.{reaches_is}
 use Rattle.slice_sweep.proofs.Sides.{between_its_ends, between_at_start}
 use Rattle.slice_sweep.proofs.spot.spot_on.Goals as goal
 use mir.Syntax.{w32, w128}

@@ -2,7 +2,7 @@
 use Rattle.std.proofs.Common.{arith, ℕ, ◌≡◌, ◌≤◌, true, length, sym, subst, List, All}
 use Rattle.std.proofs.lemmas.Result.{on_ok_weaker}
 use Rattle.slice_sweep.specs.declared.strand.Strand.{Strand}
-use Rattle.slice_slab.specs.Bundles.{reaches}
+use Rattle.slice_bundles.specs.Bundles.{reaches}
 use Rattle.slice_sweep.specs.Strands.{head, AreThere}
 use Rattle.slice_sweep.specs.Lows.{KeysStay}
 use Rattle.slice_sweep.proofs.Groups.{there_of, heads_reach}

@@ -5,7 +5,7 @@ use Rattle.std.specs.List.{All}
 use Rattle.std.proofs.lemmas.Int.{to_z-of_z}
 use Rattle.std.proofs.lemmas.List.Elements.{recursion_from_All}
 use Rattle.scad_geom.specs.Line.{high}
-use Rattle.slice_slab.specs.Bundles.{edge_at}
+use Rattle.slice_bundles.specs.Bundles.{edge_at}
 use Rattle.slice_sweep.specs.Keys.{parts}
 use Rattle.slice_sweep.proofs.Waking.{ends_by}
 use Rattle.slice_sweep.proofs.wake.end_key.Goals as goal

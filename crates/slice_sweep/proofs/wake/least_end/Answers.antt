@@ -6,7 +6,7 @@ use Rattle.std.proofs.lemmas.Int.{ints, to_z-of_z}
 use Rattle.std.proofs.lemmas.List.{take_all}
 use Rattle.std.proofs.lemmas.List.Elements.{All-more}
 use Rattle.scad_geom.specs.Line.{high}
-use Rattle.slice_slab.specs.Bundles.{edge_at}
+use Rattle.slice_bundles.specs.Bundles.{edge_at}
 use Rattle.slice_sweep.proofs.wake.least_end.Goals as goal
 use mir.Syntax.{w32}
 use mir.Val.{to_z}

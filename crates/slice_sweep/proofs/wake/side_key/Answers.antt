@@ -4,7 +4,7 @@ use lib.Signed.{◌≤ℤ◌}
 use Rattle.std.proofs.lemmas.Int.{to_z-of_z}
 use Rattle.scad_geom.specs.declared.point.Edge.{Edge}
 use Rattle.scad_geom.specs.EdgeOrder.{IsBefore}
-use Rattle.slice_slab.specs.KeptOrder.{IsLeftAt}
+use Rattle.slice_bundles.specs.KeptOrder.{IsLeftAt}
 use Rattle.slice_sweep.specs.Keys.{IsBelowKey}
 use Rattle.slice_sweep.specs.Strands.{head}
 use Rattle.slice_sweep.proofs.Waking.{left_by}

@@ -4,7 +4,7 @@ use Rattle.std.specs.Prelude.{ℤ, pos, ◌-ℤ◌, ◌==◌, ◌<◌, unsigned_
 use Rattle.std.specs.List.{All}
 use Rattle.std.proofs.lemmas.List.{at_drop_more, at_drop_all}
 use Rattle.scad_geom.specs.declared.level.LeafEdge.{LeafEdge}
-use Rattle.slice_slab.specs.Bundles.{no_edge}
+use Rattle.slice_bundles.specs.Bundles.{no_edge}
 use Rattle.slice_border.specs.Tally.{heading_of, headings}
 use Rattle.slice_border.proofs.Keeping.{heading_size, keeps_both, keeps_still}
 use Rattle.slice_border.proofs.Tallying.{headings_append, taken_on, size_down, taken_all, as_whole}

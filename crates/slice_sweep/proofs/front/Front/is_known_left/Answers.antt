@@ -1,7 +1,7 @@
 -- Neighbours lie apart at a height below the first one's key.
 use Rattle.std.proofs.Common.{◌<◌, ◌+◌, ◌≡◌, [], ℕ, suc, List, length, get_or, subst, sym, arith}
 use Rattle.std.proofs.lemmas.List.{get_or-map, length-map}
-use Rattle.slice_slab.specs.KeptOrder.{IsLeftAt}
+use Rattle.slice_bundles.specs.KeptOrder.{IsLeftAt}
 use Rattle.slice_sweep.specs.declared.strand.Strand.{Strand}
 use Rattle.slice_sweep.specs.Keys.{IsBelowKey}
 use Rattle.slice_sweep.specs.Strands.{head, bundles_of, no_strand, strand_at, AreApart, LiesLeft}

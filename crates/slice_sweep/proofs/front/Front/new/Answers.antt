@@ -1,6 +1,6 @@
 -- No edge has begun.
 use Rattle.std.proofs.Common.{ℤ, sym, ap, subst, arith, List}
-use Rattle.slice_slab.specs.declared.start.Start.{Start}
+use Rattle.slice_bundles.specs.declared.start.Start.{Start}
 use Rattle.slice_sweep.specs.declared.strand.Strand.{Strand}
 use Rattle.slice_sweep.specs.LowerEnds.{starts_of}
 use Rattle.slice_sweep.specs.Strands.{bundles_of, numbers_in, AreWaiting}

@@ -1,0 +1,151 @@
+-- Which edges have begun at a height, by the starts of all.
+use Rattle.std.proofs.Common.{◌≡◌, ℕ, zero, suc, ◌+◌, ◌<◌, Bool, true, false, List, [], ◌∷◌, ◌++◌, length, get_or, drop, refl, sym, ap, ◌∙◌, arith}
+use lib.IntN.{ℤ, pos, ◌*ℤ◌}
+use lib.Signed.{◌<ℤ◌, ◌≤ℤ◌}
+use Rattle.std.specs.Prelude.{int_lt, int_le, if◌then◌else◌}
+use Rattle.std.specs.Cmp.{IsStrictWeakOrder}
+use Rattle.std.specs.List.{AllByRecursion}
+use Rattle.std.specs.List.Sorted.{IsSortedBy}
+use Rattle.std.proofs.lemmas.Int.{ints}
+use Rattle.std.proofs.lemmas.List.{drop_more, get_or_default}
+use Rattle.scad_geom.specs.declared.level.Level.{Level}
+use Rattle.scad_geom.specs.declared.level.LeafEdge.{LeafEdge}
+use Rattle.scad_geom.specs.Line.{low}
+use Rattle.scad_geom.specs.Level.{level_of, IsLower, IsAtMost}
+use Rattle.scad_geom.proofs.Heights.{lower_then_at_most}
+use Rattle.slice_bundles.specs.declared.start.Start.{Start}
+use Rattle.slice_bundles.specs.Bundles.{edge_at}
+use Rattle.slice_bundles.specs.Starts.{numbers_of, IsStartOf, AreRising, is_begun, begun_at, pending_at}
+use Rattle.std.proofs.Common.{add-one}
+
+-- ---- sorted starts
+abbrev pub starts_first : Start → Start → Bool
+starts_first s t = int_lt s.y t.y
+
+pub start_order : IsStrictWeakOrder starts_first
+start_order = record {
+  one_way = λ s t h. sym (omega (arith, ints));
+  chain = λ s t u h k. sym (omega (arith, ints));
+}
+
+rising_by : (ss : List Start) → ((k : ℕ) (d : Start) → suc k < length ss
+    → starts_first (get_or ss (suc k) d) (get_or ss k d) ≡ false) → AreRising ss
+rising_by [] h = tt
+rising_by (s ∷ []) h = tt
+rising_by (s ∷ (t ∷ ss)) h =
+    let q : starts_first t s ≡ false = h zero s (omega arith) in
+    (omega (arith, ints), rising_by (t ∷ ss) (λ k d b. h (suc k) d (omega arith)))
+
+pub rising_from : (ss : List Start) → IsSortedBy starts_first ss → AreRising ss
+rising_from ss h = rising_by ss (λ k d b. let t : starts_first (get_or ss (k + 1) d) (get_or ss k d) ≡ false = h k d (omega arith) (omega arith) in rw add-one at t)
+
+rising_rest : (s : Start) (ss : List Start) → AreRising (s ∷ ss) → AreRising ss
+rising_rest s [] r = tt
+rising_rest s (t ∷ ss) r = r.1
+
+pub rising_drop : (n : ℕ) (ss : List Start) → AreRising ss → AreRising (drop n ss)
+rising_drop zero ss r = r
+rising_drop (suc n) [] r = tt
+rising_drop (suc n) (s ∷ ss) r = rising_drop n ss (rising_rest s ss r)
+
+-- ---- what has begun at a height, and what is pending
+module _ (at : Level) where
+  pub parted : (ss : List Start) → numbers_of ss ≡ numbers_of (begun_at at ss) ++ numbers_of (pending_at at ss)
+  parted [] = refl
+  parted (s ∷ ss) = by_test (is_begun at s) (parted ss)
+    where
+      by_test : (t : Bool) → numbers_of ss ≡ numbers_of (begun_at at ss) ++ numbers_of (pending_at at ss)
+          → numbers_of (s ∷ ss) ≡ numbers_of (if t then s ∷ begun_at at ss else [])
+          ++ numbers_of (if t then pending_at at ss else s ∷ ss)
+      by_test true h = ap (λ (ks : List ℕ). s.number ∷ ks) h
+      by_test false h = refl
+
+  -- what is true of all starts is true of both parts
+  pub begun_too : (P : Start → Type 0) (ss : List Start) → AllByRecursion P ss → AllByRecursion P (begun_at at ss)
+  begun_too P [] h = tt
+  begun_too P (s ∷ ss) h = by_test (is_begun at s) (begun_too P ss h.1)
+    where
+      by_test : (t : Bool) → AllByRecursion P (begun_at at ss)
+          → AllByRecursion P (if t then s ∷ begun_at at ss else [])
+      by_test true r = (h.0, r)
+      by_test false r = tt
+
+  pub pending_too : (P : Start → Type 0) (ss : List Start) → AllByRecursion P ss
+      → AllByRecursion P (pending_at at ss)
+  pending_too P [] h = tt
+  pending_too P (s ∷ ss) h = by_test (is_begun at s) (pending_too P ss h.1)
+    where
+      by_test : (t : Bool) → AllByRecursion P (pending_at at ss)
+          → AllByRecursion P (if t then pending_at at ss else s ∷ ss)
+      by_test true r = r
+      by_test false r = h
+
+  pub all_begun : (ss : List Start) → AllByRecursion (λ s. is_begun at s ≡ true) (begun_at at ss)
+  all_begun [] = tt
+  all_begun (s ∷ ss) = by_test (is_begun at s) refl (all_begun ss)
+    where
+      by_test : (t : Bool) → is_begun at s ≡ t → AllByRecursion (λ s. is_begun at s ≡ true) (begun_at at ss)
+          → AllByRecursion (λ s. is_begun at s ≡ true) (if t then s ∷ begun_at at ss else [])
+      by_test true e r = (e, r)
+      by_test false e r = tt
+
+  next_waits : pos 0 <ℤ at.d → (s t : Start) → s.y ≤ℤ t.y → is_begun at s ≡ false
+      → is_begun at t ≡ false
+  next_waits d s t h e =
+      let one : pos 0 <ℤ pos 1 = omega (arith, ints) in
+      let a : IsLower at (level_of s.y) = omega (arith, ints) in
+      let b : IsAtMost (level_of s.y) (level_of t.y) = omega (arith, ints) in
+      let c : IsLower at (level_of t.y) = lower_then_at_most at (level_of s.y) (level_of t.y) d one one a b in
+      sym (omega (arith, ints))
+
+  wait_from : pos 0 <ℤ at.d → (s : Start) (ss : List Start) → is_begun at s ≡ false → AreRising (s ∷ ss)
+      → AllByRecursion (λ s. is_begun at s ≡ false) (s ∷ ss)
+  wait_from d s [] e r = (e, tt)
+  wait_from d s (t ∷ ss) e r = (e, wait_from d t ss (next_waits d s t r.0 e) r.1)
+
+  pub all_pending : pos 0 <ℤ at.d → (ss : List Start) → AreRising ss
+      → AllByRecursion (λ s. is_begun at s ≡ false) (pending_at at ss)
+  all_pending d [] r = tt
+  all_pending d (s ∷ ss) r = by_test (is_begun at s) refl (all_pending d ss (rising_rest s ss r))
+    where
+      by_test : (t : Bool) → is_begun at s ≡ t → AllByRecursion (λ s. is_begun at s ≡ false) (pending_at at ss)
+          → AllByRecursion (λ s. is_begun at s ≡ false) (if t then pending_at at ss else s ∷ ss)
+      by_test true e q = q
+      by_test false e q = wait_from d s ss e r
+
+-- a test of starts that is a test of edges, and what is true of these edges' numbers
+pub of_numbers : (edges : List LeafEdge) (at : Level) (t : Bool) (ss : List Start)
+    → AllByRecursion (IsStartOf edges) ss → AllByRecursion (λ s. is_begun at s ≡ t) ss
+    → AllByRecursion (λ k. (k < length edges) × (int_le ((low (edge_at edges k)).y *ℤ at.d) at.n ≡ t))
+    (numbers_of ss)
+of_numbers edges at t [] h e = tt
+of_numbers edges at t (s ∷ ss) h e = (
+  (h.0.there, ap (λ (y : ℤ). int_le (y *ℤ at.d) at.n) (sym h.0.y) ∙ e.0),
+  of_numbers edges at t ss h.1 e.1,
+)
+
+-- ---- a start that has begun, and one that hasn't
+module _ (at : Level) (ss : List Start) (i : ℕ) (s : Start) (there : i < length ss) (read : s ≡ get_or ss i s) where
+  here : drop i ss ≡ s ∷ drop (i + 1) ss
+  here = drop_more ss i s there ∙ ap (λ (t : Start). t ∷ drop (i + 1) ss) (sym read)
+
+  pub read_again : (t : Start) → get_or ss i t ≡ s
+  read_again t = get_or_default ss i t s there ∙ sym read
+
+  module _ (begun : is_begun at s ≡ true) where
+    pub begun_on : begun_at at (drop i ss) ≡ s ∷ begun_at at (drop (i + 1) ss)
+    begun_on = ap (begun_at at) here
+        ∙ ap (λ (b : Bool). if b then s ∷ begun_at at (drop (i + 1) ss) else []) begun
+
+    pub pending_on : pending_at at (drop i ss) ≡ pending_at at (drop (i + 1) ss)
+    pending_on = ap (pending_at at) here
+        ∙ ap (λ (b : Bool). if b then pending_at at (drop (i + 1) ss) else s ∷ drop (i + 1) ss) begun
+
+  module _ (later : is_begun at s ≡ false) where
+    pub begun_until : begun_at at (drop i ss) ≡ []
+    begun_until = ap (begun_at at) here
+        ∙ ap (λ (b : Bool). if b then s ∷ begun_at at (drop (i + 1) ss) else []) later
+
+    pub pending_from : pending_at at (drop i ss) ≡ drop i ss
+    pending_from = ap (pending_at at) here
+        ∙ ap (λ (b : Bool). if b then pending_at at (drop (i + 1) ss) else s ∷ drop (i + 1) ss) later ∙ sym here

@@ -1,5 +1,0 @@
-use Rattle.slice_snap.proofs.SideBySide.{Left}
-use Rattle.slice_snap.proofs.cancelling.cancel_sorted.Given as goal
-
-abbrev pub invariant-edges : goal.invariant-edges
-invariant-edges l = Left l.edges l.edge-index l.left.items

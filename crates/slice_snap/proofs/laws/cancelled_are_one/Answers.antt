@@ -1,5 +1,0 @@
-use Rattle.slice_snap.proofs.OneRest.{cancelled_are_one}
-use Rattle.slice_snap.proofs.laws.cancelled_are_one.Goals as goal
-
-pub returns : goal.returns
-returns c = cancelled_are_one

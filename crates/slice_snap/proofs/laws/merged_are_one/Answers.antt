@@ -1,5 +1,0 @@
-use Rattle.slice_snap.proofs.OneMerging.{merged_are_one}
-use Rattle.slice_snap.proofs.laws.merged_are_one.Goals as goal
-
-pub returns : goal.returns
-returns c = merged_are_one

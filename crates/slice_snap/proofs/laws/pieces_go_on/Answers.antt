@@ -1,5 +1,0 @@
-use Rattle.slice_snap.proofs.GoingOn.{pieces_go_on}
-use Rattle.slice_snap.proofs.laws.pieces_go_on.Goals as goal
-
-pub returns : goal.returns
-returns c = pieces_go_on
