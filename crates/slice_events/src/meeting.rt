@@ -1,5 +1,5 @@
 //! Where two edges meet.
-ghost use Rattle.std.specs.Prelude.{◌≡◌, ◌+◌, ◌*◌, ◌^◌, ◌<◌, ◌≤◌, ◌&&◌, ◌||◌, not, pos, int_le, true, unsigned_abs};
+ghost use Rattle.std.specs.Prelude.{◌≡◌, ◌+◌, ◌*◌, ◌<◌, ◌≤◌, ◌&&◌, ◌||◌, not, pos, int_le, true, unsigned_abs};
 ghost use Rattle.scad_geom.specs.Limits.{coordinate_limit, divisor_limit};
 ghost use Rattle.scad_geom.specs.Within.{IsWithin, IsEdgeWithin};
 ghost use Rattle.scad_geom.specs.Line.{low, high, rise, left_of, lean, apart};
