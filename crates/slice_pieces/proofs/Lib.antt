@@ -3,17 +3,12 @@ pub mod GoingOn
 pub mod Ends
 pub mod Ways
 pub mod SameSpots
-pub mod Ties
-pub mod EndOrder
-pub mod Joints
 pub mod Opposite
 pub mod SideBySide
 pub mod SpotRange
-pub mod ChainLinks
 pub mod ChainEnds
 pub mod Pairs
 pub mod Balance
-pub mod RoundedPieces
 pub mod Counts
 pub mod OneRest
 pub mod SamePieces

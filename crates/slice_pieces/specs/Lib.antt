@@ -10,5 +10,3 @@ pub mod Laws
 -- What only the steps of the code promise to one another.
 pub mod Spans
 pub mod Joining
-pub mod Chains
-pub mod EndOrder
