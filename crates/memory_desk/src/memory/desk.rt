@@ -3,14 +3,15 @@
 ghost use Rattle.std.specs.Prelude.{◌≡◌, ◌≢◌, ◌++◌, ◌<◌, ◌≤◌, true, false, length, take, drop, IfOk, IfSome};
 ghost use Rattle.std.specs.Result.{result_unwrap_or};
 ghost use Rattle.scad_io.specs.Desk.{side, Gives, Opens, Creates, after_read, after_write, HasCause, WriteHasCause, failed_count};
-ghost use Rattle.scad_io.specs.Memory.{contents, rest_of, told_name, open_answer, read_answer, create_answer, write_answer, Steps};
+ghost use Rattle.memory_desk.specs.Memory.{contents, rest_of, told_name, open_answer, read_answer, create_answer, write_answer, Steps};
 
-use crate::memory::{MemoryDesk, shelf};
-use crate::{Desk, Failed, Out};
+use crate::memory::MemoryDesk;
+use crate::shelf;
+use scad_io::{Desk, Failed, Out};
 
 impl Desk for MemoryDesk {
     ghost use Rattle.scad_io.specs.Desk.{failed_count};
-    ghost use Rattle.scad_io.specs.Memory.{contents};
+    ghost use Rattle.memory_desk.specs.Memory.{contents};
 
     ghost files = { contents };
 

@@ -10,7 +10,7 @@ pub struct Calls {
 }
 
 impl Calls {
-    ghost use Rattle.scad_io.specs.Memory.{next_number};
+    ghost use Rattle.memory_desk.specs.Memory.{next_number};
 
     /// Counts a call, and says whether it is to fail. The number stays at the greatest.
     pub fn count(&mut self) -> bool

@@ -2,7 +2,7 @@
 use Rattle.std.specs.Prelude.{ℕ, Bool, List, [], drop, Option, None, Some, unwrap_or, option_map, slice_get}
 use Rattle.std.specs.List.{find}
 use Rattle.std.specs.Str.{bytes_eq}
-use Rattle.scad_io.specs.declared.memory.shelf.Cursor.{Cursor}
+use Rattle.memory_desk.specs.declared.shelf.Cursor.{Cursor}
 
 -- the file has this name
 abbrev pub has_name : List ℕ → List ℕ × List ℕ → Bool

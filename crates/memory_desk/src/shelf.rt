@@ -1,7 +1,7 @@
 //! The files of a memory desk, found by name and read on.
 ghost use Rattle.std.specs.Prelude.{◌≡◌, ◌++◌, min, length, take, drop, Some, None, IfSome, IfNone};
 ghost use Rattle.std.specs.List.{position};
-ghost use Rattle.scad_io.specs.Shelf.{has_name, contents_of, text_at, rest_at};
+ghost use Rattle.memory_desk.specs.Shelf.{has_name, contents_of, text_at, rest_at};
 
 use scad_fault::Text;
 

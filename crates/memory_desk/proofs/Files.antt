@@ -6,7 +6,7 @@ use Rattle.std.proofs.lemmas.Bool.Decides.{nat_tests}
 use Rattle.std.proofs.lemmas.List.Folds.{find_at}
 use Rattle.std.proofs.lemmas.List.Quantifiers.{position-Some}
 use Rattle.std.proofs.lemmas.Option.{slice_get_cases, slice_get_past}
-use Rattle.scad_io.specs.Shelf.{has_name, contents_of, text_at}
+use Rattle.memory_desk.specs.Shelf.{has_name, contents_of, text_at}
 
 is_at : {X : Type 0} (p : X → Bool) (xs : List X) (i : ℕ)
     → position p xs ≡ Some i → position_or_len p xs ≡ i

@@ -2,7 +2,7 @@
 use Rattle.std.specs.Prelude.{◌≡◌, ◌+◌, ◌-◌, ◌^◌, ◌==◌, ◌||◌, ℕ, Bool, List, [], length, min, nat_lt, nat_le, if◌then◌else◌, Option, Some, None, is_none, unwrap_or, Result, Ok, Err, is_err}
 use Rattle.std.specs.List.{list_any}
 use Rattle.scad_io.specs.Desk.{Files, Side, View, side, unused, failed_count}
-use Rattle.scad_io.specs.Shelf.{contents_of}
+use Rattle.memory_desk.specs.Shelf.{contents_of}
 use Rattle.scad_io.specs.declared.desk.Out.{Out}
 use Rattle.scad_io.specs.declared.desk.Failed.{Failed}
 

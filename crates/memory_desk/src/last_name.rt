@@ -16,7 +16,7 @@ pub struct LastName {
 
 impl Model for LastName {
     ghost use Rattle.std.specs.Prelude.{ℕ, List, ◌≤◌, Option, Some, None, if◌then◌else◌, vec_capacity};
-    ghost use Rattle.scad_io.specs.declared.memory.last_name.TheConstants.{NAME_ROOM};
+    ghost use Rattle.memory_desk.specs.declared.last_name.TheConstants.{NAME_ROOM};
 
     ghost Value = { Option (List ℕ) };
 
@@ -26,7 +26,7 @@ impl Model for LastName {
 }
 
 impl LastName {
-    ghost use Rattle.scad_io.specs.Memory.{told_name};
+    ghost use Rattle.memory_desk.specs.Memory.{told_name};
 
     /// No name yet, and the room for one.
     pub fn new(alloc: Global) -> Result<LastName, AllocError>

@@ -3,8 +3,8 @@ ghost use Rattle.std.specs.Prelude.{◌≡◌, ◌-◌, ◌==◌, ◌||◌, ◌<
 ghost use Rattle.std.specs.Result.{result_unwrap_or};
 ghost use Rattle.scad_io.specs.Desk.{added, fresh, write_failed};
 
-use crate::Failed;
-use crate::memory::last_name::{LastName, NAME_ROOM};
+use crate::last_name::{LastName, NAME_ROOM};
+use scad_io::Failed;
 use std::alloc::{AllocError, Global};
 use std::marker::Model;
 
@@ -20,7 +20,7 @@ pub struct Sink {
 
 impl Model for Sink {
     ghost use Rattle.std.specs.Prelude.{Some, ◌≤◌, vec_len, vec_capacity};
-    ghost use Rattle.scad_io.specs.Memory.{Output};
+    ghost use Rattle.memory_desk.specs.Memory.{Output};
 
     ghost Value = { Output };
 
@@ -38,7 +38,7 @@ impl Model for Sink {
 }
 
 impl Sink {
-    ghost use Rattle.scad_io.specs.Memory.{name_room, told_name, fails_if};
+    ghost use Rattle.memory_desk.specs.Memory.{name_room, told_name, fails_if};
 
     /// An output with room for so many bytes.
     pub fn new(alloc: Global, room: usize) -> Result<Sink, AllocError>

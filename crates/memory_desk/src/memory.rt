@@ -1,22 +1,18 @@
 //! The desk in memory.
 ghost use Rattle.std.specs.Prelude.{◌≡◌, Some, IfOk};
 ghost use Rattle.scad_io.specs.Desk.{side, failed_count};
-ghost use Rattle.scad_io.specs.Memory.{made_of};
+ghost use Rattle.memory_desk.specs.Memory.{made_of};
 
-use crate::Out;
-use calls::Calls;
-use last_name::LastName;
+use crate::calls::Calls;
+use crate::last_name::LastName;
+use crate::shelf::Cursor;
+use crate::sink::Sink;
 use scad_fault::Text;
-use shelf::Cursor;
-use sink::Sink;
+use scad_io::Out;
 use std::alloc::{AllocError, Global};
 use std::marker::Model;
 
-mod calls;
 mod desk;
-mod last_name;
-mod shelf;
-mod sink;
 
 struct Input {
     name: LastName,
@@ -66,8 +62,8 @@ impl Drop for MemoryDesk {
 
 impl Model for MemoryDesk {
     ghost use Rattle.std.specs.Prelude.{◌≡◌, Some, false};
-    ghost use Rattle.scad_io.specs.Memory.{Memory};
-    ghost use Rattle.scad_io.specs.Shelf.{rest_at};
+    ghost use Rattle.memory_desk.specs.Memory.{Memory};
+    ghost use Rattle.memory_desk.specs.Shelf.{rest_at};
 
     ghost Value = { Memory };
 
