@@ -4,7 +4,7 @@ ghost use Rattle.scad_geom.specs.Limits.{coordinate_limit};
 ghost use Rattle.scad_geom.specs.Within.{IsEdgeWithin};
 ghost use Rattle.scad_geom.specs.Level.{IsLevelWithin};
 ghost use Rattle.slice_events.specs.Levels.{AreLevels};
-ghost use Rattle.slice_bundles.specs.Active.{IsReadyFor as IsActiveFor, StandsAt};
+ghost use Rattle.slice_slab.specs.Active.{IsReadyFor as IsActiveFor, StandsAt};
 ghost use Rattle.slice_sweep.specs.Front.{IsReadyFor};
 ghost use Rattle.slice_border.specs.Levels.{level_at};
 

@@ -18,7 +18,7 @@ use std::process::Abort;
 use std::slice::from_ref;
 
 // More edges than any of the lists has.
-const EDGE_LIMIT: u32 = 1000;
+const ROOM_FOR_EDGES: u32 = 1000;
 
 // The last outline again, the same turned, a rectangle, or one of one to six points.
 fn roll_outline(
@@ -147,7 +147,7 @@ fn roll_shape(alloc: Global, dice: &mut Dice) -> Result<Shape, AllocError> {
 fn number_of_border(rt: &(impl Abort + AllocGlobal), edges: &[LeafEdge], shape: &Shape) -> i64
     requires { All (λ e. IsEdgeWithin coordinate_limit e.edge) edges.now }
 {
-    let border = slice_bool::pieces(rt.alloc(), edges, shape, EDGE_LIMIT).expect(rt, "pieces");
+    let border = slice_bool::pieces(rt.alloc(), edges, shape, ROOM_FOR_EDGES).expect(rt, "pieces");
     number_with_pieces(0, &border)
 }
 
@@ -168,9 +168,9 @@ fn number_of_seed(rt: &(impl Abort + AllocGlobal), seed: u64, most: u32) -> i64
     } else {
         0
     };
-    let made = slice_bool::outlines(rt.alloc(), &edges, &shape, EDGE_LIMIT);
+    let made = slice_bool::outlines(rt.alloc(), &edges, &shape, ROOM_FOR_EDGES);
     let number = number_with_found(rt, border, made);
-    let kept = slice_outlines::outlines(rt.alloc(), &edges, &shape, EDGE_LIMIT);
+    let kept = slice_outlines::outlines(rt.alloc(), &edges, &shape, ROOM_FOR_EDGES);
     number_with_found(rt, number, kept)
 }
 

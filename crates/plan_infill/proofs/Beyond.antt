@@ -9,7 +9,7 @@ use Rattle.std.proofs.lemmas.List.Elements.{All-weaker, recursion_from_All, All-
 use Rattle.scad_base.proofs.Products.{positive_product}
 use Rattle.scad_geom.specs.declared.point.Pt.{Pt}
 use Rattle.scad_geom.specs.declared.point.Edge.{Edge}
-use Rattle.scad_geom.specs.Line.{low, high, rise, x_at, left_of}
+use Rattle.scad_geom.specs.Line.{low, high, rise, x_at, left_of, heading}
 use Rattle.scad_geom.specs.Point.{Point, whole}
 use Rattle.scad_geom.specs.Segment.{segments}
 use Rattle.scad_geom.specs.Loop.{sides}
@@ -21,7 +21,6 @@ use Rattle.scad_geom.proofs.Signs.{at_least_mul}
 use Rattle.scad_geom.proofs.Turns.{over_turn, under_turn}
 use Rattle.plan_infill.specs.declared.line.Line.{Line}
 use Rattle.plan_infill.specs.declared.line.Line.TheVariants.{Row, Column}
-use Rattle.plan_infill.specs.Columns.{edge_turn}
 use Rattle.plan_infill.specs.Runs.{point_on}
 use Rattle.plan_infill.specs.Steps.{turn_before, turns_before}
 use Rattle.plan_infill.proofs.Turning.{at, turn_at, turn_between, turn_below, turn_above, passage_between}
@@ -104,7 +103,7 @@ left_turn x y e k = by_order (order (low e).y y)
     let o = line_left x y e n.0 n.1 l h in
     let d = left_at e x y in
     let f : int_lt (pos 0) (left_of e x y (pos 1)) ≡ false = sym (omega (arith, ints, o, d)) in
-    turn_between x y e l h ∙ ap (λ (t : Bool). if t then edge_turn e else pos 0) f))
+    turn_between x y e l h ∙ ap (λ (t : Bool). if t then heading e else pos 0) f))
     (λ l. turn_below x y e l)
 
 -- an edge to the right of a point turns round it as it passes its height
@@ -115,7 +114,7 @@ right_turn x y e k = by_order (order (low e).y y)
     let o = line_right x y e n.0 n.1 l h in
     let d = left_at e x y in
     let f : int_lt (pos 0) (left_of e x y (pos 1)) ≡ true = sym (omega (arith, ints, o, d)) in
-    turn_between x y e l h ∙ ap (λ (t : Bool). if t then edge_turn e else pos 0) f
+    turn_between x y e l h ∙ ap (λ (t : Bool). if t then heading e else pos 0) f
     ∙ sym (passage_between (pos 0) y e l h)))
     (λ l. turn_below x y e l ∙ sym (passage_below (pos 0) y e l))
 

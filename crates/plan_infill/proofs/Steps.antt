@@ -6,14 +6,14 @@ use Rattle.std.proofs.lemmas.Int.{ints}
 use Rattle.std.proofs.lemmas.List.Elements.{All-from_recursion}
 use Rattle.scad_geom.specs.Limits.{coordinate_limit}
 use Rattle.scad_geom.specs.declared.point.Edge.{Edge}
-use Rattle.scad_geom.specs.Line.{low, high, rise, run, offset, x_at, left_of}
+use Rattle.scad_geom.specs.Line.{low, high, rise, run, offset, x_at, left_of, heading}
 use Rattle.scad_geom.specs.Within.{IsEdgeWithin}
 use Rattle.plan_infill.specs.declared.line.Line.{Line}
 use Rattle.plan_infill.specs.declared.line.Line.TheVariants.{Row, Column}
 use Rattle.plan_infill.specs.declared.step.Step.{Step}
 use Rattle.plan_infill.specs.declared.stretch.Stretch.{Stretch}
 use Rattle.plan_infill.specs.Quotient.{IsCeiling}
-use Rattle.plan_infill.specs.Columns.{edge_turn, heights_of, has_place, IsPositivePart}
+use Rattle.plan_infill.specs.Columns.{heights_of, has_place, IsPositivePart}
 use Rattle.plan_infill.specs.Steps.{up_to, GiveTurns, IsStep, AreTurnSteps}
 use Rattle.plan_infill.proofs.Turning.{turn_at, turn_between, turn_below, turn_above, passage_between, passage_below, passage_above}
 use Rattle.plan_infill.proofs.Quotients.{before_ceiling, before_quotient}
@@ -40,7 +40,7 @@ rise_is e = refl
 pub rise_above : (e : Edge) (y : ℤ) → (low e).y ≤ℤ y → y <ℤ (high e).y → pos 0 <ℤ rise e
 rise_above e y a b = let r = rise_is e in omega (arith, ints)
 
-edge_turn_size : (e : Edge) → unsigned_abs (edge_turn e) ≤ 1
+edge_turn_size : (e : Edge) → unsigned_abs (heading e) ≤ 1
 edge_turn_size e = by_test (int_lt e.b.y e.a.y)
   where
     by_test : (t : Bool) → unsigned_abs (if t then negsuc 0 else pos 1) ≤ 1
@@ -54,8 +54,8 @@ left_at e x y = let c = *ℤ_comm (rise e) x in omega (arith, ints, c)
 
 row_turn : (e : Edge) (y z at : ℤ) → (low e).y ≤ℤ y → y <ℤ (high e).y
     → IsCeiling (x_at e y (pos 1)) (rise e) at → (t : Bool) → int_le at z ≡ t
-    → (if int_lt (pos 0) (left_of e z y (pos 1)) then edge_turn e else pos 0)
-    ≡ edge_turn e +ℤ ((if t then pos 0 -ℤ edge_turn e else pos 0) +ℤ pos 0)
+    → (if int_lt (pos 0) (left_of e z y (pos 1)) then heading e else pos 0)
+    ≡ heading e +ℤ ((if t then pos 0 -ℤ heading e else pos 0) +ℤ pos 0)
 row_turn e y z at a b k true q =
     let d = rise_above e y a b in
     let l = left_at e z y in
@@ -71,19 +71,19 @@ row_turn e y z at a b k false q =
 
 pub row_turns : (e : Edge) (y at : ℤ) → (low e).y ≤ℤ y → y <ℤ (high e).y
     → IsCeiling (x_at e y (pos 1)) (rise e) at → unsigned_abs at ≤ coordinate_limit
-    → AreTurnSteps (Row y) e (step_of at (pos 0 -ℤ edge_turn e) ∷ [])
+    → AreTurnSteps (Row y) e (step_of at (pos 0 -ℤ heading e) ∷ [])
 row_turns e y at a b k w =
     let p = passage_between (pos 0) y e a b in
     let s = edge_turn_size e in
     record {
       give = record {
         each = λ z. turn_between z y e a b ∙ row_turn e y z at a b k (int_le at z) refl
-            ∙ ap (λ (h : ℤ). h +ℤ ((if int_le at z then pos 0 -ℤ edge_turn e else pos 0) +ℤ pos 0)) (sym p);
+            ∙ ap (λ (h : ℤ). h +ℤ ((if int_le at z then pos 0 -ℤ heading e else pos 0) +ℤ pos 0)) (sym p);
         behind = rw p (omega (arith, ints));
       };
-      each = All-from_recursion IsStep (step_of at (pos 0 -ℤ edge_turn e) ∷ [])
+      each = All-from_recursion IsStep (step_of at (pos 0 -ℤ heading e) ∷ [])
           (record { turns = omega (arith, ints, s); near = omega arith; place = inr w }, tt);
-      other = All-from_recursion (λ t. t.near ≡ pos 0) (step_of at (pos 0 -ℤ edge_turn e) ∷ []) (refl, tt);
+      other = All-from_recursion (λ t. t.near ≡ pos 0) (step_of at (pos 0 -ℤ heading e) ∷ []) (refl, tt);
     }
 
 none : (line : Line) (e : Edge) → GiveTurns line e [] → AreTurnSteps line e []
@@ -128,20 +128,20 @@ line_at e x y = omega (arith, ints)
 
 column_turn : (e : Edge) (x z : ℤ) (part : Stretch)
     → IsPositivePart (heights_of e) (run e) (left_of e x (pos 0) (pos 1)) part
-    → turn_at x z e ≡ (if has_place part z then edge_turn e else pos 0)
+    → turn_at x z e ≡ (if has_place part z then heading e else pos 0)
 column_turn e x z part k =
     let f = k.part_of.from in
     let u = k.part_of.until in
     by_order (order (low e).y z)
     (λ a. by_order (order (high e).y z)
     (λ b. turn_above x z e b ∙ sym (rw (no_place_above part z (omega (arith, ints))) refl))
-    (λ b. turn_between x z e a b ∙ ap (λ (t : Bool). if t then edge_turn e else pos 0)
+    (λ b. turn_between x z e a b ∙ ap (λ (t : Bool). if t then heading e else pos 0)
     (ap (int_lt (pos 0)) (line_at e x z) ∙ sym (k.each z a b))))
     (λ a. turn_below x z e a ∙ sym (rw (no_place_below part z (omega (arith, ints))) refl))
 
 pub column_turns : (e : Edge) (x : ℤ) (part : Stretch) → IsEdgeWithin coordinate_limit e
     → IsPositivePart (heights_of e) (run e) (left_of e x (pos 0) (pos 1)) part
-    → AreTurnSteps (Column x) e (step_of part.from (edge_turn e) ∷ (step_of part.until (pos 0 -ℤ edge_turn e) ∷ []))
+    → AreTurnSteps (Column x) e (step_of part.from (heading e) ∷ (step_of part.until (pos 0 -ℤ heading e) ∷ []))
 column_turns e x part w k =
     let s = edge_turn_size e in
     let f = k.part_of.from in
@@ -151,17 +151,17 @@ column_turns e x part w k =
     let m = (high_within coordinate_limit e w).y in
     record {
       give = record {
-        each = λ z. column_turn e x z part k ∙ sym (column_sum (edge_turn e) z part k.part_of.order)
+        each = λ z. column_turn e x z part k ∙ sym (column_sum (heading e) z part k.part_of.order)
             ∙ sym (+ℤ_idl _);
         behind = omega (arith, ints);
       };
-      each = All-from_recursion IsStep (step_of part.from (edge_turn e)
-          ∷ (step_of part.until (pos 0 -ℤ edge_turn e) ∷ [])) (
+      each = All-from_recursion IsStep (step_of part.from (heading e)
+          ∷ (step_of part.until (pos 0 -ℤ heading e) ∷ [])) (
             record { turns = s; near = omega arith; place = inr (omega (arith, ints)) },
             (record { turns = omega (arith, ints, s); near = omega arith; place = inr (omega (arith, ints)) }, tt),
           );
       other = All-from_recursion (λ t. t.near ≡ pos 0)
-          (step_of part.from (edge_turn e) ∷ (step_of part.until (pos 0 -ℤ edge_turn e) ∷ [])) (refl, (refl, tt));
+          (step_of part.from (heading e) ∷ (step_of part.until (pos 0 -ℤ heading e) ∷ [])) (refl, (refl, tt));
     }
 
 -- ---- where an edge passes a height

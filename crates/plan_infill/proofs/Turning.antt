@@ -5,14 +5,12 @@ use Rattle.std.specs.Prelude.{int_lt, if◌then◌else◌}
 use Rattle.std.proofs.lemmas.Int.{ints}
 use Rattle.scad_geom.specs.declared.point.Pt.{Pt}
 use Rattle.scad_geom.specs.declared.point.Edge.{Edge}
-use Rattle.scad_geom.specs.Line.{low, high, rise, left_of}
+use Rattle.scad_geom.specs.Line.{low, high, rise, left_of, heading}
 use Rattle.scad_geom.specs.Point.{whole}
 use Rattle.scad_geom.specs.Level.{level_of}
 use Rattle.scad_geom.specs.Winding.{counted, is_over, passage_by, turn}
 use Rattle.scad_geom.proofs.Heights.{Reaches}
 use Rattle.scad_geom.proofs.Turns.{Over, NotOver, level_at, over_true, over_false, reaching_turn, under_turn, over_turn}
-use Rattle.scad_geom.proofs.Turns as turns
-use Rattle.plan_infill.specs.Columns.{edge_turn}
 use Rattle.scad_geom.proofs.CommonDivisor.{beyond_is}
 
 abbrev pub at : ℤ → ℤ → Pt
@@ -21,20 +19,16 @@ at x y = record { x = x; y = y }
 abbrev pub turn_at : ℤ → ℤ → Edge → ℤ
 turn_at x y e = turn true true (whole (at x y)) (whole e.a) (whole e.b)
 
-same_turn : (e : Edge) → turns.heading e ≡ edge_turn e
-unfolding turns.heading
-same_turn e = refl
-
 -- at the heights from the lower end on and before the upper one it turns by its heading, where the point lies to its
 -- left
 pub turn_between : (x y : ℤ) (e : Edge) → (low e).y ≤ℤ y → y <ℤ (high e).y
-    → turn_at x y e ≡ (if int_lt (pos 0) (left_of e x y (pos 1)) then edge_turn e else pos 0)
+    → turn_at x y e ≡ (if int_lt (pos 0) (left_of e x y (pos 1)) then heading e else pos 0)
 unfolding rise
 turn_between x y e h k =
     let one : pos 0 <ℤ pos 1 = omega (arith, ints) in
     let r : Reaches e (level_of (low e).y) (level_of (high e).y) = record { rises = omega (arith, ints); from = omega (arith, ints); to = omega (arith, ints) } in
     let t = reaching_turn true true (whole (at x y)) e (level_of (low e).y) (level_of (high e).y) one one one r (omega (arith, ints), omega (arith, ints)) in
-    t ∙ ap₂ (λ (b : Bool) (z : ℤ). if b then z else pos 0) (beyond_is (left_of e x y (pos 1))) (same_turn e)
+    t ∙ ap (λ (b : Bool). if b then heading e else pos 0) (beyond_is (left_of e x y (pos 1)))
 
 -- at others it doesn't
 pub turn_below : (x y : ℤ) (e : Edge) → y <ℤ (low e).y → turn_at x y e ≡ pos 0
@@ -63,7 +57,7 @@ unfolding passage_by
 passage_of x y e a b p q = ap₂ (λ (m n : Bool). counted n -ℤ counted m) p q
 
 pub passage_between : (x y : ℤ) (e : Edge) → (low e).y ≤ℤ y → y <ℤ (high e).y
-    → passage_at x y e ≡ edge_turn e
+    → passage_at x y e ≡ heading e
 unfolding low high
 passage_between x y e h k = by_test (int_lt e.b.y e.a.y) refl h k
   where

@@ -4,10 +4,6 @@ use Rattle.scad_geom.specs.declared.point.Edge.{Edge}
 use Rattle.scad_geom.specs.Line.{low, high}
 use Rattle.plan_infill.specs.declared.stretch.Stretch.{Stretch}
 
--- an edge's turn round a point to its left at a height that it reaches: -1 where it runs downwards, else 1
-abbrev pub edge_turn : Edge → ℤ
-edge_turn e = if int_lt e.b.y e.a.y then negsuc 0 else pos 1
-
 -- the heights from the lower end of an edge on and before its upper end
 abbrev pub heights_of : Edge → Stretch
 heights_of e = record { from = (low e).y; until = (high e).y }

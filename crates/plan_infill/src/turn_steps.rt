@@ -2,13 +2,13 @@
 ghost use Rattle.std.specs.Prelude.{◌≡◌, ◌↔◌, ◌+◌, ◌*◌, ◌^◌, ◌≤◌, ◌&&◌, ◌+ℤ◌, ◌-ℤ◌, ◌*ℤ◌, pos, neg_ℤ, ◌<ℤ◌, ◌≤ℤ◌, int_lt, int_le, unsigned_abs, OnOk};
 ghost use Rattle.scad_geom.specs.Limits.{coordinate_limit};
 ghost use Rattle.scad_geom.specs.Within.{IsEdgeWithin};
-ghost use Rattle.scad_geom.specs.Line.{low, high, rise, run, x_at, left_of};
+ghost use Rattle.scad_geom.specs.Line.{low, high, rise, run, x_at, left_of, heading};
 ghost use Rattle.scad_geom.specs.Winding.{counted};
 ghost use Rattle.plan_infill.specs.declared.line.Line.TheVariants.{Row, Column};
 ghost use Rattle.plan_infill.specs.Steps.{Adds, AreTurnSteps};
 ghost use Rattle.plan_infill.specs.Runs.{IsLineWithin};
 ghost use Rattle.plan_infill.specs.Quotient.{IsCeiling};
-ghost use Rattle.plan_infill.specs.Columns.{edge_turn, heights_of, IsPositivePart, IsLastPart, IsFirstPart, IsClamped, IsStretchWithin};
+ghost use Rattle.plan_infill.specs.Columns.{heights_of, IsPositivePart, IsLastPart, IsFirstPart, IsClamped, IsStretchWithin};
 
 use crate::line::Line;
 use crate::quotient::{ceiling, floor};
@@ -38,7 +38,7 @@ fn push_on_row(steps: &mut Vec<Step>, e: &Edge, y: i32) -> Result<(), AllocError
     ensures { OnOk result (Adds (AreTurnSteps (Row y) e.now) steps.old.items steps.new.items) }
 {
     if low(e).y <= y && y < high(e).y {
-        steps.push(Step::of_turns(crossing(e, y), -edge_turn(e)))?;
+        steps.push(Step::of_turns(crossing(e, y), -heading(e)))?;
     }
     Ok(())
 }
@@ -56,8 +56,8 @@ fn crossing(e: &Edge, y: i32) -> i128
 }
 
 // -1 for an edge that runs downwards, else 1.
-fn edge_turn(e: &Edge) -> i128
-    ensures value { result ≡ edge_turn e.now }
+fn heading(e: &Edge) -> i128
+    ensures value { result ≡ heading e.now }
     ensures size { unsigned_abs result ≤ 1 }
 {
     if e.b.y < e.a.y { -1 } else { 1 }
@@ -70,8 +70,8 @@ fn push_on_column(steps: &mut Vec<Step>, e: &Edge, x: i32) -> Result<(), AllocEr
     ensures { OnOk result (Adds (AreTurnSteps (Column x) e.now) steps.old.items steps.new.items) }
 {
     let part = right_part(e, x);
-    steps.push(Step::of_turns(part.from, edge_turn(e)))?;
-    steps.push(Step::of_turns(part.until, -edge_turn(e)))?;
+    steps.push(Step::of_turns(part.from, heading(e)))?;
+    steps.push(Step::of_turns(part.until, -heading(e)))?;
     Ok(())
 }
 

@@ -3,8 +3,9 @@ ghost use Rattle.std.specs.Prelude.{◌≡◌, Some, [], IfOk};
 ghost use Rattle.scad_io.specs.Desk.{unused};
 
 use crate::gate::Meeting;
+use memory_desk::MemoryDesk;
 use scad_fault::{Status, Text};
-use scad_io::{MemoryDesk, Out};
+use scad_io::Out;
 use scad_run::run;
 use std::alloc::{AllocError, Global};
 use std::process::Abort;

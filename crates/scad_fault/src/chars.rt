@@ -42,13 +42,6 @@ impl Chars {
         Chars { chars }
     }
 
-    /// The characters. It takes no memory.
-    pub fn into_vec(self) -> Vec<char>
-        ensures { result.items ≡ self }
-    {
-        self.chars
-    }
-
     /// The characters.
     pub fn as_slice(&self) -> &[char]
         ensures { result.now ≡ self.now }

@@ -26,20 +26,6 @@ impl FileName {
         })
     }
 
-    /// The file name of this text. It takes no memory.
-    pub fn from_string(name: String) -> FileName
-        ensures { result ≡ string_bytes name }
-    {
-        FileName { name }
-    }
-
-    /// The name. It takes no memory.
-    pub fn into_string(self) -> String
-        ensures { string_bytes result ≡ self }
-    {
-        self.name
-    }
-
     /// The name.
     pub fn as_str(&self) -> &str
         ensures { result.now ≡ self.now }

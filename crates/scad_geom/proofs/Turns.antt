@@ -8,7 +8,7 @@ use Rattle.std.proofs.lemmas.Int.{ints, by_lt_z}
 use Rattle.scad_geom.specs.declared.point.Pt.{Pt}
 use Rattle.scad_geom.specs.declared.point.Edge.{Edge}
 use Rattle.scad_geom.specs.declared.level.Level.{Level}
-use Rattle.scad_geom.specs.Line.{low, high, rise, run, offset, x_at, left_of}
+use Rattle.scad_geom.specs.Line.{low, high, rise, run, offset, x_at, left_of, heading}
 use Rattle.scad_geom.specs.Point.{Point, whole}
 use Rattle.scad_geom.specs.Winding.{counted, is_over, passage_by, side_by, is_beyond, turn}
 use Rattle.scad_geom.specs.Level.{level_of, IsLower, IsAtMost}
@@ -89,10 +89,6 @@ beyond_mul false k z h = by_lt_z z (pos 0)
     (λ q. let a : int_le (pos 0) z ≡ true = sym (omega (arith, ints)) in let b : int_le (pos 0) (z *ℤ k) ≡ true = let m = at_least_mul z k q (at_most_of_less (pos 0) k h) in sym (omega (arith, ints)) in b ∙ sym a)
 
 -- ---- turns of edges
--- 1 for an edge that runs upwards, -1 for one that runs downwards
-unfoldable pub heading : Edge → ℤ
-heading e = if int_lt e.b.y e.a.y then negsuc 0 else pos 1
-
 rising_side : (ax ay bx by x y d : ℤ) → (bx *ℤ pos 1 -ℤ ax *ℤ pos 1) *ℤ (y *ℤ pos 1 -ℤ ay *ℤ d) -ℤ
     (by *ℤ pos 1 -ℤ ay *ℤ pos 1) *ℤ (x *ℤ pos 1 -ℤ ax *ℤ d) ≡ (bx -ℤ ax) *ℤ y +ℤ ((by -ℤ ay) *ℤ ax -ℤ (bx -ℤ ax) *ℤ ay)
     *ℤ d -ℤ (by -ℤ ay) *ℤ x
@@ -140,7 +136,6 @@ pub reaching_turn : (above right : Bool) (p : Point) (e : Edge) (l u : Level) �
     → pos 0 <ℤ u.d → Reaches e l u → Spans above (level_at p) l u
     → turn above right p (whole e.a) (whole e.b) ≡ (if is_beyond right (left_of e p.x p.y p.d) then heading e else pos
     0)
-unfolding heading
 reaching_turn above right p e l u dp dl du r s =
     let one : pos 0 <ℤ pos 1 = omega (arith, ints) in
     turn_by_test above right p e (int_lt e.b.y e.a.y) refl

@@ -1,6 +1,7 @@
 -- Heights that aren't whole, and their order.
-use Rattle.std.specs.Prelude.{ℕ, ◌≡◌, ℤ, pos, ◌*ℤ◌, ◌<ℤ◌, ◌≤ℤ◌, ◌≤◌, ◌*◌, ◌^◌, unsigned_abs}
+use Rattle.std.specs.Prelude.{ℕ, ◌≡◌, ℤ, pos, ◌*ℤ◌, ◌<ℤ◌, ◌≤ℤ◌, ◌≤◌, ◌*◌, unsigned_abs}
 use Rattle.scad_geom.specs.declared.level.Level.{Level}
+use Rattle.scad_geom.specs.Limits.{divisor_limit}
 
 -- the height of a whole coordinate
 abbrev pub level_of : ℤ → Level
@@ -18,8 +19,8 @@ IsAtMost p q = (p.n *ℤ q.d) ≤ℤ (q.n *ℤ p.d)
 abbrev pub IsSameHeight : Level → Level → Type 0
 IsSameHeight p q = p.n *ℤ q.d ≡ q.n *ℤ p.d
 
--- a height whose divisor is positive and at most 10^13, within the limit of the coordinates
+-- a height whose divisor is positive and within its limit, and which lies within the limit of the coordinates
 pub record IsLevelWithin (limit : ℕ) (h : Level) : Type 0 where
   pub positive : pos 0 <ℤ h.d
-  pub divisor : unsigned_abs h.d ≤ 10 ^ 13
+  pub divisor : unsigned_abs h.d ≤ divisor_limit
   pub size : unsigned_abs h.n ≤ limit * unsigned_abs h.d

@@ -1,5 +1,5 @@
 -- The line of an edge, read upwards: where the edge passes a height.
-use Rattle.std.specs.Prelude.{cond, ℤ, ◌+ℤ◌, ◌-ℤ◌, ◌*ℤ◌, int_lt}
+use Rattle.std.specs.Prelude.{cond, if◌then◌else◌, ℤ, ◌+ℤ◌, ◌-ℤ◌, ◌*ℤ◌, pos, negsuc, int_lt}
 use Rattle.scad_geom.specs.declared.point.Pt.{Pt}
 use Rattle.scad_geom.specs.declared.point.Edge.{Edge}
 
@@ -10,6 +10,10 @@ low e = cond (int_lt e.b.y e.a.y) e.b e.a
 -- the upper end of an edge, the end of a flat one
 unfoldable pub high : Edge → Pt
 high e = cond (int_lt e.b.y e.a.y) e.a e.b
+
+-- 1 for an edge that runs upwards or is flat, -1 for one that runs downwards
+abbrev pub heading : Edge → ℤ
+heading e = if int_lt e.b.y e.a.y then negsuc 0 else pos 1
 
 -- how far an edge rises from its lower to its upper end
 unfoldable pub rise : Edge → ℤ

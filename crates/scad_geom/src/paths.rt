@@ -25,13 +25,6 @@ impl Path {
         Path { points }
     }
 
-    /// The points, without taking memory.
-    pub fn into_vec(self) -> Vec<Pt>
-        ensures { result.items ≡ self }
-    {
-        self.points
-    }
-
     /// The points.
     pub fn as_slice(&self) -> &[Pt]
         ensures { result.now ≡ self.now }

@@ -277,8 +277,8 @@ module _ (ps : List Pt3) where
     abbrev sum_of : Triangle → ℤ
     sum_of t = sum_at (normal_of t.a t.b t.c) t.a
 
-    abbrev IsNear : ℤ → Triangle → Type 0
-    IsNear K t = (k : ℤ) → K ≤ℤ k → pos 0 <ℤ sum_of t → pos 0 <ℤ (k *ℤ sum_of t -ℤ aside t)
+    abbrev IsDeepFrom : ℤ → Triangle → Type 0
+    IsDeepFrom K t = (k : ℤ) → K ≤ℤ k → pos 0 <ℤ sum_of t → pos 0 <ℤ (k *ℤ sum_of t -ℤ aside t)
 
     step : (w K : ℤ) → (L : ℤ) × (K ≤ℤ L) × (w <ℤ L)
     step w K = by_lt_z w K (λ h. (K, omega (arith, ints), h))
@@ -301,7 +301,7 @@ module _ (ps : List Pt3) where
             → pos 0 <ℤ (x -ℤ w)
         last x y k w L e h hw hk = omega (arith, ints)
 
-    bound : (ts : List Triangle) → (K : ℤ) × (pos 0 <ℤ K) × AllByRecursion (IsNear K) ts
+    bound : (ts : List Triangle) → (K : ℤ) × (pos 0 <ℤ K) × AllByRecursion (IsDeepFrom K) ts
     bound [] = (pos 1, one, tt)
       where
         one : pos 0 <ℤ pos 1
@@ -459,7 +459,7 @@ module _ (ps : List Pt3) where
           (var 0 ⊗ var 1) refl))
           (positive_product (square_of n) (way_square g1 g2) G.plane.some long)
 
-      deep_one : (t : Triangle) → IsSeen t → IsNear K t → IsDeep Y X Z n.y n.x n.z vy vx vz t
+      deep_one : (t : Triangle) → IsSeen t → IsDeepFrom K t → IsDeep Y X Z n.y n.x n.z vy vx vz t
       deep_one t h near = record {
         first = ahead t.a h.in_a;
         second = ahead t.b h.in_b;
@@ -475,12 +475,12 @@ module _ (ps : List Pt3) where
           itself : (z : ℤ) → z ≤ℤ z
           itself z = omega (arith, ints)
 
-      deep_all : (ts : List Triangle) → AllByRecursion IsSeen ts → AllByRecursion (IsNear K) ts
+      deep_all : (ts : List Triangle) → AllByRecursion IsSeen ts → AllByRecursion (IsDeepFrom K) ts
           → AllByRecursion (IsDeep Y X Z n.y n.x n.z vy vx vz) ts
       deep_all [] h near = tt
       deep_all (t ∷ ts) h near = (deep_one t h.0 near.0, deep_all ts h.1 near.1)
 
-      none_at_all : (ts : List Triangle) → AllByRecursion IsSeen ts → AllByRecursion (IsNear K) ts
+      none_at_all : (ts : List Triangle) → AllByRecursion IsSeen ts → AllByRecursion (IsDeepFrom K) ts
           → is_closed ts ≡ true → ts ≡ []
       none_at_all ts h near shut = surrounded Y X Z n.y n.x n.z vy vx vz across ts shut (deep_all ts h near)
 

@@ -24,13 +24,6 @@ impl Ring2 {
         Ring2 { points }
     }
 
-    /// The points, without taking memory.
-    pub fn into_vec(self) -> Vec<(Num, Num)>
-        ensures { result.items ≡ self }
-    {
-        self.points
-    }
-
     /// The points.
     pub fn as_slice(&self) -> &[(Num, Num)]
         ensures { result.now ≡ self.now }

@@ -1,5 +1,4 @@
--- Of the pieces that a desk sends and takes, and of the files that they make.
-mod Files
+-- Of the pieces that a desk sends and takes.
 mod Pieces
 pub mod Output
 mod Input

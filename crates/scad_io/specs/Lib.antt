@@ -1,7 +1,5 @@
--- What a desk holds, reads and sends, and the desks in memory and without any effect.
+-- What a desk holds, reads and sends, and the desk without any effect.
 pub mod Desk
-pub mod Memory
 pub mod Null
 pub mod Reading
 pub mod Output
-pub mod Shelf

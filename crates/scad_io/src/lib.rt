@@ -6,7 +6,6 @@ mod claims;
 mod desk;
 mod gate;
 mod handle;
-mod memory;
 mod null;
 mod real;
 mod whole_piece;
@@ -14,7 +13,6 @@ mod whole_text;
 
 pub use desk::{Desk, Failed, Out};
 pub use gate::{Gate, Open};
-pub use memory::MemoryDesk;
 pub use null::NullDesk;
 pub use real::RealDesk;
 pub use whole_piece::write_all;

@@ -25,5 +25,5 @@ pub use lookup::ItemAt;
 pub use machine::{DEPTH_LIMIT, Machine, NESTING_LIMIT, STEP_LIMIT};
 pub use names::{are_named, is_dollar};
 pub use opening::{CallFrames, last_of};
-pub use parameters::is_statement;
+pub use parameters::{CHILD_LIMIT, is_statement};
 pub use refusals::{fault_at, named_fault, over};

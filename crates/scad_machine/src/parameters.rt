@@ -18,7 +18,7 @@ use scad_value::Value;
 use std::alloc::{AllocError, Global};
 
 /// At most so many children are counted.
-const CHILD_LIMIT: u64 = 1_000_000_000;
+pub const CHILD_LIMIT: u64 = 1_000_000_000;
 
 /// Whether a call takes an argument of the name.
 fn takes(params: &ParameterNames, name: &[u8]) -> bool

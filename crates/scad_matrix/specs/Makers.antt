@@ -1,5 +1,5 @@
 -- The matrices of the transformations (OpenSCAD User Manual, "translate", "scale", "rotate", "mirror", "multmatrix").
-use Rattle.std.specs.Prelude.{ℕ, List, if◌then◌else◌, ℤ, pos, negsuc, neg_ℤ, ◌+ℤ◌, ◌-ℤ◌, ◌*ℤ◌, unsigned_abs}
+use Rattle.std.specs.Prelude.{ℕ, List, if◌then◌else◌, ℤ, pos, negsuc, neg_ℤ, ◌+ℤ◌, ◌-ℤ◌, ◌*ℤ◌, ◌^◌, unsigned_abs}
 use Rattle.std.specs.List.{slice_index_or}
 use Rattle.scad_num.specs.Number.{one}
 use Rattle.std.specs.Ordering.{int_eq}
@@ -12,6 +12,10 @@ use Rattle.scad_matrix.specs.declared.matrix.Matrix.{Matrix}
 
 abbrev pub row : ℤ → ℤ → ℤ → ℤ → Row
 row x y z shift = record { x = x; y = y; z = z; shift = shift }
+
+-- of the size of a rotation's angle, in thousandths of a degree
+abbrev pub angle_limit : ℕ
+angle_limit = 10 ^ 12
 
 -- the shift by (x, y, z)
 abbrev pub translation : ℤ → ℤ → ℤ → Matrix

@@ -1,6 +1,6 @@
 //! The matrices of the transformations.
-ghost use Rattle.std.specs.Prelude.{◌≡◌, ◌^◌, ◌≤◌, unsigned_abs};
-ghost use Rattle.scad_matrix.specs.Makers.{translation, scaling, rows_of, rotation};
+ghost use Rattle.std.specs.Prelude.{◌≡◌, ◌≤◌, unsigned_abs};
+ghost use Rattle.scad_matrix.specs.Makers.{angle_limit, translation, scaling, rows_of, rotation};
 
 use crate::matrix::{Matrix, Row};
 use scad_cos::{cos, sin};
@@ -52,7 +52,7 @@ pub fn of_rows(rows: &[Num; 12]) -> Matrix
 /// The rotation about an axis by an angle in thousandths of a degree, with the entries of `cos` and
 /// `sin`.
 pub fn turn(axis: Axis, angle: i64) -> Matrix
-    requires { unsigned_abs angle ≤ 10 ^ 12 }
+    requires { unsigned_abs angle ≤ angle_limit }
     ensures { result ≡ rotation axis angle }
 {
     let (o, i) = (number(0), number(1_000_000));

@@ -12,7 +12,7 @@ use scad_ast::Scope;
 use scad_num::Num;
 
 /// Where a scope has fewer statements, the number behind its last child is in the range of numbers.
-const CHILD_LIMIT: usize = 1_000_000_000;
+const CHILD_LIMIT: usize = scad_machine::CHILD_LIMIT as usize;
 
 /// The number that steps upwards reach from a start: the last one up to -1, or the start where that is more.
 fn first_up(start: Num, step: Num) -> Num

@@ -1,10 +1,11 @@
 //! The matrices of the transformations by their arguments.
 
-ghost use Rattle.std.specs.Prelude.{◌≡◌, ◌^◌, ◌≤◌, pos, length, unsigned_abs};
+ghost use Rattle.std.specs.Prelude.{◌≡◌, ◌≤◌, pos, length, unsigned_abs};
 ghost use Rattle.std.specs.Ordering.{int_eq};
 ghost use Rattle.scad_ast.specs.View.{arguments};
 ghost use Rattle.scad_num.specs.Number.{most};
 ghost use Rattle.scad_value.specs.View.{datum_of, elements, data_of};
+ghost use Rattle.scad_matrix.specs.Makers.{angle_limit};
 ghost use Rattle.scad_modules.specs.Transforms.{translate_by, scale_by_three, scale_by, mirror_by, row_at, first_three, turned_by, row_of_four, row_of, rows_of, multmatrix_by};
 ghost use Rattle.scad_modules.specs.Transforms.{angle_of, turned, way_round, about, about_axis, turned_about, product, turned_by_three, rotate_by};
 ghost use Rattle.scad_modules.specs.Transforms.{first_name, matrix_by, matrix_of};
@@ -113,7 +114,7 @@ fn multmatrix_by(m: &Value) -> Result<Matrix, ArgumentFault>
 /// Degrees as thousandths of a degree.
 fn angle(degrees: Num) -> i64
     ensures value { result ≡ angle_of degrees }
-    ensures small { unsigned_abs result ≤ 10 ^ 12 }
+    ensures small { unsigned_abs result ≤ angle_limit }
 {
     thousandths(i128::from(degrees.millionths())) as i64
 }
@@ -122,7 +123,7 @@ fn angle(degrees: Num) -> i64
 fn thousandths(millionths: i128) -> i128
     requires { unsigned_abs millionths ≤ most }
     ensures value { result ≡ angle_of millionths }
-    ensures small { unsigned_abs result ≤ 10 ^ 12 }
+    ensures small { unsigned_abs result ≤ angle_limit }
 {
     half_away(millionths, 1000)
 }
@@ -136,9 +137,9 @@ fn turned(axis: Axis, degrees: Num) -> Matrix
 
 /// The other way round where an axis is given by a negative number.
 fn way_round(length: Num, angle: i64) -> i64
-    requires { unsigned_abs angle ≤ 10 ^ 12 }
+    requires { unsigned_abs angle ≤ angle_limit }
     ensures value { result ≡ way_round length angle }
-    ensures small { unsigned_abs result ≤ 10 ^ 12 }
+    ensures small { unsigned_abs result ≤ angle_limit }
 {
     if length.millionths() < 0 {
         -angle
@@ -148,7 +149,7 @@ fn way_round(length: Num, angle: i64) -> i64
 }
 
 fn about(axis: Axis, length: Num, angle: i64) -> Matrix
-    requires { unsigned_abs angle ≤ 10 ^ 12 }
+    requires { unsigned_abs angle ≤ angle_limit }
     ensures { result ≡ about axis length angle }
 {
     turn(axis, way_round(length, angle))
@@ -162,7 +163,7 @@ fn is_zero(n: Num) -> bool
 
 /// The rotation about the one coordinate that isn't 0.
 fn about_axis(angle: i64, p: Triple) -> Result<Matrix, ArgumentFault>
-    requires { unsigned_abs angle ≤ 10 ^ 12 }
+    requires { unsigned_abs angle ≤ angle_limit }
     ensures { result ≡ about_axis angle p }
 {
     let (x, y, z) = p;

@@ -6,7 +6,7 @@ use crate::fault::NumFault;
 use std::marker::Model;
 
 /// The most millionths that a number has, in either direction.
-pub(crate) const MOST: u64 = 1_000_000_000_000_000;
+pub const MOST: u64 = 1_000_000_000_000_000;
 
 /// The millionths of 1.
 pub(crate) const ONE: i64 = 1_000_000;

@@ -18,8 +18,8 @@ mod whole;
 mod wide;
 
 pub use fault::NumFault;
-pub use fixed_point::Num;
-pub use literal::{is_literal, literal_len, parse_decimal};
+pub use fixed_point::{MOST, Num};
+pub use literal::{literal_len, parse_decimal};
 pub use rounding::{half_away, half_up};
 pub use text::NumText;
 pub use wide::{half_away_over, times};

@@ -37,15 +37,6 @@ pub fn literal_len(bytes: &[u8]) -> usize
     }
 }
 
-/// Whether the text is one literal: what `parse_decimal` asks of its caller.
-#[tactic(auto, unfolding(crate::specs::Literal::is_literal))]
-pub fn is_literal(text: &[u8]) -> bool
-    ensures { result ≡ is_literal text.now }
-{
-    let len = literal_len(text);
-    len > 0 && len == text.len()
-}
-
 /// The millionths, rounded half up, that digits before and behind the point write where the point is
 /// then moved by some places to the right or to the left; but 10^15 + 1 where they are more.
 ///

@@ -1,12 +1,11 @@
 //! The text of a number.
-ghost use Rattle.std.specs.Prelude.{◌≡◌, ◌<◌, ◌≤◌, ◌+◌, ℕ, List, [], ◌∷◌, ◌++◌, length, take, OnOk, OnErr};
+ghost use Rattle.std.specs.Prelude.{◌≡◌, ◌<◌, ◌≤◌, ◌+◌, ℕ, List, [], ◌∷◌, ◌++◌, length, take};
 ghost use Rattle.std.specs.Fmt.{decimal};
 ghost use Rattle.scad_num.specs.Number.{one, most};
 ghost use Rattle.scad_num.specs.Text.{decimals_of, fraction_text, size_text, number_text};
 
 use crate::fixed_point::{Num, ONE_PART};
 use itoa::Buffer;
-use std::alloc::AllocError;
 use std::marker::Model;
 
 /// The text of a number, which takes no memory: its bytes, all of them ASCII.
@@ -73,14 +72,6 @@ impl Num {
         }
         push_size(&mut digits, millionths.unsigned_abs());
         digits
-    }
-
-    /// Appends the number's text, or leaves `out` as it is where there is no memory.
-    pub fn write_to(self, out: &mut Vec<u8>) -> Result<(), AllocError>
-        ensures ok { OnOk result (out.new.items ≡ out.old.items ++ number_text self) }
-        ensures err { OnErr result (out.new.items ≡ out.old.items) }
-    {
-        out.extend_from_slice(self.text().as_slice())
     }
 }
 

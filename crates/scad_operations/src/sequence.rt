@@ -10,8 +10,8 @@ use scad_num::Num;
 use scad_value::{Value, copy};
 use std::alloc::{AllocError, Global};
 
-/// The most millionths that a number has, in either direction: `most` of scad_num.
-const MOST: i64 = 1_000_000_000_000_000;
+/// The most millionths that a number has, in either direction.
+const MOST: i64 = scad_num::MOST as i64;
 
 /// Whether a number is past the end of a range.
 fn is_past(n: Num, step: Num, end: Num) -> bool

@@ -59,8 +59,8 @@ pub record Reads {B : Type 0} (rule : Place → List Token → Read B) (old new 
   pub turn : Turn (rule old.end) (standing old) (standing new) b
 
 -- nothing is read
-abbrev pub made : {B : Type 0} → B → Place → List Token → Read B
-made b end ts = Ok (b, ts)
+abbrev pub nothing_read : {B : Type 0} → B → Place → List Token → Read B
+nothing_read b end ts = Ok (b, ts)
 
 abbrev pub failed : Fault → Standing → Standing
 failed fault (Ok ts) = Err fault

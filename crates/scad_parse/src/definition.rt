@@ -8,7 +8,7 @@ ghost use Rattle.scad_parse.specs.Reading.{below, rules_at};
 ghost use Rattle.scad_parse.specs.ReadingStatements.{below_statements, statement_rules_at, scope_seen};
 ghost use Rattle.scad_parse.specs.ReadingStatements.{parameters_seen, heading_seen, heading_read, parameter_of};
 ghost use Rattle.scad_parse.specs.ReadingStatements.{default_of, default_seen};
-ghost use Rattle.scad_parse.specs.Standing.{Reads, made};
+ghost use Rattle.scad_parse.specs.Standing.{Reads, nothing_read};
 
 use crate::expression::{closed, expression};
 use crate::reader::{Open, Reader};
@@ -19,7 +19,7 @@ use scad_lex::Sign;
 
 /// The scope with one more item.
 pub(crate) fn pushed(reader: &mut Reader<'_>, scope: Scope, item: Item) -> Scope
-    ensures { Reads (made (with_item (items scope.items) (item_of item))) reader.old reader.new (scope_seen result) }
+    ensures { Reads (nothing_read (with_item (items scope.items) (item_of item))) reader.old reader.new (scope_seen result) }
 {
     let mut all = scope;
     reader.push_lone(&mut all, item);

@@ -16,7 +16,7 @@ use scad_lex::Tokens;
 use std::alloc::{AllocError, Global};
 
 /// At most so many constructs are open at a token.
-const LIMIT: u32 = 200;
+const MOST_OPEN: u32 = 200;
 
 /// The name of a form that is left out.
 fn name_of(alloc: Global, form: Form) -> Result<Text, AllocError>
@@ -65,7 +65,7 @@ pub fn parse(alloc: Global, tokens: &Tokens) -> Result<Program, ParseFault>
     };
     let mut scope = Scope::new(alloc);
     'statements: while reader.has_more() {
-        scope = statement(&mut reader, true, scope, LIMIT);
+        scope = statement(&mut reader, true, scope, MOST_OPEN);
     }
     match reader.fault {
         None => {

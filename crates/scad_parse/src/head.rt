@@ -4,7 +4,7 @@ ghost use Rattle.std.specs.Prelude.{◌≡◌};
 ghost use Rattle.scad_ast.specs.View.{element_of};
 ghost use Rattle.scad_grammar.specs.Rules.{headed};
 ghost use Rattle.scad_parse.specs.Heads.{head_of};
-ghost use Rattle.scad_parse.specs.Standing.{Reads, made};
+ghost use Rattle.scad_parse.specs.Standing.{Reads, nothing_read};
 
 use crate::node;
 use crate::reader::Reader;
@@ -20,7 +20,7 @@ pub(crate) enum Head {
 
 /// The `for` with this head and this element.
 pub(crate) fn headed(reader: &mut Reader<'_>, at: Place, head: Head, elem: Elem) -> Elem
-    ensures { Reads (made (headed at (head_of head) (element_of elem))) reader.old reader.new (element_of result) }
+    ensures { Reads (nothing_read (headed at (head_of head) (element_of elem))) reader.old reader.new (element_of result) }
 {
     match head {
         Head::All(args) => node::for_each(reader, at, args, elem),

@@ -10,7 +10,7 @@ ghost use Rattle.scad_parse.specs.ReadingStatements.{below_statements, statement
 ghost use Rattle.scad_parse.specs.ReadingStatements.{first_at};
 ghost use Rattle.scad_parse.specs.ReadingStatements.{unmarked_of, other_of, call_at};
 ghost use Rattle.scad_parse.specs.Reading.{rules_at};
-ghost use Rattle.scad_parse.specs.Standing.{Reads, made};
+ghost use Rattle.scad_parse.specs.Standing.{Reads, nothing_read};
 
 use crate::argument::round_arguments;
 use crate::definition::pushed;
@@ -95,7 +95,7 @@ fn run(reader: &mut Reader<'_>, before: Before, room: u32) -> Scope
 
 /// The scope with the statement, which is dropped where it is marked `*`.
 fn kept(reader: &mut Reader<'_>, before: Before, at: Place, body: StmtBody) -> Scope
-    ensures { Reads (made (with_statement (marks_of before.marks) (items before.scope.items)
+    ensures { Reads (nothing_read (with_statement (marks_of before.marks) (items before.scope.items)
         (body_of at before.marks.percent before.marks.hash body))) reader.old reader.new (scope_seen result) }
 {
     let Before { marks, scope } = before;
@@ -117,7 +117,7 @@ fn kept(reader: &mut Reader<'_>, before: Before, at: Place, body: StmtBody) -> S
 
 /// The scope with a call.
 fn called(reader: &mut Reader<'_>, before: Before, word: Word, args: Args, inside: Scope) -> Scope
-    ensures { Reads (made (with_statement (marks_of before.marks) (items before.scope.items)
+    ensures { Reads (nothing_read (with_statement (marks_of before.marks) (items before.scope.items)
         (call_of word.at before.marks.percent before.marks.hash word.name (arguments args.items)
         (items inside.items)))) reader.old reader.new (scope_seen result) }
 {
@@ -138,7 +138,7 @@ fn chosen(
     held: Scope,
     other: Scope,
 ) -> Scope
-    ensures { Reads (made (with_statement (marks_of before.marks) (items before.scope.items)
+    ensures { Reads (nothing_read (with_statement (marks_of before.marks) (items before.scope.items)
         (choice at before.marks.percent before.marks.hash (expression_of test) (items held.items)
         (items other.items)))) reader.old reader.new (scope_seen result) }
 {

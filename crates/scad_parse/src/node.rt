@@ -9,7 +9,7 @@ ghost use Rattle.scad_ast.specs.View.{expression_of, element_of, arguments, elem
 ghost use Rattle.scad_grammar.specs.Behind.{keyed_tree};
 ghost use Rattle.scad_grammar.specs.Lists.{let_of};
 ghost use Rattle.scad_parse.specs.Reading.{keyed};
-ghost use Rattle.scad_parse.specs.Standing.{Reads, made};
+ghost use Rattle.scad_parse.specs.Standing.{Reads, nothing_read};
 
 use crate::reader::Reader;
 use scad_ast::{Args, BinOp, Elem, Elems, Expr, Node, UnOp};
@@ -85,7 +85,7 @@ pub(crate) fn string(alloc: Global, at: Place, chars: &Chars) -> Result<Expr, Al
 }
 
 pub(crate) fn unary(reader: &mut Reader<'_>, at: Place, op: UnOp, e: Expr) -> Expr
-    ensures { Reads (made (unary at op (expression_of e))) reader.old reader.new (expression_of result) }
+    ensures { Reads (nothing_read (unary at op (expression_of e))) reader.old reader.new (expression_of result) }
 {
     let e = reader.boxed(e);
     let Some(e) = e else {
@@ -98,7 +98,7 @@ pub(crate) fn unary(reader: &mut Reader<'_>, at: Place, op: UnOp, e: Expr) -> Ex
 }
 
 pub(crate) fn binary(reader: &mut Reader<'_>, at: Place, op: BinOp, left: Expr, right: Expr) -> Expr
-    ensures { Reads (made (binary at op (expression_of left) (expression_of right))) reader.old reader.new
+    ensures { Reads (nothing_read (binary at op (expression_of left) (expression_of right))) reader.old reader.new
         (expression_of result) }
 {
     let left = reader.boxed(left);
@@ -119,7 +119,7 @@ pub(crate) fn choose(
     chosen: Expr,
     other: Expr,
 ) -> Expr
-    ensures { Reads (made (choose at (expression_of test) (expression_of chosen) (expression_of other))) reader.old
+    ensures { Reads (nothing_read (choose at (expression_of test) (expression_of chosen) (expression_of other))) reader.old
         reader.new (expression_of result) }
 {
     let test = reader.boxed(test);
@@ -135,7 +135,7 @@ pub(crate) fn choose(
 }
 
 pub(crate) fn index(reader: &mut Reader<'_>, at: Place, value: Expr, i: Expr) -> Expr
-    ensures { Reads (made (index at (expression_of value) (expression_of i))) reader.old reader.new
+    ensures { Reads (nothing_read (index at (expression_of value) (expression_of i))) reader.old reader.new
         (expression_of result) }
 {
     let value = reader.boxed(value);
@@ -150,7 +150,7 @@ pub(crate) fn index(reader: &mut Reader<'_>, at: Place, value: Expr, i: Expr) ->
 }
 
 pub(crate) fn member(reader: &mut Reader<'_>, at: Place, value: Expr, name: Text) -> Expr
-    ensures { Reads (made (member at (expression_of value) name)) reader.old reader.new (expression_of result) }
+    ensures { Reads (nothing_read (member at (expression_of value) name)) reader.old reader.new (expression_of result) }
 {
     let value = reader.boxed(value);
     let Some(value) = value else {
@@ -169,7 +169,7 @@ pub(crate) fn bound(
     args: Args,
     body: Expr,
 ) -> Expr
-    ensures { Reads (made (keyed_tree (keyed binder) at (arguments args.items) (expression_of body))) reader.old
+    ensures { Reads (nothing_read (keyed_tree (keyed binder) at (arguments args.items) (expression_of body))) reader.old
         reader.new (expression_of result) }
 {
     let body = reader.boxed(body);
@@ -194,7 +194,7 @@ pub(crate) fn bound(
 
 /// The range from start to end.
 pub(crate) fn range(reader: &mut Reader<'_>, at: Place, start: Expr, last: Expr) -> Expr
-    ensures { Reads (made (range at (expression_of start) (expression_of last))) reader.old reader.new
+    ensures { Reads (nothing_read (range at (expression_of start) (expression_of last))) reader.old reader.new
         (expression_of result) }
 {
     let start = reader.boxed(start);
@@ -216,7 +216,7 @@ pub(crate) fn stepped(
     step: Expr,
     last: Expr,
 ) -> Expr
-    ensures { Reads (made (stepped at (expression_of start) (expression_of step) (expression_of last))) reader.old
+    ensures { Reads (nothing_read (stepped at (expression_of start) (expression_of step) (expression_of last))) reader.old
         reader.new (expression_of result) }
 {
     let start = reader.boxed(start);
@@ -232,7 +232,7 @@ pub(crate) fn stepped(
 }
 
 pub(crate) fn each(reader: &mut Reader<'_>, at: Place, e: Elem) -> Elem
-    ensures { Reads (made (each at (element_of e))) reader.old reader.new (element_of result) }
+    ensures { Reads (nothing_read (each at (element_of e))) reader.old reader.new (element_of result) }
 {
     let e = reader.boxed(e);
     let Some(e) = e else {
@@ -242,7 +242,7 @@ pub(crate) fn each(reader: &mut Reader<'_>, at: Place, e: Elem) -> Elem
 }
 
 pub(crate) fn for_each(reader: &mut Reader<'_>, at: Place, args: Args, e: Elem) -> Elem
-    ensures { Reads (made (for_each at (arguments args.items) (element_of e))) reader.old reader.new
+    ensures { Reads (nothing_read (for_each at (arguments args.items) (element_of e))) reader.old reader.new
         (element_of result) }
 {
     let e = reader.boxed(e);
@@ -260,7 +260,7 @@ pub(crate) fn for_loop(
     step: Args,
     e: Elem,
 ) -> Elem
-    ensures { Reads (made (for_loop at (arguments init.items) (expression_of test) (arguments step.items)
+    ensures { Reads (nothing_read (for_loop at (arguments init.items) (expression_of test) (arguments step.items)
         (element_of e))) reader.old reader.new (element_of result) }
 {
     let e = reader.boxed(e);
@@ -272,7 +272,7 @@ pub(crate) fn for_loop(
 
 /// Behind `let (..)` in a vector: an expression with these bindings, or a comprehension.
 pub(crate) fn let_element(reader: &mut Reader<'_>, at: Place, args: Args, e: Elem) -> Elem
-    ensures { Reads (made (let_of at (arguments args.items) (element_of e))) reader.old reader.new (element_of result) }
+    ensures { Reads (nothing_read (let_of at (arguments args.items) (element_of e))) reader.old reader.new (element_of result) }
 {
     match e {
         Elem::Item(body) => Elem::Item(bound(reader, at, Binder::Let, args, body)),
@@ -286,7 +286,7 @@ pub(crate) fn let_element(reader: &mut Reader<'_>, at: Place, args: Args, e: Ele
 }
 
 pub(crate) fn if_element(reader: &mut Reader<'_>, at: Place, test: Expr, held: Elem) -> Elem
-    ensures { Reads (made (if_element at (expression_of test) (element_of held))) reader.old reader.new
+    ensures { Reads (nothing_read (if_element at (expression_of test) (element_of held))) reader.old reader.new
         (element_of result) }
 {
     let held = reader.boxed(held);
@@ -303,7 +303,7 @@ pub(crate) fn if_else(
     held: Elem,
     other: Elem,
 ) -> Elem
-    ensures { Reads (made (if_else at (expression_of test) (element_of held) (element_of other))) reader.old reader.new
+    ensures { Reads (nothing_read (if_else at (expression_of test) (element_of held) (element_of other))) reader.old reader.new
         (element_of result) }
 {
     let held = reader.boxed(held);

@@ -9,7 +9,7 @@ ghost use Rattle.scad_grammar.specs.Reads.{behind_sign};
 ghost use Rattle.scad_parse.specs.Reading.{place_of, no_value, comma_or, name_before};
 ghost use Rattle.scad_parse.specs.Standing.{Reads, standing, failed, passed, front_of, stands_at, lacks, more_to_come};
 ghost use Rattle.scad_parse.specs.Standing.{Opens, Within, Kept};
-ghost use Rattle.scad_parse.specs.Standing.{made, took, took_at, needed, left_out, word_here, literal_here};
+ghost use Rattle.scad_parse.specs.Standing.{nothing_read, took, took_at, needed, left_out, word_here, literal_here};
 
 use crate::fault::{Fault, Form};
 use crate::front::{
@@ -364,7 +364,7 @@ impl<'p> Reader<'p> {
 
     /// One more member of a list.
     pub(crate) fn push<T: Drop>(&mut self, all: &mut Vec<T>, member: T)
-        ensures { Reads (made (all.old.items ++ (member ∷ []))) self.old self.new all.new.items }
+        ensures { Reads (nothing_read (all.old.items ++ (member ∷ []))) self.old self.new all.new.items }
     {
         match all.push(member) {
             Ok(()) => {}
@@ -374,7 +374,7 @@ impl<'p> Reader<'p> {
 
     /// Room in a list for one more member, and no more than that.
     pub(crate) fn reserve_one<T: Drop>(&mut self, all: &mut Vec<T>)
-        ensures { Reads (made all.old.items) self.old self.new all.new.items }
+        ensures { Reads (nothing_read all.old.items) self.old self.new all.new.items }
     {
         match all.reserve_exact(1) {
             Ok(()) => {}
@@ -384,7 +384,7 @@ impl<'p> Reader<'p> {
 
     /// One more member of a list that mostly has no other, so the first takes memory for itself alone.
     pub(crate) fn push_lone<T: Drop>(&mut self, all: &mut Vec<T>, member: T)
-        ensures { Reads (made (all.old.items ++ (member ∷ []))) self.old self.new all.new.items }
+        ensures { Reads (nothing_read (all.old.items ++ (member ∷ []))) self.old self.new all.new.items }
     {
         if all.is_empty() {
             self.reserve_one(all);

@@ -6,7 +6,6 @@ pub mod SourceReport
 pub mod Inputs
 pub mod Judging
 pub mod Answer
-pub mod Playing
 pub mod Promises
 pub mod Causes
 pub mod Printing
@@ -18,3 +17,4 @@ pub mod Headline
 pub mod Laws
 -- What only the steps of the code promise to one another.
 pub mod View
+pub mod Playing

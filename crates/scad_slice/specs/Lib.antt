@@ -1,7 +1,6 @@
 -- What the public calls promise.
 pub mod Budgets
 pub mod Supports
-pub mod Covers
 pub mod Layer
 pub mod Parts
 pub mod Script
@@ -9,3 +8,4 @@ pub mod Membership
 pub mod Laws
 -- What only the steps of the code promise to one another.
 pub mod LayerEnd
+pub mod Covers

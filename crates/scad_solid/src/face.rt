@@ -23,13 +23,6 @@ impl Face {
         Face { indices }
     }
 
-    /// The indices, without taking memory.
-    pub fn into_vec(self) -> Vec<u32>
-        ensures { result.items ≡ self }
-    {
-        self.indices
-    }
-
     /// The indices.
     pub fn as_slice(&self) -> &[u32]
         ensures { result.now ≡ self.now }

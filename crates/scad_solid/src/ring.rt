@@ -25,13 +25,6 @@ impl Ring {
         Ring { points }
     }
 
-    /// The points, without taking memory.
-    pub fn into_vec(self) -> Vec<Pt3>
-        ensures { result.items ≡ self }
-    {
-        self.points
-    }
-
     /// The points.
     pub fn as_slice(&self) -> &[Pt3]
         ensures { result.now ≡ self.now }

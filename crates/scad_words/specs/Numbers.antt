@@ -20,9 +20,13 @@ if_workers n = if nat_le 1 n && nat_le n worker_limit then Some n else None
 abbrev pub workers_of : List ℕ → Option ℕ
 workers_of text = option_and_then if_workers (number_of 9 text)
 
-abbrev pub if_sample : ℕ → Option ℕ
-if_sample n = if nat_lt n (2 ^ 31) then Some n else None
+-- the number of a sample is below this
+abbrev pub sample_limit : ℕ
+sample_limit = 2 ^ 31
 
--- which sample a text says: a number below 2 ^ 31, in at most ten digits
+abbrev pub if_sample : ℕ → Option ℕ
+if_sample n = if nat_lt n sample_limit then Some n else None
+
+-- which sample a text says: a number below the limit, in at most ten digits
 abbrev pub sample_of : List ℕ → Option ℕ
 sample_of text = option_and_then if_sample (number_of 10 text)

@@ -4,6 +4,9 @@ ghost use Rattle.std.specs.Char.{is_ascii_digit};
 ghost use Rattle.std.specs.List.{list_all};
 ghost use Rattle.scad_words.specs.Numbers.{is_number, number_of, worker_limit, if_workers, workers_of, if_sample, sample_of};
 
+/// The number of a sample is below this.
+const SAMPLE_LIMIT: u64 = 1 << 31;
+
 /// The most workers that are asked for.
 const WORKER_LIMIT: u64 = 64;
 
@@ -36,7 +39,7 @@ pub(crate) fn sample_of(text: &str) -> Option<u32>
 fn if_sample(n: u64) -> Option<u32>
     ensures { result ≡ if_sample n }
 {
-    if n < 2_147_483_648 {
+    if n < SAMPLE_LIMIT {
         Some(n as u32)
     } else {
         None

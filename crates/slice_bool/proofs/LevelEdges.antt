@@ -17,7 +17,7 @@ use Rattle.slice_bundles.specs.Bundles.{no_edge, edge_at, Ascends}
 use Rattle.slice_bundles.specs.Touching.{touches, touching}
 use Rattle.slice_bundles.proofs.Times.{AreStrict, same_counts, times_permuted, filter_permuted}
 use Rattle.slice_bundles.proofs.Choice.{numbers_where, touching_is, StandFrom, stand_from_first, next_from, first_from, filtered, all_where, strict_where}
-use Rattle.slice_bundles.proofs.Standing.{touch_both}
+use Rattle.slice_bundles.proofs.Touching.{touch_both}
 use Rattle.slice_pieces.specs.declared.piece.Spot.{Spot}
 use Rattle.slice_border.specs.Pieces.{is_flat_at, passes_at, edge_spots, spots_at, AreStops, IsOneOf, HasSpot, whole_spot, spot_on}
 use Rattle.slice_bool.specs.Near.{picked, touching_at}

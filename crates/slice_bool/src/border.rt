@@ -10,7 +10,7 @@ ghost use Rattle.slice_border.specs.Pieces.{AreLevelPieces, ArePieces};
 ghost use Rattle.scad_geom.specs.Leaves.{AreLeavesBalanced};
 ghost use Rattle.slice_bundles.specs.Bundles.{edge_at, AreBundles};
 ghost use Rattle.slice_bundles.specs.Touching.{touching};
-ghost use Rattle.slice_bundles.specs.Active.{live_in, bundles_in, IsReadyFor, StandsAt};
+ghost use Rattle.slice_slab.specs.Active.{live_in, bundles_in, IsReadyFor, StandsAt};
 ghost use Rattle.slice_pieces.specs.Pieces.{HaveOneLevel, IsPieceWithin, ArePiecesBalanced};
 ghost use Rattle.slice_pieces.specs.Naming.{AreNamed};
 ghost use Rattle.slice_border.specs.Centre.{AreCentresWound};

@@ -13,7 +13,7 @@ use Rattle.scad_geom.specs.declared.point.Edge.{Edge}
 use Rattle.scad_geom.specs.declared.level.Level.{Level}
 use Rattle.scad_geom.specs.declared.level.LeafEdge.{LeafEdge}
 use Rattle.scad_geom.specs.declared.shape.Shape.{Shape}
-use Rattle.scad_geom.specs.Line.{low, high, rise, run, offset, x_at, left_of}
+use Rattle.scad_geom.specs.Line.{low, high, rise, run, offset, x_at, left_of, heading}
 use Rattle.scad_geom.specs.Winding.{counted}
 use Rattle.scad_geom.specs.Point.{Point, whole}
 use Rattle.scad_geom.specs.Winding.{is_beyond, turn}
@@ -24,7 +24,7 @@ use Rattle.scad_geom.specs.Level.{level_of, IsLower, IsAtMost, IsSameHeight}
 use Rattle.scad_geom.proofs.Ring.{ring, ◌⊕◌, ◌⊖◌, ◌⊗◌, v0, v1, v2, v3, v4, v5, v6, v7}
 use Rattle.scad_geom.proofs.Heights.{lower_then_at_most, at_most_then_lower, at_most_chain, lower_weak, same_at_least}
 use Rattle.scad_geom.proofs.Order.{front, back}
-use Rattle.scad_geom.proofs.Turns.{level_at, Over, NotOver, under_turn, over_turn, heading, reaching_turn, beyond_mul}
+use Rattle.scad_geom.proofs.Turns.{level_at, Over, NotOver, under_turn, over_turn, reaching_turn, beyond_mul}
 use Rattle.slice_pieces.specs.declared.piece.Spot.{Spot}
 use Rattle.slice_border.specs.Pieces.{spot_on, whole_spot, is_flat_at, passes_at, spots_at}
 use Rattle.slice_pieces.specs.Spots.{point_of}

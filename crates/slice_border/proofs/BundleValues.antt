@@ -13,9 +13,9 @@ use Rattle.scad_geom.specs.Shape.{shape_holds}
 use Rattle.scad_geom.specs.Sign.{is_zero}
 use Rattle.scad_geom.proofs.Order.{front, back}
 use Rattle.scad_geom.proofs.Shapes.{nothing_held}
-use Rattle.scad_geom.proofs.Turns.{heading}
+use Rattle.scad_geom.specs.Line.{heading}
 use Rattle.slice_bundles.specs.Bundles.{no_edge, reaches, reaching, AreBundles}
-use Rattle.slice_border.specs.Tally.{heading_of, headings}
+use Rattle.slice_border.specs.Tally.{headings}
 use Rattle.slice_border.specs.Beside.{left_value, AreMembers, RisesFirst}
 use Rattle.scad_geom.proofs.Sums.{sum_z}
 use Rattle.slice_border.proofs.Reaching.{heading_for}
@@ -23,12 +23,11 @@ use Rattle.slice_border.proofs.Passing.{IsLive, live_bundles}
 use Rattle.slice_border.proofs.Values.{value_of}
 
 -- ---- sums of headings
-headings_are : (es : List LeafEdge) (leaf : ℕ) (ks : List ℕ)
+pub headings_are : (es : List LeafEdge) (leaf : ℕ) (ks : List ℕ)
     → headings es leaf ks ≡ sum_z (heading_for es leaf) ks
-unfolding heading
 headings_are es leaf [] = refl
 headings_are es leaf (k ∷ ks) =
-    ap (λ (z : ℤ). (if (get_or es k no_edge).leaf == leaf then heading_of (get_or es k no_edge).edge else pos 0) +ℤ
+    ap (λ (z : ℤ). (if (get_or es k no_edge).leaf == leaf then heading (get_or es k no_edge).edge else pos 0) +ℤ
     z)
     (headings_are es leaf ks)
 

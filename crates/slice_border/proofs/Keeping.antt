@@ -13,9 +13,10 @@ use Rattle.std.proofs.Math.IntN.{+ℤ_comm}
 use Rattle.scad_geom.specs.declared.point.Edge.{Edge}
 use Rattle.scad_geom.specs.declared.shape.Shape.{Shape}
 use Rattle.scad_geom.specs.Sign.{is_zero}
+use Rattle.scad_geom.specs.Line.{heading}
 use Rattle.slice_held.specs.declared.kept_shape.Held.{Held}
 use Rattle.slice_held.specs.Held.{leaf_count, IsReady, Shows, SetsLeaf, with_leaf}
-use Rattle.slice_border.specs.Tally.{IsTally, heading_of}
+use Rattle.slice_border.specs.Tally.{IsTally}
 use Rattle.slice_border.specs.Keeping.{in_by, KeepsUp}
 
 pub same_leaf : (m n : ℕ) → (m == n) ≡ true → m ≡ n
@@ -97,7 +98,7 @@ keeps_first turns shape h z s =
     subst (λ (f : ℕ → Bool). Shows shape f h)
     (fun_ext (λ leaf. sym (ap (λ (z : ℤ). not (is_zero z)) (z leaf)))) s
 
-pub heading_size : (e : Edge) → unsigned_abs (heading_of e) ≤ 1
+pub heading_size : (e : Edge) → unsigned_abs (heading e) ≤ 1
 heading_size e = by_test (int_lt e.b.y e.a.y)
   where
     by_test : (t : Bool) → unsigned_abs (if t then negsuc 0 else pos 1) ≤ 1

@@ -8,7 +8,7 @@ use Rattle.std.proofs.lemmas.List.Elements.{recursion_from_All}
 use Rattle.scad_geom.specs.declared.point.Edge.{Edge}
 use Rattle.scad_geom.specs.declared.level.Level.{Level}
 use Rattle.scad_geom.specs.declared.level.LeafEdge.{LeafEdge}
-use Rattle.scad_geom.specs.Line.{low, high, rise}
+use Rattle.scad_geom.specs.Line.{low, high, rise, heading}
 use Rattle.scad_geom.specs.Point.{Point, whole}
 use Rattle.scad_geom.specs.Winding.{turn}
 use Rattle.scad_geom.proofs.Leaves.{wind_leaf}
@@ -18,7 +18,7 @@ pub use Rattle.slice_border.specs.Beside.{lies_left}
 use Rattle.slice_bundles.specs.Bundles.{no_edge, reaches, reaching}
 use Rattle.scad_geom.proofs.Heights.{Reaches, lower_then_at_most, at_most_then_lower}
 use Rattle.scad_geom.proofs.Order.{all_ends}
-use Rattle.scad_geom.proofs.Turns.{level_at, Over, NotOver, Spans, over_up, not_over_down, heading, reaching_turn, under_turn, over_turn}
+use Rattle.scad_geom.proofs.Turns.{level_at, Over, NotOver, Spans, over_up, not_over_down, reaching_turn, under_turn, over_turn}
 use Rattle.slice_bundles.proofs.Live.{reaches_is}
 use Rattle.scad_geom.proofs.Sums.{sum_z}
 use Rattle.std.proofs.lemmas.Bool.{true≢false}

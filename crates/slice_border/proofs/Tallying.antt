@@ -8,8 +8,9 @@ use Rattle.scad_geom.specs.declared.level.LeafEdge.{LeafEdge}
 use Rattle.scad_geom.specs.declared.shape.Shape.{Shape}
 use Rattle.scad_geom.specs.Shape.{shape_holds}
 use Rattle.scad_geom.specs.Sign.{is_zero}
+use Rattle.scad_geom.specs.Line.{heading}
 use Rattle.slice_bundles.specs.Bundles.{no_edge}
-use Rattle.slice_border.specs.Tally.{IsTally, heading_of, headings}
+use Rattle.slice_border.specs.Tally.{IsTally, headings}
 use Rattle.slice_border.specs.Keeping.{in_by, Tells, AreSmall}
 use Rattle.slice_border.proofs.Keeping.{heading_size}
 use Rattle.slice_border.specs.declared.tally.Tally.{Tally}
@@ -26,7 +27,7 @@ pub headings_append : (es : List LeafEdge) (leaf : ℕ) (ks js : List ℕ)
 headings_append es leaf [] js = nothing_more (headings es leaf js)
 headings_append es leaf (k ∷ ks) js =
     let e : LeafEdge = get_or es k no_edge in
-    let h : ℤ = if e.leaf == leaf then heading_of e.edge else pos 0 in
+    let h : ℤ = if e.leaf == leaf then heading e.edge else pos 0 in
     ap (λ (z : ℤ). h +ℤ z) (headings_append es leaf ks js) ∙ regroup h (headings es leaf ks) (headings es leaf js)
 
 one_size : (t : Bool) (z rest : ℤ) (n : ℕ) → unsigned_abs z ≤ 1 → unsigned_abs rest ≤ n
@@ -38,7 +39,7 @@ headings_size : (es : List LeafEdge) (leaf : ℕ) (ks : List ℕ) → unsigned_a
 headings_size es leaf [] = omega arith
 headings_size es leaf (k ∷ ks) =
     let e : LeafEdge = get_or es k no_edge in
-    one_size (e.leaf == leaf) (heading_of e.edge) (headings es leaf ks) (length ks) (heading_size e.edge)
+    one_size (e.leaf == leaf) (heading e.edge) (headings es leaf ks) (length ks) (heading_size e.edge)
     (headings_size es leaf ks)
 
 size_by : (z w : ℤ) (n : ℕ) → z ≡ w → unsigned_abs w ≤ n → unsigned_abs z ≤ n

@@ -2,8 +2,9 @@
 ghost use Rattle.std.specs.Prelude.{◌≡◌, ◌<◌, ◌≤◌, ◌==◌, ◌^◌, ◌++◌, [], ◌+ℤ◌, ◌-ℤ◌, neg_ℤ, pos, ℕ, List, length, slice_index_or, vec_len, unsigned_abs, if◌then◌else◌, IfOk, All};
 ghost use Rattle.scad_geom.specs.declared.level.LeafEdge.{LeafEdge};
 ghost use Rattle.scad_geom.specs.declared.shape.Shape.{Shape};
+ghost use Rattle.scad_geom.specs.Line.{heading};
 ghost use Rattle.slice_held.specs.Held.{IsReady, leaf_count};
-ghost use Rattle.slice_border.specs.Tally.{IsTally, is_held, heading_of, headings};
+ghost use Rattle.slice_border.specs.Tally.{IsTally, is_held, headings};
 ghost use Rattle.slice_border.specs.Keeping.{in_by, KeepsUp, IsKept, Tells, AreSmall};
 
 use scad_geom::whole::plus;
@@ -90,7 +91,7 @@ fn add_edge(turns: &mut Vec<i64>, held: &mut Held, e: &LeafEdge)
     requires ready { IsReady held.old }
     requires size { leaf_count held.old ≡ vec_len turns.old }
     ensures turns { IsTally turns.new.items (λ k. slice_index_or turns.old.items k (pos 0)
-        +ℤ (if e.now.leaf == k then heading_of e.now.edge else pos 0)) }
+        +ℤ (if e.now.leaf == k then heading e.now.edge else pos 0)) }
     ensures len { vec_len turns.new ≡ vec_len turns.old }
     ensures held { KeepsUp turns.old.items turns.new.items held.old held.new }
 {
@@ -104,7 +105,7 @@ fn take_edge(turns: &mut Vec<i64>, held: &mut Held, e: &LeafEdge)
     requires ready { IsReady held.old }
     requires size { leaf_count held.old ≡ vec_len turns.old }
     ensures turns { IsTally turns.new.items (λ k. slice_index_or turns.old.items k (pos 0)
-        -ℤ (if e.now.leaf == k then heading_of e.now.edge else pos 0)) }
+        -ℤ (if e.now.leaf == k then heading e.now.edge else pos 0)) }
     ensures len { vec_len turns.new ≡ vec_len turns.old }
     ensures held { KeepsUp turns.old.items turns.new.items held.old held.new }
 {
@@ -152,14 +153,14 @@ fn is_inside(turns: &[i64], leaf: u32) -> bool
 }
 
 fn heading(e: &Edge) -> i64
-    ensures value { result ≡ heading_of e.now }
+    ensures value { result ≡ heading e.now }
     ensures size { unsigned_abs result ≤ 1 }
 {
     if e.b.y < e.a.y { -1 } else { 1 }
 }
 
 fn heading_back(e: &Edge) -> i64
-    ensures value { result ≡ neg_ℤ (heading_of e.now) }
+    ensures value { result ≡ neg_ℤ (heading e.now) }
     ensures size { unsigned_abs result ≤ 1 }
 {
     if e.b.y < e.a.y { 1 } else { -1 }

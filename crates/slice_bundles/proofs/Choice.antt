@@ -8,7 +8,7 @@ use Rattle.scad_geom.specs.declared.level.LeafEdge.{LeafEdge}
 use Rattle.slice_bundles.specs.Bundles.{no_edge, edge_at, reaches, reaching}
 use Rattle.slice_bundles.specs.Touching.{touches, touching}
 use Rattle.slice_bundles.specs.Starts.{numbers_from}
-use Rattle.slice_bundles.specs.Active.{times}
+use Rattle.slice_bundles.specs.Times.{times}
 use Rattle.slice_bundles.proofs.Times.{times_here, times_other, other_number, AreStrict, standing}
 
 -- the numbers of the edges that pass a test, counted from the first number on

@@ -1,5 +1,3 @@
-pub mod Ranking
-pub mod Steps
 pub mod Bundling
 pub mod Live
 pub mod Loops
@@ -7,4 +5,5 @@ pub mod KeptOrder
 pub mod Times
 pub mod Choice
 pub mod Beginning
-pub mod Standing
+pub mod Touching
+pub mod CoverHeight

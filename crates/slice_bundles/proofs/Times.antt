@@ -7,7 +7,7 @@ use Rattle.std.proofs.lemmas.List.Sums.{sum_by-cons}
 use Rattle.std.proofs.lemmas.List.Sorted.{sum_by-IsPermutation, IsPermutation-refl, IsPermutation-sym, IsPermutation-trans, IsPermutation-cons, IsPermutation-middle}
 use Rattle.std.proofs.lemmas.List.Elements.{recursion_from_All}
 use Rattle.slice_bundles.specs.Bundles.{Ascends}
-use Rattle.slice_bundles.specs.Active.{times}
+use Rattle.slice_bundles.specs.Times.{times}
 
 pub same_number : (m n : ℕ) → (m == n) ≡ true → m ≡ n
 same_number m n e = grind arith

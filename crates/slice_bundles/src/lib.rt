@@ -1,22 +1,13 @@
-//! The edges between two neighbouring heights, from left to right, and those that meet a height as it rises.
+//! The edges between two neighbouring heights in bundles, from left to right, as a definition with its law, and those
+//! that meet a height; the bundle that the crates above make.
 //!
-//! The contracts promise the edges that reach both heights in the order that they keep from the lower to the upper
-//! one, with those that coincide in one bundle, and exactly the edges that meet the height.
+//! The law promises that bundles ordered at the lower height keep their order up to the upper one.
 #![tactic(auto, using(scad_geom::proofs::Casts::casts))]
 
 mod bundle;
-mod collect;
-mod group;
 pub mod laws;
-mod lifting;
-mod lower_ends;
 mod numbers;
-mod order;
-mod passage;
-mod rising_edges;
-mod slab_bundles;
 mod start;
 
 pub use bundle::Bundle;
-pub use rising_edges::Active;
-pub use slab_bundles::slab;
+pub use start::Start;

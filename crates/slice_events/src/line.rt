@@ -1,6 +1,6 @@
 //! The line of an edge, found once, in numbers of 64 bits.
 ghost use Rattle.std.specs.Prelude.{◌≡◌, ◌+◌, ◌*◌, ◌^◌, ◌<◌, ◌≤◌, unsigned_abs, pos, ◌*ℤ◌};
-ghost use Rattle.scad_geom.specs.Limits.{coordinate_limit};
+ghost use Rattle.scad_geom.specs.Limits.{coordinate_limit, divisor_limit};
 ghost use Rattle.scad_geom.specs.Within.{IsWithin, IsEdgeWithin};
 ghost use Rattle.scad_geom.specs.Line.{low, high, rise, run, offset, left_of, lean, apart};
 ghost use Rattle.slice_events.specs.Reading.{IsRead};
@@ -107,7 +107,7 @@ impl Line {
     #[tactic(auto, using(scad_geom::proofs::Casts::casts), unfolding(scad_geom::specs::Line::lean))]
     pub(crate) fn lean(&self, f: &Line) -> i64
         ensures value { result ≡ lean self.now.edge f.now.edge }
-        ensures size { unsigned_abs result ≤ 10 ^ 13 }
+        ensures size { unsigned_abs result ≤ divisor_limit }
     {
         whole::minus(area(self.run, f.rise), area(f.run, self.rise))
     }

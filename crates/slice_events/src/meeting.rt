@@ -1,6 +1,6 @@
 //! Where two edges meet.
-ghost use Rattle.std.specs.Prelude.{◌≡◌, ◌+◌, ◌*◌, ◌^◌, ◌<◌, ◌≤◌, ◌&&◌, ◌||◌, not, pos, int_le, true, unsigned_abs};
-ghost use Rattle.scad_geom.specs.Limits.{coordinate_limit};
+ghost use Rattle.std.specs.Prelude.{◌≡◌, ◌+◌, ◌*◌, ◌<◌, ◌≤◌, ◌&&◌, ◌||◌, not, pos, int_le, true, unsigned_abs};
+ghost use Rattle.scad_geom.specs.Limits.{coordinate_limit, divisor_limit};
 ghost use Rattle.scad_geom.specs.Within.{IsWithin, IsEdgeWithin};
 ghost use Rattle.scad_geom.specs.Line.{low, high, rise, left_of, lean, apart};
 ghost use Rattle.scad_geom.specs.Sign.{is_zero};
@@ -104,7 +104,7 @@ pub(crate) fn meeting(e: &Line, f: &Line) -> Level
 #[tactic(auto, using(scad_geom::proofs::Casts::casts), unfolding(scad_geom::specs::Meeting::meeting))]
 fn level_of_lines(e: &Line, f: &Line) -> Level
     ensures value { result ≡ meeting e.now.edge f.now.edge }
-    ensures divisor { unsigned_abs (lean e.now.edge f.now.edge) ≤ 10 ^ 13 }
+    ensures divisor { unsigned_abs (lean e.now.edge f.now.edge) ≤ divisor_limit }
 {
     let (lean, apart) = (e.lean(f) as i128, e.apart(f));
     if lean > 0 {

@@ -1,5 +1,3 @@
--- What the public calls promise.
-
 -- What only the steps of the code promise to one another.
 pub mod Marks
 pub mod Passing

@@ -17,11 +17,11 @@ use Rattle.scad_geom.specs.Heights.{AreNeighbours}
 use Rattle.scad_geom.proofs.Heights.{at_most_chain, lower_weak, lower_chain}
 use Rattle.scad_geom.proofs.Order.{aligned_all, before_between}
 use Rattle.slice_bundles.specs.declared.start.Start.{Start}
-use Rattle.slice_bundles.specs.Active.{times}
+use Rattle.slice_bundles.specs.Times.{times}
 use Rattle.slice_bundles.specs.Bundles.{no_edge, edge_at, reaches, reaching, IsBundle, Precedes, AreRanked, AreBundles}
 use Rattle.slice_bundles.specs.Starts.{AreRising, IsStartOf, numbers_of, all_numbers, begun_at, pending_at}
 use Rattle.slice_bundles.specs.Touching.{touches}
-use Rattle.slice_bundles.proofs.Standing.{none_live}
+use Rattle.slice_bundles.proofs.CoverHeight.{none_live}
 use Rattle.std.proofs.lemmas.List.Elements.{All-from_recursion}
 use Rattle.slice_bundles.proofs.Live.{reaches_is}
 use Rattle.slice_bundles.proofs.Bundling.{before_chain}

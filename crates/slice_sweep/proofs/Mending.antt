@@ -19,12 +19,12 @@ use Rattle.scad_geom.specs.Level.{IsLower, IsLevelWithin}
 use Rattle.scad_geom.specs.EdgeOrder.{IsBefore, AreAligned}
 use Rattle.scad_geom.proofs.Heights.{lower_same, same_lower, same_chain, lower_chain}
 use Rattle.scad_geom.proofs.Order.{front, back, aligned_all}
-use Rattle.slice_bundles.specs.Active.{times}
+use Rattle.slice_bundles.specs.Times.{times}
 use Rattle.slice_bundles.specs.Bundles.{edge_at, reaches, IsBundle, AreRanked}
 use Rattle.slice_bundles.specs.KeptOrder.{IsLeftAt, IsNotRightAt, IsSamePlaceAt, AllStand}
 use Rattle.slice_bundles.specs.Touching.{touches}
 use Rattle.slice_bundles.proofs.Live.{reaches_is}
-use Rattle.slice_bundles.proofs.Standing.{reaches_touches}
+use Rattle.slice_bundles.proofs.Touching.{reaches_touches}
 use Rattle.slice_bundles.proofs.Times.{times_permuted, times_kept}
 use Rattle.slice_sweep.specs.declared.strand.Strand.{Strand}
 use Rattle.slice_sweep.specs.Keys.{stale}

@@ -13,7 +13,7 @@ use Rattle.scad_geom.specs.declared.level.LeafEdge.{LeafEdge}
 use Rattle.scad_geom.specs.EdgeOrder.{IsBefore, AreAligned}
 use Rattle.slice_bundles.specs.Bundles.{edge_at, Precedes, AreRanked}
 use Rattle.slice_bundles.specs.KeptOrder.{IsSamePlaceAt, AllStand}
-use Rattle.slice_bundles.specs.Passages.{joined}
+use Rattle.slice_bundles.specs.Joined.{joined}
 use Rattle.slice_bundles.proofs.Bundling.{aligned_chain, aligned_before, before_chain, Rises, HeadRises}
 use Rattle.slice_sweep.specs.declared.ray.Ray.{Ray}
 use Rattle.slice_sweep.specs.Rays.{IsRayOf, numbers_of, is_parallel, bundles_of, AreSorted}

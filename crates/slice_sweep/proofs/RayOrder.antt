@@ -7,11 +7,15 @@ use Rattle.std.specs.Prelude.{nat_lt}
 use Rattle.std.specs.Cmp.{IsStrictWeakOrder}
 use Rattle.std.specs.List.Sorted.{IsSortedBy}
 use Rattle.std.proofs.lemmas.Int.{ints}
+use Rattle.scad_base.proofs.Tests.{is_lt-int_cmp}
 use Rattle.scad_geom.specs.declared.level.Level.{Level}
 use Rattle.scad_geom.specs.Level.{IsAtMost}
 use Rattle.scad_geom.proofs.Heights.{at_most_chain}
 use Rattle.slice_sweep.specs.declared.ray.Ray.{Ray}
 use Rattle.slice_sweep.specs.Rays.{leans_left, comes_first, AreSorted}
+
+-- what a comparison says of the test that it decides
+pub ruleset cmp_tests = (is_lt-int_cmp)
 
 lean_order : IsStrictWeakOrder leans_left
 lean_order = record {

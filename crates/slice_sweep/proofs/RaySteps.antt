@@ -1,7 +1,7 @@
 -- The steps of the loop that puts rays into bundles.
 use Rattle.std.proofs.Common.{◌≡◌, ℕ, zero, suc, ◌+◌, ◌<◌, Bool, true, false, not, List, [], ◌∷◌, ◌++◌, length, get_or, drop, refl, sym, ap, ◌∙◌, arith, add-one, append_assoc}
 use Rattle.std.specs.Prelude.{if◌then◌else◌}
-use Rattle.slice_bundles.specs.Passages.{joined, prefixed}
+use Rattle.slice_bundles.specs.Joined.{joined, prefixed}
 use Rattle.slice_sweep.specs.declared.ray.Ray.{Ray}
 use Rattle.slice_sweep.specs.Rays.{is_parallel, bundles_of, ends_bundle}
 

@@ -9,7 +9,7 @@ use Rattle.scad_geom.specs.declared.level.Level.{Level}
 use Rattle.scad_geom.specs.declared.level.LeafEdge.{LeafEdge}
 use Rattle.scad_geom.specs.Level.{IsLevelWithin}
 use Rattle.scad_geom.proofs.Order.{front, back}
-use Rattle.slice_bundles.specs.Active.{times}
+use Rattle.slice_bundles.specs.Times.{times}
 use Rattle.slice_bundles.proofs.Times.{times-append}
 use Rattle.slice_bundles.specs.Bundles.{edge_at}
 use Rattle.slice_bundles.specs.KeptOrder.{IsLeftAt, IsNotRightAt}

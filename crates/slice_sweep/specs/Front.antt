@@ -8,7 +8,7 @@ use Rattle.scad_geom.specs.Level.{level_of, IsLower, IsAtMost}
 use Rattle.slice_bundles.specs.declared.start.Start.{Start}
 use Rattle.slice_bundles.specs.Bundles.{edge_at, reaches}
 use Rattle.slice_bundles.specs.Starts.{AreStarts, AreRising, numbers_of}
-use Rattle.slice_bundles.specs.Active.{times}
+use Rattle.slice_bundles.specs.Times.{times}
 use Rattle.slice_sweep.specs.declared.front.Front.{Front}
 use Rattle.slice_sweep.specs.LowerEnds.{starts_of}
 use Rattle.slice_sweep.specs.Strands.{bundles_of, numbers_in, AreWaiting}

@@ -4,7 +4,7 @@ use Rattle.std.specs.Ordering.{int_eq}
 use Rattle.scad_geom.specs.declared.level.LeafEdge.{LeafEdge}
 use Rattle.scad_geom.specs.Line.{rise, run}
 use Rattle.slice_bundles.specs.Bundles.{edge_at}
-use Rattle.slice_bundles.specs.Passages.{joined}
+use Rattle.slice_bundles.specs.Joined.{joined}
 use Rattle.slice_sweep.specs.declared.ray.Ray.{Ray}
 
 -- the ray of an edge

@@ -17,7 +17,7 @@ pub(crate) fn sort(rays: &mut Vec<Ray>) -> Result<(), AllocError>
     rays.sort_by(compare)
 }
 
-#[tactic(auto, using(scad_geom::proofs::Casts::casts, slice_bundles::proofs::Ranking::cmp_tests))]
+#[tactic(auto, using(scad_geom::proofs::Casts::casts, crate::proofs::RayOrder::cmp_tests))]
 fn compare(p: &Ray, q: &Ray) -> Ordering
     ensures { is_lt result ≡ comes_first p.now q.now }
 {

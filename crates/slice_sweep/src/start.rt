@@ -3,7 +3,7 @@ ghost use Rattle.std.specs.Prelude.{◌≡◌, ◌<◌, ◌≤◌, ◌+◌, ◌^
 ghost use Rattle.scad_geom.specs.Limits.{coordinate_limit};
 ghost use Rattle.scad_geom.specs.Within.{IsEdgeWithin};
 ghost use Rattle.scad_geom.specs.Level.{IsLevelWithin};
-ghost use Rattle.slice_bundles.specs.Active.{times};
+ghost use Rattle.slice_bundles.specs.Times.{times};
 ghost use Rattle.slice_bundles.specs.Bundles.{edge_at, reaches};
 ghost use Rattle.std.specs.List.{AllByRecursion};
 ghost use Rattle.slice_sweep.specs.Strands.{bundles_of, numbers_in, fresh, AreWaiting, IsReaching};

@@ -15,7 +15,7 @@ use crate::fault::WorkFault;
 use crate::layer_lines::send_layer;
 use crate::layer_work::LayerWork;
 use crate::print::Print;
-use crate::round::{ROUND, Round, work_round};
+use crate::round::{ROUND_LIMIT, Round, work_round};
 use crate::round_layers::{budget_of, layout_of};
 use crate::summary::Summary;
 use crate::sums::Sums;
@@ -54,7 +54,7 @@ pub fn work<R: Threads + Sync, W: LayerWork, D: Desk>(
     let mut sums = Sums::NONE;
     let mut first = 0;
     'rounds: while first < count {
-        let size = ROUND.min(count - first);
+        let size = ROUND_LIMIT.min(count - first);
         let round = work_round(rt, alloc, first, size, print.workers, work)?;
         sums = send_round(alloc, print.want, &rates, &round, sums, desk)?;
         first += size;

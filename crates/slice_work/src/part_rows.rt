@@ -12,7 +12,7 @@ ghost use Rattle.slice_work.specs.Rounds.{IsWhole};
 ghost use Rattle.slice_work.specs.Survey.{AddsRows, AreSurveyed, IsLeastOver};
 
 use crate::layer_work::LayerWork;
-use crate::round::{ROUND, Round, work_round};
+use crate::round::{ROUND_LIMIT, Round, work_round};
 use crate::round_layers::{budget_of, layout_of};
 use crate::survey_fault::SurveyFault;
 use plan_support::{Rows, spans};
@@ -45,7 +45,7 @@ pub fn survey<R: Threads + Sync, W: LayerWork>(
     let mut all = Vec::new(alloc);
     let mut first = 0;
     'rounds: while first < count {
-        let size = ROUND.min(count - first);
+        let size = ROUND_LIMIT.min(count - first);
         let round = work_round(rt, alloc, first, size, workers, work)?;
         push_round(alloc, &mut all, &round, spacing)?;
         first += size;

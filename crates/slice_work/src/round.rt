@@ -13,7 +13,7 @@ use std::alloc::{AllocError, Global};
 use std::thread::Threads;
 
 /// The most layers of a round.
-pub const ROUND: u32 = 64;
+pub const ROUND_LIMIT: u32 = 64;
 
 /// So many layers from the first one on, and what those ended with that weren't skipped. The least number in the
 /// round of a layer that passes a budget is their number where none does.

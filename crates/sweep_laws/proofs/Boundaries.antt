@@ -31,7 +31,7 @@ use Rattle.sweep_laws.specs.Staying.{IsUncovered}
 use Rattle.sweep_laws.specs.Stops.{AreMet}
 use Rattle.sweep_laws.specs.Balance.{AreBoundariesBalanced, BoundariesAreBalanced, StayingValues, HeadingsAdd}
 use Rattle.sweep_laws.proofs.Balance.{CountsBeside, counts_below, counts_above, headings_beside}
-use Rattle.sweep_laws.proofs.WindingCount.{headings_are}
+use Rattle.slice_border.proofs.BundleValues.{headings_are}
 use Rattle.sweep_laws.proofs.FlatPieces.{HasSide, next_side, passed_at, past_all}
 use Rattle.sweep_laws.proofs.LevelPieces.{gathered_below, gathered_above}
 use Rattle.sweep_laws.proofs.Lifting.{firsts}

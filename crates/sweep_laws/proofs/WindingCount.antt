@@ -2,7 +2,7 @@
 -- in the bundles that lie to the right.
 use Rattle.std.proofs.Common.{◌≡◌, ℕ, Bool, true, false, List, [], ◌∷◌, ◌++◌, refl, sym, ap, ap₂, ◌∙◌}
 use lib.IntN.{ℤ, pos, ◌+ℤ◌, +ℤ_idl}
-use Rattle.std.specs.Prelude.{if◌then◌else◌, ◌==◌, slice_index_or}
+use Rattle.std.specs.Prelude.{if◌then◌else◌}
 use Rattle.std.specs.List.{AllByRecursion, concat}
 use Rattle.scad_geom.specs.declared.level.Level.{Level}
 use Rattle.scad_geom.specs.declared.level.LeafEdge.{LeafEdge}
@@ -11,19 +11,12 @@ use Rattle.scad_geom.specs.EdgeOrder.{AreAligned}
 use Rattle.scad_geom.proofs.Leaves.{wind_leaf}
 use Rattle.scad_geom.proofs.Order.{front, back}
 use Rattle.scad_geom.proofs.Sums.{sum_z, sum_z-append, sum_z-permutation}
-use Rattle.scad_geom.proofs.Turns.{heading}
 use Rattle.slice_bundles.specs.Bundles.{no_edge, edge_at, reaching, IsBundle, AreRanked, AreBundles}
-use Rattle.slice_border.specs.Tally.{heading_of, headings}
+use Rattle.slice_border.specs.Tally.{headings}
 use Rattle.slice_border.proofs.Reaching.{heading_for, lies_left, wind_reaching}
 use Rattle.slice_border.proofs.Passing.{IsLive, live_bundles, same_side, passing, HeadPasses, Around}
+use Rattle.slice_border.proofs.BundleValues.{headings_are}
 use Rattle.slice_border.proofs.Values.{heading_beyond, all_pass}
-
-pub headings_are : (es : List LeafEdge) (leaf : ℕ) (ks : List ℕ) → headings es leaf ks ≡ sum_z (heading_for es leaf) ks
-unfolding heading
-headings_are es leaf [] = refl
-headings_are es leaf (k ∷ ks) =
-    ap (λ (z : ℤ). (if (slice_index_or es k no_edge).leaf == leaf then heading_of (slice_index_or es k no_edge).edge
-    else pos 0) +ℤ z) (headings_are es leaf ks)
 
 -- edges that lie on one side count there or not at all
 on_side : (es : List LeafEdge) (right : Bool) (p : Point) (leaf : ℕ) (b : Bool) (ks : List ℕ)

@@ -92,24 +92,24 @@ module _ (s u : ℕ) where
       by_test false q = inr (edge_is_clear s u some_half.0 some_sum.0 some_half.1 some_sum.1 (pos 2 *ℤ p.x)
           (pos 2 *ℤ p.y) e q)
 
-  abbrev IsNear : Edge → Edge → Type 0
-  IsNear e f = ComeNear Closed (octagon (pos s) (pos u)) (whole e.a) (whole e.b) (whole f.a) (whole f.b)
+  abbrev AreNear : Edge → Edge → Type 0
+  AreNear e f = ComeNear Closed (octagon (pos s) (pos u)) (whole e.a) (whole e.b) (whole f.a) (whole f.b)
 
   abbrev IsApart : Edge → Edge → Type 0
   IsApart e f = AreApart Closed (octagon (pos s) (pos u)) (whole e.a) (whole e.b) (whole f.a) (whole f.b)
 
-  near_at_this : (e f : Edge) → MeetsEnd e.a f ⊎ MeetsEnd e.b f → IsNear e f
+  near_at_this : (e f : Edge) → MeetsEnd e.a f ⊎ MeetsEnd e.b f → AreNear e f
   near_at_this e f m = near_at_end (pos s) (pos u) e.a e.b f.a f.b m
 
-  near_at_other : (e f : Edge) → MeetsEnd f.a e ⊎ MeetsEnd f.b e → IsNear e f
+  near_at_other : (e f : Edge) → MeetsEnd f.a e ⊎ MeetsEnd f.b e → AreNear e f
   near_at_other e f m = come_near_back (pos s) (pos u) (whole e.a) (whole e.b) (whole f.a) (whole f.b)
       (near_at_end (pos s) (pos u) f.a f.b e.a e.b m)
 
-  near_or_apart : (e f : Edge) → IsNear e f ⊎ IsApart e f
+  near_or_apart : (e f : Edge) → AreNear e f ⊎ IsApart e f
   near_or_apart e f = by_ends (at_end e.a f) (at_end e.b f) (at_end f.a e) (at_end f.b e)
     where
       by_lines : ClearOfEnd e.a f → ClearOfEnd e.b f → ClearOfEnd f.a e → ClearOfEnd f.b e → (t : Bool)
-          → crosses e f ≡ t → IsNear e f ⊎ IsApart e f
+          → crosses e f ≡ t → AreNear e f ⊎ IsApart e f
       by_lines first second third fourth true q =
           inl (near_if_cross (pos s) (pos u)
           (octagon_holds_origin (pos s) (pos u) (omega (arith, ints)) (omega (arith, ints))) e f q)
@@ -119,7 +119,7 @@ module _ (s u : ℕ) where
           (record { first = first; second = second; third = third; fourth = fourth }) q)
 
       by_ends : MeetsEnd e.a f ⊎ ClearOfEnd e.a f → MeetsEnd e.b f ⊎ ClearOfEnd e.b f
-          → MeetsEnd f.a e ⊎ ClearOfEnd f.a e → MeetsEnd f.b e ⊎ ClearOfEnd f.b e → IsNear e f ⊎ IsApart e f
+          → MeetsEnd f.a e ⊎ ClearOfEnd f.a e → MeetsEnd f.b e ⊎ ClearOfEnd f.b e → AreNear e f ⊎ IsApart e f
       by_ends (inl m) second third fourth = inl (near_at_this e f (inl m))
       by_ends (inr a) (inl m) third fourth = inl (near_at_this e f (inr m))
       by_ends (inr a) (inr b) (inl m) fourth = inl (near_at_other e f (inl m))
@@ -164,7 +164,7 @@ module _ (width : ℕ) (is_width : IsWidth width) where
   keeps_or_not : (outlines : List (List Pt)) (line : Edge)
       → IsDecided (KeepsClear (flat_map sides outlines) (width / 2) line)
   keeps_or_not outlines line =
-      by_sides (some_or_all (IsNear h u line) (IsApart h u line) (near_or_apart h u line) es)
+      by_sides (some_or_all (AreNear h u line) (IsApart h u line) (near_or_apart h u line) es)
     where
       es : List Edge
       es = flat_map sides outlines
@@ -189,7 +189,7 @@ module _ (width : ℕ) (is_width : IsWidth width) where
       by_wind all (inl none) = inr (not_kept_out es c line none)
       by_wind all (inr some) = inl (kept_if es c h u line one two refl refl (sides_balanced outlines) all some)
 
-      by_sides : Any (IsNear h u line) es ⊎ All (IsApart h u line) es → IsDecided (KeepsClear es c line)
+      by_sides : Any (AreNear h u line) es ⊎ All (IsApart h u line) es → IsDecided (KeepsClear es c line)
       by_sides (inl near) = inr (not_kept_near es c h u line one two refl refl near)
       by_sides (inr all) = by_wind all (zero_or_not (wind (meant Whole line.a) (segments es)))
 

@@ -18,7 +18,7 @@ use Rattle.scad_ast.specs.View.{arguments}
 use Rattle.scad_ast.specs.declared.expression.Arg.{Arg}
 use Rattle.scad_parse.specs.declared.reader.Reader.{Reader}
 use Rattle.scad_parse.specs.Reading.{below, behind, argument_of, argument_seen, comma_or, no_value}
-use Rattle.scad_parse.specs.Standing.{Reads, Turn, standing, made, lacks}
+use Rattle.scad_parse.specs.Standing.{Reads, Turn, standing, nothing_read, lacks}
 use Rattle.scad_parse.proofs.loops.Going.{Going, going_begins, going_on, going_ends, fewer_to_come, more_arguments}
 use Rattle.scad_parse.proofs.loops.Going.{last_argument}
 use Rattle.scad_parse.proofs.loops.Pushes.{arguments_push}
@@ -165,7 +165,7 @@ arguments_begin room q items none =
 module _ (room : ℕ) {q r r1 r2 r3 : Reader} (items after : List Arg) (x : Arg) (g : ArgumentsGo room q r items)
     (more : lacks ends_arguments (standing r) ≡ true)
     (read : Reads (λ e ts. argument_of e (below e room) ts) r r1 (argument_seen x))
-    (push : Reads (made (items ++ (x ∷ []))) r1 r2 after)
+    (push : Reads (nothing_read (items ++ (x ∷ []))) r1 r2 after)
     (comma : Reads (λ e ts. comma_or ends_arguments e no_value ts) r2 r3 no_value) where
   abbrev read_here : Turn (argument_of q.end (below q.end room)) (standing r) (standing r1) (argument_seen x)
   read_here =

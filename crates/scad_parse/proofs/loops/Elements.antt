@@ -17,7 +17,7 @@ use Rattle.scad_ast.specs.View.{elements, element_of}
 use Rattle.scad_ast.specs.declared.expression.Elem.{Elem}
 use Rattle.scad_parse.specs.declared.reader.Reader.{Reader}
 use Rattle.scad_parse.specs.Reading.{below, behind, place_of, comma_or, no_value}
-use Rattle.scad_parse.specs.Standing.{Standing, Reads, Turn, Given, standing, made, lacks, stands_at, passed}
+use Rattle.scad_parse.specs.Standing.{Standing, Reads, Turn, Given, standing, nothing_read, lacks, stands_at, passed}
 use Rattle.scad_parse.proofs.loops.Going.{Going, going_begins, going_on, going_ends, fewer_to_come, more_sign}
 use Rattle.scad_parse.proofs.loops.Going.{last_sign, stands_sign, turn_passed}
 use Rattle.scad_parse.proofs.loops.Pushes.{elements_push}
@@ -166,7 +166,7 @@ module _ (room : ℕ) (at : Place) {q r r1 : Reader} (items : List Elem) where
       (more : lacks (is_sign CloseSquare) (standing r) ≡ true)
       (read : Reads (λ e ts. elem_of e (below e room) ts) r r1 (element_of x))
       (colon : stands_at (is_sign Colon) (standing r1) ≡ false)
-      (push : Reads (made (items ++ (x ∷ []))) r1 r2 after)
+      (push : Reads (nothing_read (items ++ (x ∷ []))) r1 r2 after)
       (comma : Reads (λ e ts. comma_or (is_sign CloseSquare) e no_value ts) r2 r3 no_value) where
     abbrev read_here : Turn (elem_of q.end (below q.end room)) (standing r) (standing r1) (element_of x)
     read_here = subst (λ e. Turn (elem_of e (below e room)) (standing r) (standing r1) (element_of x)) g.ends read.turn

@@ -18,7 +18,7 @@ use Rattle.scad_grammar.proofs.rules.Fewer.{Leaves, then_leaves, either}
 use Rattle.scad_parse.specs.Reading.{below, rules_at, behind, comma_or, no_value}
 use Rattle.scad_parse.specs.ReadingStatements.{parameter_of, parameter_by, default_of}
 use Rattle.scad_parse.specs.declared.reader.Reader.{Reader}
-use Rattle.scad_parse.specs.Standing.{Reads, Turn, standing, made, lacks, passed}
+use Rattle.scad_parse.specs.Standing.{Reads, Turn, standing, nothing_read, lacks, passed}
 use Rattle.scad_parse.proofs.loops.Going.{Going, going_begins, going_on, going_ends, fewer_to_come, more_sign}
 use Rattle.scad_parse.proofs.loops.Going.{last_sign}
 use Rattle.scad_parse.proofs.loops.Going.{turn_passed}
@@ -165,7 +165,7 @@ parameters_begin room q all none = record {
 module _ (room : ℕ) {q r r1 r2 r3 : Reader} (all after : List Param) (x : Param) (g : ParametersGo room q r all)
     (more : lacks (is_sign CloseRound) (standing r) ≡ true)
     (read : Reads (λ e ts. parameter_of e (below e room) ts) r r1 (parameter x))
-    (push : Reads (made (all ++ (x ∷ []))) r1 r2 after)
+    (push : Reads (nothing_read (all ++ (x ∷ []))) r1 r2 after)
     (comma : Reads (λ e ts. comma_or (is_sign CloseRound) e no_value ts) r2 r3 no_value) where
   abbrev read_here : Turn (parameter_of q.end (below q.end room)) (standing r) (standing r1) (parameter x)
   read_here = subst (λ e. Turn (parameter_of e (below e room)) (standing r) (standing r1) (parameter x)) g.ends

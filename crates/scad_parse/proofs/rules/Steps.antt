@@ -16,7 +16,7 @@ use Rattle.scad_parse.specs.declared.reader.Open.{Open}
 use Rattle.scad_parse.specs.Reading.{no_value, comma_or}
 use Rattle.scad_parse.specs.Standing.{Standing, standing, Given, Turn, Reads, Opens, Within, Kept, stands_at, opened}
 use Rattle.scad_parse.specs.Standing.{open_at}
-use Rattle.scad_parse.specs.Standing.{within, room_in, made, failed, needed, left_out, form_name, took, took_at}
+use Rattle.scad_parse.specs.Standing.{within, room_in, nothing_read, failed, needed, left_out, form_name, took, took_at}
 
 -- ---- one rule behind another
 given_then : {A B : Type 0} (x : Read A) (g : A → List Token → Read B) (s t : Standing) (a : A) (b : B) →
@@ -44,21 +44,21 @@ pub turn_stay : {B : Type 0} (s : Standing) (b : B) → Turn (λ ts. Ok (b, ts))
 turn_stay (Ok ts) b = refl
 turn_stay (Err fault) b = refl
 
-pub stay : {B : Type 0} {r : Reader} {b : B} → Reads (made b) r r b
+pub stay : {B : Type 0} {r : Reader} {b : B} → Reads (nothing_read b) r r b
 stay {r = r} {b} = record { ends = refl; turn = turn_stay (standing r) b }
 
-pub made_as : {B : Type 0} {r : Reader} {a b : B} → b ≡ a → Reads (made a) r r b
+pub made_as : {B : Type 0} {r : Reader} {a b : B} → b ≡ a → Reads (nothing_read a) r r b
 made_as {r = r} {a} same = record {
   ends = refl;
   turn = subst (λ b. Turn (λ ts. Ok (a, ts)) (standing r) (standing r) b) (sym same) (turn_stay (standing r) a);
 }
 
-pub made_same : {B : Type 0} {q r : Reader} {a c b : B} → a ≡ c → Reads (made a) q r b → Reads (made c) q r b
-made_same {q = q} {r} {b = b} same x = subst (λ a. Reads (made a) q r b) same x
+pub made_same : {B : Type 0} {q r : Reader} {a c b : B} → a ≡ c → Reads (nothing_read a) q r b → Reads (nothing_read c) q r b
+made_same {q = q} {r} {b = b} same x = subst (λ a. Reads (nothing_read a) q r b) same x
 
 pub made_then : {A B : Type 0} (g : Place → A → List Token → Read B) {q r s : Reader} {a x : A} {b : B} →
-    Reads (made a) q r x → Reads (λ e. g e x) r s b → Reads (λ e. g e a) q s b
-made_then g {a = a} x y = follows (made a) g x y
+    Reads (nothing_read a) q r x → Reads (λ e. g e x) r s b → Reads (λ e. g e a) q s b
+made_then g {a = a} x y = follows (nothing_read a) g x y
 
 -- what was read is known
 pub taking : {A B : Type 0} (f : Place → List Token → Read A) (g : Place → A → List Token → Read B) {q r s : Reader}
@@ -116,7 +116,7 @@ pub closed_by : {A : Type 0} (sign : SignName) (f : Place → List Token → Rea
     Reads f q r a → Reads (λ e ts. behind_sign e sign ts (λ us. Ok (no_value, us))) r s no_value →
     Reads (λ e ts. then_read (f e ts) (λ x us. behind_sign e sign us (λ vs. Ok (x, vs)))) q s a
 closed_by sign f {a = a} x y = follows f (λ e x us. behind_sign e sign us (λ vs. Ok (x, vs))) x
-    (expected sign (made a) y stay)
+    (expected sign (nothing_read a) y stay)
 
 -- ---- a form that is left out
 pub out : {B : Type 0} (test : Token → Bool) (form : Form) (t : Token) (ts : List Token) (k : List Token → Read B) →
@@ -337,7 +337,7 @@ turn_failed a b (Ok ts) = λ some. absurd (some refl)
 turn_failed a b (Err fault) = refl
 
 pub boxed_some : {T B : Type 0} {found : Option T} {x : T} {q r : Reader} {a b : B} → found ≡ Some x → Kept found q r →
-    b ≡ a → Reads (made a) q r b
+    b ≡ a → Reads (nothing_read a) q r b
 boxed_some {found = found} {x} {q} {r} {a} {b} is k same = record {
   ends = k.ends;
   turn = subst (λ t. Turn (λ ts. Ok (a, ts)) (standing q) t b)
@@ -346,7 +346,7 @@ boxed_some {found = found} {x} {q} {r} {a} {b} is k same = record {
 }
 
 pub boxed_none : {T B : Type 0} {found : Option T} {q r : Reader} {a b : B} → found ≡ None → Kept found q r →
-    Reads (made a) q r b
+    Reads (nothing_read a) q r b
 boxed_none {found = found} {q} {r} {a} {b} is k = record {
   ends = k.ends;
   turn = subst (λ t. Turn (λ ts. Ok (a, ts)) (standing q) t b)

@@ -2,7 +2,7 @@
 use Rattle.std.proofs.Common.{◌≡◌, ℕ, ◌+◌, ◌-◌, ◌<◌, length, pos, arith, subst}
 use Rattle.scad_geom.specs.declared.level.Level.{Level}
 use Rattle.scad_geom.proofs.Heights.{lower_weak}
-use Rattle.slice_bundles.specs.Active.{IsReadyFor as IsActiveFor}
+use Rattle.slice_slab.specs.Active.{IsReadyFor as IsActiveFor}
 use Rattle.slice_sweep.specs.Front.{IsReadyFor}
 use Rattle.slice_border.specs.Levels.{level_at}
 use Rattle.slice_border.proofs.Neighbours.{neighbours_at}

@@ -1,5 +1,5 @@
 use Rattle.std.proofs.Common.{◌-◌}
-use Rattle.slice_bundles.specs.Active.{IsReadyFor as IsActiveFor}
+use Rattle.slice_slab.specs.Active.{IsReadyFor as IsActiveFor}
 use Rattle.slice_sweep.specs.Front.{IsReadyFor}
 use Rattle.slice_border.specs.Levels.{level_at}
 use Rattle.outline_samples.proofs.random_fronts.number_of_slabs.Given as goal

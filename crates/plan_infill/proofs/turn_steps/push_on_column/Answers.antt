@@ -1,16 +1,16 @@
 use Rattle.std.proofs.Common.{◌≡◌, rules, [], ◌∷◌, ◌++◌, pos, ◌-ℤ◌, ◌∙◌, ap, List, append_assoc}
-use Rattle.scad_geom.specs.Line.{run, left_of}
+use Rattle.scad_geom.specs.Line.{run, left_of, heading}
 use Rattle.scad_geom.proofs.Casts.{casts}
 use Rattle.plan_infill.specs.declared.step.Step.{Step}
-use Rattle.plan_infill.specs.Columns.{edge_turn, heights_of, IsPositivePart}
+use Rattle.plan_infill.specs.Columns.{heights_of, IsPositivePart}
 use Rattle.plan_infill.proofs.Steps.{step_of, column_turns}
 use Rattle.plan_infill.proofs.turn_steps.push_on_column.Goals as goal
 
 first : (c : goal.In_ok-push-2) → Step
-first c = step_of c.right_part-part.result.from (edge_turn c.args.e.now)
+first c = step_of c.right_part-part.result.from (heading c.args.e.now)
 
 second : (c : goal.In_ok-push-2) → Step
-second c = step_of c.right_part-part.result.until (pos 0 -ℤ edge_turn c.args.e.now)
+second c = step_of c.right_part-part.result.until (pos 0 -ℤ heading c.args.e.now)
 
 grown : (c : goal.In_ok-push-2) → c.push-2.new.self.items ≡ c.args.steps.now.items
     ++ (first c ∷ (second c ∷ []))

@@ -4,10 +4,9 @@ use Rattle.std.proofs.lemmas.Int.{to_z-of_z}
 use lib.Signed.{◌≤ℤ◌, lt_z, le_z}
 use mir.Syntax.{w32}
 use Rattle.scad_geom.specs.declared.point.Pt.{Pt}
-use Rattle.scad_geom.specs.Line.{low, high, rise, x_at}
+use Rattle.scad_geom.specs.Line.{low, high, rise, x_at, heading}
 use Rattle.scad_geom.proofs.Casts.{casts}
 use Rattle.plan_infill.specs.Quotient.{IsCeiling}
-use Rattle.plan_infill.specs.Columns.{edge_turn}
 use Rattle.plan_infill.proofs.Places.{less, at_most, small_fits}
 use Rattle.plan_infill.proofs.Steps.{step_of, row_turns, row_below, row_above}
 use Rattle.plan_infill.proofs.turn_steps.push_on_row.Goals as goal
@@ -38,7 +37,7 @@ returns-in_ok-push c =
     let k = subst (λ (z : ℤ). IsCeiling (x_at c.args.e.now z (pos 1)) (rise c.args.e.now) c.crossing.result) at
     c.crossing.ensures.value in
     let steps = row_turns c.args.e.now c.args.y c.crossing.result from until k c.crossing.ensures.size in
-    (step_of c.crossing.result (pos 0 -ℤ edge_turn c.args.e.now) ∷ [], steps, search (rules, casts))
+    (step_of c.crossing.result (pos 0 -ℤ heading c.args.e.now) ∷ [], steps, search (rules, casts))
 
 pub returns-else-low-y : goal.returns-else-low-y
 returns-else-low-y c = elim c.else-low-y.branch [

@@ -1,5 +1,5 @@
 use Rattle.std.proofs.Common.{◌<◌, [], drop, length, false}
-use Rattle.slice_bundles.specs.Active.{IsReadyFor}
+use Rattle.slice_slab.specs.Active.{IsReadyFor}
 use Rattle.slice_border.specs.Levels.{level_at}
 use Rattle.slice_border.specs.Keeping.{Tells}
 use Rattle.slice_bool.specs.BothSides.{IsSide}

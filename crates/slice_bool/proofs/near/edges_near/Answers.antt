@@ -3,7 +3,7 @@ use Rattle.std.proofs.Common.{◌≡◌, ◌<◌, ◌∙◌, ℕ, List, [], All,
 use Rattle.std.proofs.lemmas.List.Sorted.{All-permutation, IsNonDecreasingBy-from_sort}
 use Rattle.slice_bundles.specs.Touching.{touching}
 use Rattle.slice_bundles.proofs.Times.{ascends_from}
-use Rattle.slice_bundles.proofs.Standing.{all_there}
+use Rattle.slice_slab.proofs.Standing.{all_there}
 use Rattle.slice_border.specs.Flats.{flats_from}
 use Rattle.slice_border.proofs.Keeping.{same_leaf}
 use Rattle.slice_bool.proofs.SomeStops.{empty_list}

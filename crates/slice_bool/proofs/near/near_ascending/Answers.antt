@@ -3,7 +3,7 @@ use Rattle.std.proofs.Common.{◌≡◌, ◌<◌, ◌∙◌, All, sym, ap, subst
 use Rattle.scad_geom.specs.Limits.{coordinate_limit}
 use Rattle.scad_geom.specs.Within.{IsEdgeWithin}
 use Rattle.slice_bundles.specs.Bundles.{edge_at}
-use Rattle.slice_bundles.proofs.Standing.{all_there}
+use Rattle.slice_slab.proofs.Standing.{all_there}
 use Rattle.slice_border.specs.Pieces.{is_flat_at}
 use Rattle.slice_bool.specs.Near.{picked, touching_at}
 use Rattle.slice_border.specs.Flats.{flats_from}

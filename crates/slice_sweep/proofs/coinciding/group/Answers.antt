@@ -1,7 +1,7 @@
 -- A ray goes to the numbers so far, which become a bundle where it ends one.
 use Rattle.std.proofs.Common.{◌≡◌, refl, ◌∷◌, [], ◌++◌, ◌+◌, drop, get_or, sym, ap, ap₂, ◌∙◌, List, ℕ}
 use Rattle.slice_sweep.specs.declared.ray.Ray.{Ray}
-use Rattle.slice_bundles.specs.Passages.{prefixed}
+use Rattle.slice_bundles.specs.Joined.{prefixed}
 use Rattle.slice_bundles.proofs.Loops.{last_step}
 use Rattle.slice_sweep.specs.Rays.{bundles_of}
 use Rattle.slice_sweep.proofs.RaySteps.{close_step, open_step}

@@ -1,5 +1,5 @@
 use Rattle.std.proofs.Common.{◌≡◌, ◌++◌, drop}
-use Rattle.slice_bundles.specs.Passages.{prefixed}
+use Rattle.slice_bundles.specs.Joined.{prefixed}
 use Rattle.slice_sweep.specs.Rays.{bundles_of}
 use Rattle.slice_sweep.proofs.coinciding.group.Given as goal
 

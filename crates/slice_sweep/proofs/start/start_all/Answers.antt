@@ -1,7 +1,7 @@
 -- One more edge has begun.
 use Rattle.std.proofs.Common.{ap, ◌∙◌, ◌+◌, List, ℕ}
 use Rattle.std.proofs.lemmas.List.{take_all}
-use Rattle.slice_bundles.specs.Active.{times}
+use Rattle.slice_bundles.specs.Times.{times}
 use Rattle.slice_sweep.specs.Strands.{numbers_in}
 use Rattle.slice_sweep.proofs.Starting.{started_more}
 use Rattle.slice_sweep.proofs.start.start_all.Goals as goal

@@ -1,6 +1,6 @@
 use Rattle.std.proofs.Common.{◌≡◌, ℕ, ◌+◌, true, take, All}
 use Rattle.std.specs.List.{AllByRecursion}
-use Rattle.slice_bundles.specs.Active.{times}
+use Rattle.slice_bundles.specs.Times.{times}
 use Rattle.slice_bundles.specs.Bundles.{edge_at, reaches}
 use Rattle.slice_sweep.specs.Strands.{bundles_of, numbers_in, AreWaiting}
 use Rattle.slice_sweep.specs.Lows.{AreLow}

@@ -4,8 +4,9 @@ use Rattle.std.specs.Prelude.{ℤ, pos, ◌==◌, ◌<◌, unsigned_abs}
 use Rattle.std.specs.List.{All}
 use Rattle.std.proofs.lemmas.List.{at_drop_more, at_drop_all}
 use Rattle.scad_geom.specs.declared.level.LeafEdge.{LeafEdge}
+use Rattle.scad_geom.specs.Line.{heading}
 use Rattle.slice_bundles.specs.Bundles.{no_edge}
-use Rattle.slice_border.specs.Tally.{heading_of, headings}
+use Rattle.slice_border.specs.Tally.{headings}
 use Rattle.slice_border.proofs.Keeping.{heading_size, keeps_both, keeps_still, sum_on, size_on}
 use Rattle.slice_border.proofs.Tallying.{headings_append, added_all}
 use Rattle.slice_border.proofs.tally.Tally.add.Goals as goal
@@ -29,12 +30,12 @@ numbers-preserved c =
           let rest : ℤ = headings c.args.edges.now leaf (drop (c.numbers.k-index + 1) c.args.numbers.now) in
           let w = at_drop_more (headings c.args.edges.now leaf) c.args.numbers.now c.numbers.k-index 0
           c.numbers-test.true in
-          sum_on (old leaf) (new leaf) (heading_of e.edge) (e.leaf == leaf) rest _ _ (c.add_edge.ensures.turns leaf) w
+          sum_on (old leaf) (new leaf) (heading e.edge) (e.leaf == leaf) rest _ _ (c.add_edge.ensures.turns leaf) w
           (c.numbers.invariant.sums leaf);
       room = λ leaf.
           let r = c.numbers.invariant.room leaf in
           let s : unsigned_abs (new leaf) ≤ unsigned_abs (old leaf) + 1 =
-          size_on (old leaf) (new leaf) (heading_of e.edge) (e.leaf == leaf) (unsigned_abs (old leaf))
+          size_on (old leaf) (new leaf) (heading e.edge) (e.leaf == leaf) (unsigned_abs (old leaf))
           (c.add_edge.ensures.turns leaf) (heading_size e.edge) (omega arith) in
           omega (arith, r, s);
       len = c.add_edge.ensures.len ∙ c.numbers.invariant.len;

@@ -4,8 +4,9 @@ use Rattle.std.specs.Prelude.{ℤ, pos, ◌-ℤ◌, ◌==◌, ◌<◌, unsigned_
 use Rattle.std.specs.List.{All}
 use Rattle.std.proofs.lemmas.List.{at_drop_more, at_drop_all}
 use Rattle.scad_geom.specs.declared.level.LeafEdge.{LeafEdge}
+use Rattle.scad_geom.specs.Line.{heading}
 use Rattle.slice_bundles.specs.Bundles.{no_edge}
-use Rattle.slice_border.specs.Tally.{heading_of, headings}
+use Rattle.slice_border.specs.Tally.{headings}
 use Rattle.slice_border.proofs.Keeping.{heading_size, keeps_both, keeps_still}
 use Rattle.slice_border.proofs.Tallying.{headings_append, taken_on, size_down, taken_all, as_whole}
 use Rattle.slice_border.proofs.tally.Tally.take.Goals as goal
@@ -30,13 +31,13 @@ numbers-preserved c =
           let rest : ℤ = headings c.args.edges.now leaf (drop (c.numbers.k-index + 1) c.args.numbers.now) in
           let w = at_drop_more (headings c.args.edges.now leaf) c.args.numbers.now c.numbers.k-index 0
           c.numbers-test.true in
-          taken_on (old leaf) (new leaf) (heading_of e.edge) (e.leaf == leaf) rest _ _
+          taken_on (old leaf) (new leaf) (heading e.edge) (e.leaf == leaf) rest _ _
           (c.take_edge.ensures.turns leaf) w
           (c.numbers.invariant.sums leaf);
       room = λ leaf.
           let r = c.numbers.invariant.room leaf in
           let s : unsigned_abs (new leaf) ≤ unsigned_abs (old leaf) + 1 =
-          size_down (old leaf) (new leaf) (heading_of e.edge) (e.leaf == leaf) (unsigned_abs (old leaf))
+          size_down (old leaf) (new leaf) (heading e.edge) (e.leaf == leaf) (unsigned_abs (old leaf))
           (c.take_edge.ensures.turns leaf) (heading_size e.edge) (omega arith) in
           omega (arith, r, s);
       len = c.take_edge.ensures.len ∙ c.numbers.invariant.len;

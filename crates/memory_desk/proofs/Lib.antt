@@ -1,0 +1,2 @@
+-- Of the files of a desk in memory.
+mod Files

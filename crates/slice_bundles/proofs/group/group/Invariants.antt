@@ -1,7 +1,0 @@
-use Rattle.std.proofs.Common.{◌≡◌, ◌++◌, drop}
-use Rattle.slice_bundles.specs.Passages.{bundles_of, prefixed}
-use Rattle.slice_bundles.proofs.group.group.Given as goal
-
-abbrev pub invariant-passages : goal.invariant-passages
-invariant-passages l = l.out.items ++ prefixed l.current.items (bundles_of (drop l.i l.passages))
-    ≡ bundles_of l.passages

@@ -1,0 +1,5 @@
+mod Ranking
+mod Steps
+mod Bundling
+mod Beginning
+pub mod Standing
