@@ -10,7 +10,7 @@ use Rattle.scad_geom.specs.Point.{whole}
 use Rattle.scad_geom.specs.Level.{level_of}
 use Rattle.scad_geom.specs.Winding.{counted, is_over, passage_by, turn}
 use Rattle.scad_geom.proofs.Heights.{Reaches}
-use Rattle.scad_geom.proofs.Turns.{Over, NotOver, level_at, over_true, over_false, reaching_turn, under_turn, over_turn}
+use Rattle.scad_geom.proofs.Turns.{over_true, over_false, reaching_turn, under_turn, over_turn}
 use Rattle.scad_geom.proofs.CommonDivisor.{beyond_is}
 
 abbrev pub at : ℤ → ℤ → Pt
