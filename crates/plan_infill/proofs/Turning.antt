@@ -1,5 +1,5 @@
 -- The turn of an edge round a whole point, by the heights between its ends and the side of its line.
-use Rattle.std.proofs.Common.{◌≡◌, Bool, true, false, refl, ap₂, ◌∙◌, arith, ℤ, pos, negsuc, ◌-ℤ◌, ◌<ℤ◌, cond}
+use Rattle.std.proofs.Common.{◌≡◌, Bool, true, false, refl, ap, ap₂, ◌∙◌, arith, ℤ, pos, negsuc, ◌-ℤ◌, ◌<ℤ◌, cond}
 use lib.Signed.{◌≤ℤ◌}
 use Rattle.std.specs.Prelude.{int_lt, if◌then◌else◌}
 use Rattle.std.proofs.lemmas.Int.{ints}
