@@ -15,3 +15,5 @@ pub mod Leaves
 pub mod Hulls
 pub mod Statements
 pub mod Programs
+pub mod Parameters
+pub mod ParameterExamples

@@ -1,5 +1,5 @@
 -- The turn of an edge round a whole point, by the heights between its ends and the side of its line.
-use Rattle.std.proofs.Common.{◌≡◌, Bool, true, false, refl, ap₂, ◌∙◌, arith, ℤ, pos, negsuc, ◌-ℤ◌, ◌<ℤ◌, cond}
+use Rattle.std.proofs.Common.{◌≡◌, Bool, true, false, refl, ap, ap₂, ◌∙◌, arith, ℤ, pos, negsuc, ◌-ℤ◌, ◌<ℤ◌, cond}
 use lib.Signed.{◌≤ℤ◌}
 use Rattle.std.specs.Prelude.{int_lt, if◌then◌else◌}
 use Rattle.std.proofs.lemmas.Int.{ints}
@@ -10,7 +10,7 @@ use Rattle.scad_geom.specs.Point.{whole}
 use Rattle.scad_geom.specs.Level.{level_of}
 use Rattle.scad_geom.specs.Winding.{counted, is_over, passage_by, turn}
 use Rattle.scad_geom.proofs.Heights.{Reaches}
-use Rattle.scad_geom.proofs.Turns.{Over, NotOver, level_at, over_true, over_false, reaching_turn, under_turn, over_turn}
+use Rattle.scad_geom.proofs.Turns.{over_true, over_false, reaching_turn, under_turn, over_turn}
 use Rattle.scad_geom.proofs.CommonDivisor.{beyond_is}
 
 abbrev pub at : ℤ → ℤ → Pt

@@ -1,5 +1,5 @@
 -- Where an edge lies to the right of a column.
-use Rattle.std.specs.Prelude.{◌≡◌, Bool, ◌&&◌, if◌then◌else◌, ℕ, ◌≤◌, ℤ, ◌+ℤ◌, ◌*ℤ◌, pos, negsuc, int_lt, int_le, ◌<ℤ◌, ◌≤ℤ◌, unsigned_abs}
+use Rattle.std.specs.Prelude.{◌≡◌, Bool, ◌&&◌, ℕ, ◌≤◌, ℤ, ◌+ℤ◌, ◌*ℤ◌, pos, int_lt, int_le, ◌<ℤ◌, ◌≤ℤ◌, unsigned_abs}
 use Rattle.scad_geom.specs.declared.point.Edge.{Edge}
 use Rattle.scad_geom.specs.Line.{low, high}
 use Rattle.plan_infill.specs.declared.stretch.Stretch.{Stretch}

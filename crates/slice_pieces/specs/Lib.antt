@@ -9,4 +9,5 @@ pub mod Cancelling
 pub mod Laws
 -- What only the steps of the code promise to one another.
 pub mod Spans
+-- What the lemmas on merged pieces say.
 pub mod Joining

@@ -1,5 +1,5 @@
 //! Pieces of one name become one where they alone meet.
-ghost use Rattle.std.specs.Prelude.{◌≡◌, ◌<◌, ◌+◌, true, false, length, IfOk, IfSome, IfNone, OnSome, All, ◌↔◌, IsTrue};
+ghost use Rattle.std.specs.Prelude.{◌<◌, ◌+◌, true, false, length, IfOk, IfSome, IfNone, OnSome, All, ◌↔◌, IsTrue};
 ghost use Rattle.scad_geom.specs.Limits.{coordinate_limit};
 ghost use Rattle.slice_pieces.specs.Pieces.{HaveOneLevel, IsPieceWithin, ArePiecesBalanced};
 ghost use Rattle.slice_pieces.specs.Merging.{AreMerged};
