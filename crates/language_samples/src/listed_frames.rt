@@ -1,9 +1,9 @@
 //! `f=2; function f(x)=x+1; module f(){cube(f(f));} f();`, read from its bytes and evaluated as far as the argument of `cube`,
 //! over frames that are pushed with the names that they can hold.
 
-use crate::cases::expect;
 use crate::frames::{are_both, number};
 use crate::machine::over_frames;
+use sample_dice::expect;
 use scad_ast::{Expr, Item, Params, Scope, StmtBody};
 use scad_bindings::bindings;
 use scad_expr::{EvalFault, Machine, STEP_LIMIT, eval};
@@ -100,7 +100,22 @@ fn in_module<'p>(
     Ok(m)
 }
 
-/// Whether the variable is 2 there, by its slots and by its name, and the argument 3.
+/// How many items the scope of a frame has, where it has one.
+fn items_in(frames: &Frames, at: u32) -> Option<usize> {
+    match frames.scope(at) {
+        Some(scope) => Some(scope.len()),
+        None => None,
+    }
+}
+
+/// Whether the frames of the program and of the module's body have their scopes, and that of its parameters has none.
+fn have_scopes(frames: &Frames) -> bool {
+    items_in(frames, 0) == Some(4)
+        && items_in(frames, 1).is_none()
+        && items_in(frames, 2) == Some(1)
+}
+
+/// Whether the variable is 2 there, by its slots and by its name, and the argument 3, over frames with these scopes.
 fn is_found(alloc: Global, scope: &Scope, parts: Parts) -> Result<bool, EvalFault> {
     let names = listed(alloc, scope, parts)?;
     let mut m = in_module(alloc, scope, parts, &names)?;
@@ -111,7 +126,7 @@ fn is_found(alloc: Global, scope: &Scope, parts: Parts) -> Result<bool, EvalFaul
         Some(2_000_000),
     );
     let argument = eval(alloc, parts.argument, &mut m)?;
-    Ok(found && equal(&argument, &number(3_000_000)))
+    Ok(found && equal(&argument, &number(3_000_000)) && have_scopes(&m.frames))
 }
 
 /// Whether it is so for a source of this form.
@@ -136,6 +151,6 @@ fn one_name_is_a_variable_a_function_and_a_module_over_listed_frames(rt: HostRun
             rt.alloc(),
             b"f=2; function f(x)=x+1; module f(){cube(f(f));} f();",
         ),
-        "f is 2 by its slots, f(f) is 3",
+        "f is 2 by its slots, f(f) is 3, scopes of 4 items and 1",
     );
 }

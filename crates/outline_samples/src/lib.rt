@@ -3,8 +3,6 @@
 #![tactic(auto, using(scad_geom::proofs::Casts::casts))]
 
 #[cfg(test)]
-mod cases;
-#[cfg(test)]
 mod grid;
 #[cfg(test)]
 mod levels;

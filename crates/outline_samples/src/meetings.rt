@@ -1,7 +1,8 @@
-//! Edges that touch squares and octagons or just miss them.
-use crate::cases::expect;
-use scad_geom::{Edge, Half, Pt, box_meets};
+//! Edges that touch squares and octagons or just miss them, the sides on which points lie, and slopes.
+use sample_dice::expect;
+use scad_geom::{Edge, Half, Pt, box_meets, cmp_slope, side};
 use scad_ring::octagon_meets;
+use std::cmp::Ordering;
 
 const FALLING: Edge = Edge {
     a: Pt { x: 0, y: 10 },
@@ -51,8 +52,19 @@ const OCTAGONS: [(Edge, i32, i32, Half, u32, u32, bool); 18] = [
     (STEEP_LEFT, -3, 0, Half::Cell, 4, 2, false),
 ];
 
+/// Points, and the side of the falling edge on which they lie: 1 to its left, seen from its start.
+const SIDES: [(i32, i32, i8); 3] = [(10, 10, 1), (4, 6, 0), (0, 0, -1)];
+
+/// Edges, and the order of how far they run to the right for each step upwards: -1 the falling one, 4 the rising one, -1/4 the
+/// steep one.
+const SLOPES: [(Edge, Edge, Ordering); 3] = [
+    (FALLING, STEEP_LEFT, Ordering::Less),
+    (FALLING, FALLING, Ordering::Equal),
+    (RISING, STEEP_LEFT, Ordering::Greater),
+];
+
 #[test]
-fn squares_and_octagons_meet_edges_that_touch_them(rt: HostRuntime) {
+fn edges_have_these_meetings_sides_and_slopes(rt: HostRuntime) {
     for &(x, y, half, width, meets) in &SQUARES {
         let found = box_meets(&FALLING, Pt { x, y }, half, width);
         expect(&rt, found == meets, "a square and an edge");
@@ -60,5 +72,12 @@ fn squares_and_octagons_meet_edges_that_touch_them(rt: HostRuntime) {
     for &(edge, x, y, half, s, u, meets) in &OCTAGONS {
         let found = octagon_meets(&edge, Pt { x, y }, half, s, u);
         expect(&rt, found == meets, "an octagon and an edge");
+    }
+    for &(x, y, wanted) in &SIDES {
+        let found = side(&FALLING, Pt { x, y });
+        expect(&rt, found == wanted, "the side of a point");
+    }
+    for &(e, f, wanted) in &SLOPES {
+        expect(&rt, cmp_slope(&e, &f) == wanted, "two slopes");
     }
 }

@@ -5,8 +5,6 @@
 #[cfg(test)]
 mod boards;
 #[cfg(test)]
-mod cases;
-#[cfg(test)]
 mod desks;
 #[cfg(test)]
 mod failures;

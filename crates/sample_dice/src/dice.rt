@@ -1,3 +1,4 @@
+//! Random numbers and points by a seed.
 ghost use Rattle.std.specs.Prelude.{◌<◌, ◌≤◌, unsigned_abs};
 ghost use Rattle.scad_geom.specs.Limits.{point_limit, coordinate_limit};
 ghost use Rattle.scad_geom.specs.Within.{IsWithin};

@@ -1,3 +1,4 @@
+//! Random outlines, many of which cross themselves.
 ghost use Rattle.std.specs.Prelude.{◌<◌, ◌≤◌, IfOk, All, unsigned_abs};
 ghost use Rattle.scad_geom.specs.Limits.{point_limit, coordinate_limit};
 ghost use Rattle.scad_geom.specs.Within.{IsWithin};

@@ -1,7 +1,6 @@
 //! Rings round points of the plane.
 
-use crate::cases::expect;
-use sample_dice::Dice;
+use sample_dice::{Dice, expect};
 use scad_hull::{Ring2, ring_hull};
 use scad_num::Num;
 use std::alloc::{AllocError, Global};
@@ -71,5 +70,11 @@ fn corners_at_the_limit_are_exact(rt: HostRuntime) {
         &rt,
         ring.as_slice() == wanted.as_slice(),
         "the outer points",
+    );
+    let half = Num::within(-500);
+    expect(
+        &rt,
+        inner.to_micrometre() == 1_000_000_000_000 && half.to_micrometre() == -1,
+        "micrometres, halves away from zero",
     );
 }

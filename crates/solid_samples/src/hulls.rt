@@ -3,8 +3,8 @@ ghost use Rattle.std.specs.Prelude.{◌≡◌};
 ghost use Rattle.std.specs.List.{list_all};
 ghost use Rattle.scad_geom.specs.PointRange.{is_in_range};
 
-use crate::cases::expect;
-use sample_dice::Dice;
+use crate::inside::{ends_between, is_without_second};
+use sample_dice::{Dice, expect};
 use scad_geom::{Pt3, is_in_range};
 use scad_hull::{HullFault, hull};
 use scad_solid::Triangles;
@@ -52,10 +52,11 @@ fn with_corner(sum: u64, p: Pt3) -> u64 {
 /// The sum with the corners of a solid, each by its place.
 fn with_solid(sum: u64, solid: &Triangles) -> u64 {
     let mut sum = sum;
-    for t in solid.as_slice() {
-        sum = with_corner(sum, t.a);
-        sum = with_corner(sum, t.b);
-        sum = with_corner(sum, t.c);
+    for i in 0..solid.count() {
+        let [a, b, c] = solid.get(i);
+        sum = with_corner(sum, a);
+        sum = with_corner(sum, b);
+        sum = with_corner(sum, c);
     }
     sum
 }
@@ -100,6 +101,13 @@ fn corners_at_the_limit_are_exact(rt: HostRuntime) {
         with_solid(0, &solid) == PYRAMID_SUM,
         "the faces of the pyramid",
     );
+    expect(
+        &rt,
+        ends_between(solid, 499_949, 499_950),
+        "the pyramid's layer ends 499,949.75 from its middle",
+    );
+    let is = is_without_second(rt.alloc()).expect(&rt, "memory");
+    expect(&rt, is, "a leaf without another");
 }
 
 /// What another program makes of the five faces of the pyramid.
