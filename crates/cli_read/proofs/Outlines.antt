@@ -34,7 +34,7 @@ point_text_is n x y p e =
     let up = coordinate_text y b.0 (or_bad_ok n (coordinate_of y) b.0 b.1) in
     let point : Pt = record { x = a.0; y = b.0 } in
     subst (λ (q : Pt). (x ≡ signed_decimal q.x) × (y ≡ signed_decimal q.y) × IsWithin coordinate_limit q)
-        (ok_is point p b.2)
+    (ok_is point p b.2)
     (left.0, up.0, record { x = left.1; y = up.1 })
 
 point_back : (n : ℕ) (p : Pt) → IsWithin coordinate_limit p
@@ -57,7 +57,7 @@ points_are n (x ∷ y ∷ rest) ps e =
     let more = points_are n rest b.0 b.1 in
     let all : List Pt = a.0 ∷ b.0 in
     subst (λ (qs : List Pt). (x ∷ y ∷ rest ≡ coordinate_words qs) × AllByRecursion (IsWithin coordinate_limit) qs)
-        (ok_is all ps b.2)
+    (ok_is all ps b.2)
     ((λ i. point.0 i ∷ point.1 i ∷ more.0 i), (point.2, more.1))
 
 pub points_back : (n : ℕ) (ps : List Pt) → AllByRecursion (IsWithin coordinate_limit) ps

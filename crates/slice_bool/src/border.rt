@@ -28,8 +28,8 @@ use crate::sweep::Sweep;
 use scad_geom::{LeafEdge, Level, Shape};
 use slice_border::{BoolFault, Tally};
 use slice_events::{EventFault, levels};
-use slice_slab::Active;
 use slice_pieces::Piece;
+use slice_slab::Active;
 use std::alloc::{AllocError, Global};
 
 /// The pieces of the border of a shape over the leaves of an edge list, each with the inside on its left: level by
