@@ -3,10 +3,10 @@
 ghost use Rattle.std.specs.Prelude.{◌≤◌};
 ghost use Rattle.scad_expr.specs.State.{step_limit};
 
+use crate::cases::expect;
 use crate::machine::{last_value, start};
 use crate::step_limits::STEPS;
 use crate::value_answer::outcome;
-use sample_dice::expect;
 use scad_ast::Program;
 use scad_lex::lex;
 use scad_parse::parse;

@@ -1,11 +1,11 @@
 //! Sources of expressions with what they give.
 
 use crate::budgets::BUDGETS;
+use crate::cases::expect;
 use crate::comprehensions::COMPREHENSIONS;
 use crate::operators::OPERATORS;
 use crate::scopes::SCOPES;
 use crate::value_answer::answer;
-use sample_dice::expect;
 use std::alloc::Global;
 use std::process::Abort;
 

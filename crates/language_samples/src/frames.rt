@@ -1,7 +1,7 @@
 //! The frames of `f=2; function f(x)=x+1; module f(){cube(f(f));} f();` while the function is called, by names
 //! and by slots.
 
-use sample_dice::expect;
+use crate::cases::expect;
 use scad_num::Num;
 use scad_scope::{Frames, Names, resolve};
 use scad_value::{Value, equal};

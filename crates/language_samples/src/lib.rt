@@ -6,6 +6,8 @@
 #[cfg(test)]
 mod budgets;
 #[cfg(test)]
+mod cases;
+#[cfg(test)]
 mod comprehensions;
 #[cfg(test)]
 mod each_step;

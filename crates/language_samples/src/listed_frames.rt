@@ -1,9 +1,9 @@
 //! `f=2; function f(x)=x+1; module f(){cube(f(f));} f();`, read from its bytes and evaluated as far as the argument of `cube`,
 //! over frames that are pushed with the names that they can hold.
 
+use crate::cases::expect;
 use crate::frames::{are_both, number};
 use crate::machine::over_frames;
-use sample_dice::expect;
 use scad_ast::{Expr, Item, Params, Scope, StmtBody};
 use scad_bindings::bindings;
 use scad_expr::{EvalFault, Machine, STEP_LIMIT, eval};

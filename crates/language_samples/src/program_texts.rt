@@ -1,7 +1,7 @@
 //! The printed text of programs: operands stand in parentheses, bodies in braces.
 
+use crate::cases::expect;
 use crate::stand::STAND;
-use sample_dice::expect;
 use scad_ast::print;
 use scad_fault::Text;
 use scad_lex::lex;

@@ -3,7 +3,7 @@ ghost use Rattle.std.specs.Prelude.{◌<◌, IfOk, All};
 ghost use Rattle.scad_geom.specs.Limits.{coordinate_limit};
 ghost use Rattle.scad_geom.specs.Within.{IsWithin, IsEdgeWithin};
 
-use sample_dice::expect;
+use crate::cases::expect;
 use scad_geom::{Edge, LeafEdge, Pt};
 use slice_events::levels_counted;
 use std::alloc::{AllocError, Global};

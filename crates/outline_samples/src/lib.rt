@@ -3,6 +3,8 @@
 #![tactic(auto, using(scad_geom::proofs::Casts::casts))]
 
 #[cfg(test)]
+mod cases;
+#[cfg(test)]
 mod grid;
 #[cfg(test)]
 mod levels;

@@ -1,7 +1,7 @@
 //! Outlines of edges, of which the random ones were found by an independent program too.
 
+use crate::cases::expect;
 use plan_sides::sides;
-use sample_dice::expect;
 use scad_geom::{Loop, Pt};
 use slice_loops::join;
 use std::alloc::{AllocError, Global};

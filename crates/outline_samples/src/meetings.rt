@@ -1,5 +1,5 @@
 //! Edges that touch squares and octagons or just miss them, the sides on which points lie, and slopes.
-use sample_dice::expect;
+use crate::cases::expect;
 use scad_geom::{Edge, Half, Pt, box_meets, cmp_slope, side};
 use scad_ring::octagon_meets;
 use std::cmp::Ordering;

@@ -4,8 +4,8 @@ ghost use Rattle.scad_geom.specs.Limits.{coordinate_limit};
 ghost use Rattle.slice_pieces.specs.Spots.{IsSpotWithin};
 ghost use Rattle.slice_pieces.specs.Pieces.{IsPieceWithin};
 
+use crate::cases::expect;
 use crate::numbers::number_with_pieces;
-use sample_dice::expect;
 use scad_geom::{Edge, Level, Pt};
 use slice_pieces::{Piece, Spot, cancel};
 use slice_snap::merge;

@@ -8,9 +8,10 @@ ghost use Rattle.slice_slab.specs.Active.{IsReadyFor as IsActiveFor, StandsAt};
 ghost use Rattle.slice_sweep.specs.Front.{IsReadyFor};
 ghost use Rattle.slice_border.specs.Levels.{level_at};
 
+use crate::cases::expect;
 use crate::grid::roll_point;
 use crate::numbers::number_with;
-use sample_dice::{Dice, expect};
+use sample_dice::Dice;
 use scad_geom::{Edge, LeafEdge, Level};
 use slice_bundles::Bundle;
 use slice_events::levels;

@@ -6,10 +6,11 @@ ghost use Rattle.scad_geom.specs.Within.{IsWithin, IsEdgeWithin};
 ghost use Rattle.scad_geom.specs.Leaves.{AreLeavesBalanced};
 ghost use Rattle.scad_tree.specs.Sections.{leaf_edge};
 
+use crate::cases::expect;
 use crate::grid::roll_point;
 use crate::numbers::{number_with, number_with_loops, number_with_pieces};
 use plan_sides::sides;
-use sample_dice::{Dice, expect};
+use sample_dice::Dice;
 use scad_geom::{Edge, LeafEdge, Loop, Pt, Shape};
 use slice_border::BoolFault;
 use std::alloc::{AllocError, AllocGlobal, Global};

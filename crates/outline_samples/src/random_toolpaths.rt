@@ -2,11 +2,12 @@
 //! programs have made too.
 ghost use Rattle.scad_words.specs.Settings.{AreInRange};
 
+use crate::cases::expect;
 use crate::numbers::number_with;
 use plan_infill::{Line, Run, runs};
 use plan_layer::{PlanFault, plan};
 use plan_walls::walls;
-use sample_dice::{Dice, expect, roll_outlines};
+use sample_dice::{Dice, roll_outlines};
 use scad_geom::{Loop, Path};
 use scad_words::Settings;
 use slice_border::BoolFault;

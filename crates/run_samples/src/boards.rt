@@ -2,8 +2,8 @@
 ghost use Rattle.std.specs.Prelude.{◌≡◌, true, None, length, IfOk};
 ghost use Rattle.layer_board.specs.Calls.{view, layers_of, workers_of, IsOf, IsFresh};
 
+use crate::cases::holds_at;
 use layer_board::{Board, Claim, Pass};
-use sample_dice::expect_at;
 use std::alloc::{AllocError, Global};
 use std::process::Abort;
 use std::thread;
@@ -73,7 +73,7 @@ fn drawn_by_two<R: Threads + Sync + Abort>(
         finished: more,
     } = other.expect(rt, "memory");
     board.join(&mut pass, also);
-    expect_at(
+    holds_at(
         rt,
         pass.members() == 2,
         "members of a pass",
@@ -107,6 +107,6 @@ fn two_threads_draw_boards_to_their_ends(rt: HostRuntime) {
     for &(layers, failing) in &BOARDS {
         let (least, finished) = drawn_by_two(&rt, rt.alloc(), layers, failing);
         let is_drawn = least == failing && are_all_below(&finished, least);
-        expect_at(&rt, is_drawn, "layers of a board", u64::from(layers));
+        holds_at(&rt, is_drawn, "layers of a board", u64::from(layers));
     }
 }

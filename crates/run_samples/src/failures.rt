@@ -1,8 +1,8 @@
 //! Runs in which calls of the desk fail. What is written of the files is a front of what is written where nothing fails, and
 //! the report has its last line wherever it can.
+use crate::cases::{holds, holds_at};
 use crate::desks::{Answer, ROOM, Setup, answered};
 use crate::gate::Meeting;
-use sample_dice::{expect, expect_at};
 use std::alloc::{AllocError, Global};
 use std::process::Abort;
 use std::thread::Threads;
@@ -121,7 +121,7 @@ fn left_by<R: Threads + Sync + Abort>(
     let (words, status, _, _, _) = run;
     let (code, report) = end;
     let answer = answer_to(rt, alloc, words, status, fails);
-    expect(rt, is_stopped(whole, &answer, code, report), words);
+    holds(rt, is_stopped(whole, &answer, code, report), words);
     (answer.faults, answer.cli.len(), answer.gcode.len())
 }
 
@@ -152,7 +152,7 @@ fn expect_stop<R: Threads + Sync + Abort>(
     let failed = if call == echo || call == last { 1 } else { 2 };
 
     let is_one_fault = faults == 1 && is_short == is_cut && same == alone;
-    expect_at(
+    holds_at(
         rt,
         is_one_fault && silent == (failed, cli, gcode),
         words,
@@ -167,7 +167,7 @@ fn each_call_fails_in_turn(rt: HostRuntime) {
         let (words, status, _, first, last) = run;
         let behind = last.saturating_add(1);
         let whole = answer_to(&rt, alloc, words, status, &[behind]);
-        expect(&rt, whole.code == status && whole.faults == 0, words);
+        holds(&rt, whole.code == status && whole.faults == 0, words);
         for call in first..behind {
             expect_stop(&rt, alloc, run, &whole, call);
         }

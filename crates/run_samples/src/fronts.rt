@@ -1,9 +1,9 @@
 //! Each front of outlines and of a printing program: what `verify` says of it. The answers come from an independent program.
+use crate::cases::holds;
 use crate::desks::{Answer, ROOM, Setup, answered};
 use crate::gate::Meeting;
 use cli_read::{Cli, read};
 use cli_text::{write_end, write_head, write_layer};
-use sample_dice::expect;
 use std::alloc::{AllocError, Global};
 use std::process::Abort;
 use std::thread::Threads;
@@ -220,7 +220,7 @@ fn whole_by_fronts<R: Threads + Sync + Abort>(
                 None => verified(rt, alloc, &text, b""),
             };
             let is_told = answer.report.as_slice() == report.as_bytes();
-            expect(rt, is_told && answer.faults == 0, piece);
+            holds(rt, is_told && answer.faults == 0, piece);
         }
     }
     text
@@ -248,7 +248,7 @@ fn each_front_of_outlines_and_of_a_program(rt: HostRuntime) {
     whole_by_fronts(&rt, alloc, &PROGRAM, Some(outlines.as_slice()));
     let cli = read(alloc, &outlines).expect(&rt, "outlines");
     let text = written(alloc, &cli).expect(&rt, "memory");
-    expect(
+    holds(
         &rt,
         text.as_slice() == WRITTEN.as_bytes(),
         "hatches are joined",

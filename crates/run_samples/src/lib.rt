@@ -5,6 +5,8 @@
 #[cfg(test)]
 mod boards;
 #[cfg(test)]
+mod cases;
+#[cfg(test)]
 mod desks;
 #[cfg(test)]
 mod failures;

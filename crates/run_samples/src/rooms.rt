@@ -1,7 +1,7 @@
 //! Outputs that have room for a part of what is written.
+use crate::cases::holds_at;
 use crate::desks::{Answer, ROOM, Setup, answered};
 use crate::gate::Meeting;
-use sample_dice::expect_at;
 use std::alloc::Global;
 use std::process::Abort;
 use std::thread::Threads;
@@ -66,10 +66,10 @@ fn room_for_each_part_of_the_outputs(rt: HostRuntime) {
             .max(whole.gcode.len());
         for room in 0..most {
             let answer = answer_in(&rt, alloc, words, room);
-            expect_at(&rt, is_cut(&whole, &answer, room), words, room as u64);
+            holds_at(&rt, is_cut(&whole, &answer, room), words, room as u64);
         }
         let all = answer_in(&rt, alloc, words, most);
         let is_whole = all.code == 0 && all.report == whole.report;
-        expect_at(&rt, is_whole, words, most as u64);
+        holds_at(&rt, is_whole, words, most as u64);
     }
 }

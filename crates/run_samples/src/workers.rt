@@ -1,7 +1,7 @@
 //! Layers are really worked by as many workers as the words say: a gate holds layers until others come.
+use crate::cases::holds;
 use crate::desks::{ROOM, Setup, answered};
 use crate::gate::Meeting;
-use sample_dice::expect;
 use std::alloc::Global;
 use std::process::Abort;
 use std::thread::Threads;
@@ -45,6 +45,6 @@ fn is_met<R: Threads + Sync + Abort>(
 fn workers_are_at_work_at_once(rt: HostRuntime) {
     for &(words, source, from, to, wanted) in &MEETINGS {
         let gate = Meeting::of(from, to, wanted);
-        expect(&rt, is_met(&rt, rt.alloc(), words, source, &gate), words);
+        holds(&rt, is_met(&rt, rt.alloc(), words, source, &gate), words);
     }
 }

@@ -1,6 +1,7 @@
 //! Rings round points of the plane.
 
-use sample_dice::{Dice, expect};
+use crate::cases::expect;
+use sample_dice::Dice;
 use scad_hull::{Ring2, ring_hull};
 use scad_num::Num;
 use std::alloc::{AllocError, Global};

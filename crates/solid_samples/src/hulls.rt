@@ -3,8 +3,9 @@ ghost use Rattle.std.specs.Prelude.{◌≡◌};
 ghost use Rattle.std.specs.List.{list_all};
 ghost use Rattle.scad_geom.specs.PointRange.{is_in_range};
 
+use crate::cases::expect;
 use crate::inside::{ends_between, is_without_second};
-use sample_dice::{Dice, expect};
+use sample_dice::Dice;
 use scad_geom::{Pt3, is_in_range};
 use scad_hull::{HullFault, hull};
 use scad_solid::Triangles;
