@@ -1,6 +1,5 @@
 //! The line of hatches.
-ghost use Rattle.std.specs.Prelude.{◌≡◌};
-ghost use Rattle.cli_read.specs.Reading.{Gives, words, words_behind, some_at, paired_at, hatched, hatches_at};
+ghost use Rattle.cli_read.specs.Reading.{Gives, words, some_at, paired_at, hatched, hatches_at};
 
 use crate::fault::CliFault;
 use crate::layers::Hatches;

@@ -1,5 +1,4 @@
 //! The lines in front of the layers.
-ghost use Rattle.std.specs.Prelude.{◌≡◌};
 ghost use Rattle.std.specs.Str.Lines.{lines};
 ghost use Rattle.cli_read.specs.Reading.{Gives, behind, count_in, count_at, head_at};
 ghost use Rattle.cli_read.specs.Form.{count_start};

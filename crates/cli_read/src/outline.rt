@@ -1,6 +1,5 @@
 //! The line of an outline.
-ghost use Rattle.std.specs.Prelude.{◌≡◌};
-ghost use Rattle.cli_read.specs.Reading.{Gives, words, words_behind, or_bad, outline_at};
+ghost use Rattle.cli_read.specs.Reading.{Gives, words, outline_at};
 
 use crate::fault::CliFault;
 use crate::number::{count_at, direction_at};

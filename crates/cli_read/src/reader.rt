@@ -1,5 +1,5 @@
 //! A whole text.
-ghost use Rattle.std.specs.Prelude.{◌≡◌, List, Ok, IfOk};
+ghost use Rattle.std.specs.Prelude.{List, Ok, IfOk};
 ghost use Rattle.cli_text.specs.Cli.{Layer};
 ghost use Rattle.cli_read.specs.Form.{Reads};
 ghost use Rattle.cli_read.specs.Reading.{Gives, counted, reading};

@@ -1,5 +1,5 @@
 //! Words between commas.
-ghost use Rattle.std.specs.Prelude.{◌≡◌, ◌<◌, ◌≤◌, ◌∷◌, ◌==◌, [], List, length, MatchOption};
+ghost use Rattle.std.specs.Prelude.{◌≡◌, ◌<◌, ◌≤◌, ◌∷◌, [], length, MatchOption};
 ghost use Rattle.std.specs.Option.{option_map};
 ghost use Rattle.cli_read.specs.Reading.{words, words_behind, behind};
 ghost use Rattle.cli_text.specs.Cli.{layer_start, polyline_start, hatches_start};

@@ -1,5 +1,4 @@
 //! The line of a layer's hatches.
-ghost use Rattle.std.specs.Prelude.{◌≡◌, List};
 ghost use Rattle.std.specs.List.{flat_map};
 ghost use Rattle.text_scan.specs.Printing.{Adds};
 ghost use Rattle.cli_text.specs.Cli.{hatch_text, hatches_start, hatches_line, hatches_text};

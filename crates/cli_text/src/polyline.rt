@@ -1,5 +1,5 @@
 //! The line of one outline.
-ghost use Rattle.std.specs.Prelude.{◌≡◌, List};
+ghost use Rattle.std.specs.Prelude.{◌≡◌};
 ghost use Rattle.std.specs.List.{flat_map};
 ghost use Rattle.text_scan.specs.Printing.{Adds};
 ghost use Rattle.cli_text.specs.Cli.{direction, point_text, polyline_start, polyline_text, closed};

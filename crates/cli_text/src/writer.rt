@@ -1,7 +1,6 @@
 //! The head, the layers and the end of a file.
-ghost use Rattle.std.specs.Prelude.{◌≡◌, ◌++◌, List, OnOk, OnErr};
+ghost use Rattle.std.specs.Prelude.{◌≡◌, ◌++◌, OnOk, OnErr};
 ghost use Rattle.std.specs.List.{flat_map};
-ghost use Rattle.scad_geom.specs.declared.point.Pt.{Pt};
 ghost use Rattle.scad_geom.specs.declared.point.Edge.{Edge};
 ghost use Rattle.text_scan.specs.Printing.{Adds};
 ghost use Rattle.cli_text.specs.Cli.{head_start, head_end, head, layer_start, layer_text, polyline_text, geometry_end};

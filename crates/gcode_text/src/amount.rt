@@ -1,8 +1,8 @@
 //! How much filament a move takes.
-ghost use Rattle.std.specs.Prelude.{◌≡◌, ◌*◌, ◌^◌, ◌<◌, ◌≤◌, unsigned_abs};
+ghost use Rattle.std.specs.Prelude.{◌≡◌, ◌*◌, ◌^◌, ◌<◌, ◌≤◌};
 ghost use Rattle.scad_num.specs.Root.{root};
 ghost use Rattle.gcode_text.specs.Limits.{width_limit, height_limit};
-ghost use Rattle.gcode_text.specs.Amount.{square, length_of, move_volume, filament};
+ghost use Rattle.gcode_text.specs.Amount.{length_of, move_volume, filament};
 
 use crate::rates::Rates;
 use scad_geom::Pt;

@@ -1,7 +1,6 @@
 //! The lines of a layer.
-ghost use Rattle.std.specs.Prelude.{◌≡◌, ◌+◌, ◌*◌, ◌^◌, ◌≤◌, List, length, min, nat_lt};
+ghost use Rattle.std.specs.Prelude.{◌≡◌, ◌+◌, ◌*◌, ◌^◌, ◌≤◌, length, min, nat_lt};
 ghost use Rattle.std.specs.List.{sum_by};
-ghost use Rattle.scad_geom.specs.declared.point.Pt.{Pt};
 ghost use Rattle.text_scan.specs.Printing.{Adds};
 ghost use Rattle.gcode_text.specs.Limits.{width_limit, height_limit};
 ghost use Rattle.gcode_text.specs.Amount.{paths_volume};

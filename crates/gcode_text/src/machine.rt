@@ -2,7 +2,7 @@
 ghost use Rattle.std.specs.Prelude.{◌≡◌, ◌<◌, length, IfOk, IfErr, Ok, Err};
 ghost use Rattle.text_scan.specs.Marks.{first_at};
 ghost use Rattle.gcode_text.specs.Reading.{words};
-ghost use Rattle.gcode_text.specs.Machine.{State, After, start, counting, line_step, words_line, command_line, limited, obeyed, driven, homed, counted_as, stays, extrudes, move_between};
+ghost use Rattle.gcode_text.specs.Machine.{State, start, counting, line_step, words_line, command_line, limited, obeyed, driven, homed, counted_as, stays, extrudes, move_between};
 
 use crate::command::{Command, command_of};
 use crate::fault::GFault;

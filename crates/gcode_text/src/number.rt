@@ -1,9 +1,9 @@
 //! Numbers in words.
-ghost use Rattle.std.specs.Prelude.{◌≡◌, ◌+◌, ◌*◌, ◌^◌, ◌≤◌, ◌==◌, Bool, IsTrue, ℤ, pos, min, slice_index, length};
+ghost use Rattle.std.specs.Prelude.{◌≡◌, ◌+◌, ◌*◌, ◌^◌, ◌≤◌, ◌==◌, IsTrue, pos, min};
 ghost use Rattle.std.specs.Char.{is_ascii_digit};
 ghost use Rattle.std.specs.List.{list_all};
 ghost use Rattle.std.specs.Option.{option_map};
-ghost use Rattle.std.specs.Str.Parse.{AllDigits, digits_value_after};
+ghost use Rattle.std.specs.Str.Parse.{digits_value_after};
 ghost use Rattle.gcode_text.specs.Cap.{cap, capped, capped_number, fits_cap};
 ghost use Rattle.gcode_text.specs.Reading.{negative, are_digits, whole_size, pointed_size, size_of, number};
 

@@ -1,5 +1,5 @@
 //! The lines of paths.
-ghost use Rattle.std.specs.Prelude.{◌≡◌, ◌+◌, ◌*◌, ◌^◌, length, ◌≤◌, List};
+ghost use Rattle.std.specs.Prelude.{◌≡◌, ◌+◌, ◌*◌, ◌^◌, length, ◌≤◌};
 ghost use Rattle.text_scan.specs.Printing.{Adds};
 ghost use Rattle.gcode_text.specs.Limits.{width_limit, height_limit};
 ghost use Rattle.gcode_text.specs.Amount.{move_volume, moves_volume, path_volume, filament};

@@ -1,5 +1,5 @@
 //! Places in bytes.
-ghost use Rattle.std.specs.Prelude.{◌≡◌, ◌+◌, ◌<◌, ◌≤◌, ◌==◌, ◌-◌, length, take, drop, slice_index};
+ghost use Rattle.std.specs.Prelude.{◌≡◌, ◌<◌, ◌≤◌, ◌==◌, ◌-◌, length, drop, slice_index};
 ghost use Rattle.text_scan.specs.Marks.{first_at};
 ghost use Rattle.gcode_text.specs.Reading.{without_return, without_comment, words, space};
 

@@ -1,7 +1,5 @@
 //! The words of a line behind its command.
 ghost use Rattle.std.specs.Prelude.{◌≡◌, ◌≤◌, Option, Result};
-ghost use Rattle.std.specs.Option.{option_map};
-ghost use Rattle.gcode_text.specs.Cap.{capped_number};
 ghost use Rattle.gcode_text.specs.Reading.{words, number};
 ghost use Rattle.gcode_text.specs.Machine.{limited, ranged, places, with_value, with_word, with_words, nothing_given};
 

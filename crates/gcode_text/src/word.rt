@@ -1,5 +1,4 @@
 //! Words and lines.
-ghost use Rattle.std.specs.Prelude.{List};
 ghost use Rattle.text_scan.specs.Printing.{Adds};
 ghost use Rattle.gcode_text.specs.Gcode.{target, feed_end, amount, travel_line, print_line, height_line, heat_line, number_line, supports_line};
 

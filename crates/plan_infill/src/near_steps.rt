@@ -1,5 +1,5 @@
 //! Where edges come near along a line.
-ghost use Rattle.std.specs.Prelude.{◌≡◌, ◌+◌, ◌*◌, ◌^◌, ◌<◌, ◌≤◌, ◌&&◌, true, false, ◌+ℤ◌, ◌-ℤ◌, pos, ◌<ℤ◌, ◌≤ℤ◌, int_lt, unsigned_abs, OnOk};
+ghost use Rattle.std.specs.Prelude.{◌≡◌, ◌+◌, ◌^◌, ◌<◌, ◌≤◌, ◌&&◌, ◌+ℤ◌, ◌-ℤ◌, pos, ◌<ℤ◌, int_lt, unsigned_abs, OnOk};
 ghost use Rattle.std.specs.Int.{int_min, int_max};
 ghost use Rattle.scad_geom.specs.Limits.{coordinate_limit};
 ghost use Rattle.scad_geom.specs.Within.{IsEdgeWithin};

@@ -1,5 +1,5 @@
 //! Quotients rounded down and up.
-ghost use Rattle.std.specs.Prelude.{◌≡◌, ◌+◌, ◌^◌, ◌≤◌, pos, ◌<ℤ◌, unsigned_abs};
+ghost use Rattle.std.specs.Prelude.{◌+◌, ◌^◌, ◌≤◌, pos, ◌<ℤ◌, unsigned_abs};
 ghost use Rattle.plan_infill.specs.Quotient.{IsFloor, IsCeiling};
 
 /// The greatest whole number that is at most `n / d`.

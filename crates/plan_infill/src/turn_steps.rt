@@ -1,9 +1,8 @@
 //! Where the winding number changes along a line.
-ghost use Rattle.std.specs.Prelude.{◌≡◌, ◌↔◌, ◌+◌, ◌*◌, ◌^◌, ◌≤◌, ◌&&◌, ◌+ℤ◌, ◌-ℤ◌, ◌*ℤ◌, pos, neg_ℤ, ◌<ℤ◌, ◌≤ℤ◌, int_lt, int_le, unsigned_abs, OnOk};
+ghost use Rattle.std.specs.Prelude.{◌≡◌, ◌+◌, ◌^◌, ◌≤◌, ◌&&◌, pos, ◌<ℤ◌, ◌≤ℤ◌, unsigned_abs, OnOk};
 ghost use Rattle.scad_geom.specs.Limits.{coordinate_limit};
 ghost use Rattle.scad_geom.specs.Within.{IsEdgeWithin};
 ghost use Rattle.scad_geom.specs.Line.{low, high, rise, run, x_at, left_of, heading};
-ghost use Rattle.scad_geom.specs.Winding.{counted};
 ghost use Rattle.plan_infill.specs.declared.line.Line.TheVariants.{Row, Column};
 ghost use Rattle.plan_infill.specs.Steps.{Adds, AreTurnSteps};
 ghost use Rattle.plan_infill.specs.Runs.{IsLineWithin};

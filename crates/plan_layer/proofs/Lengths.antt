@@ -1,6 +1,5 @@
 -- The moves of plans have a length.
-use Rattle.std.proofs.Common.{◌≤◌, ℕ, List, sym, arith}
-use Rattle.scad_geom.specs.declared.point.Pt.{Pt}
+use Rattle.std.proofs.Common.{◌≤◌, sym, arith}
 use Rattle.slice_loops.specs.Lengths.{HasLength}
 use Rattle.plan_infill.proofs.Lengths.{runs_have_lengths}
 use Rattle.plan_walls.proofs.Lengths.{walls_have_lengths}
@@ -9,7 +8,7 @@ use Rattle.scad_words.specs.Settings.{AreInRange}
 use Rattle.plan_layer.specs.Plan.{distance}
 use Rattle.plan_layer.specs.Infill.{line_at, depth}
 use Rattle.plan_layer.specs.Lengths.{PlansHaveLengths}
-use Rattle.plan_layer.proofs.Each.{HoldsOfParts, plan_holds}
+use Rattle.plan_layer.proofs.Each.{plan_holds}
 
 some_width : (s : Settings) → AreInRange s → 1 ≤ s.line_width
 some_width s range = let least = range.line_width.least in omega (arith, least)

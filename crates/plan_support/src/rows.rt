@@ -1,5 +1,5 @@
 //! Rows of runs.
-ghost use Rattle.std.specs.Prelude.{◌≡◌, ◌<◌, ◌++◌, ◌∷◌, [], List, length, map, slice_index_or, OnOk, OnErr};
+ghost use Rattle.std.specs.Prelude.{◌≡◌, ◌<◌, ◌++◌, ◌∷◌, [], List, length, map, slice_index_or, OnOk};
 ghost use Rattle.plan_support.specs.Rows.{Row, row_list, no_row, runs_at, GoUpwards};
 
 use crate::lists::Lists;

@@ -1,5 +1,5 @@
 //! The stretches of support lines that outlines wind round.
-ghost use Rattle.std.specs.Prelude.{◌≡◌, ◌++◌, ◌<◌, ◌≤◌, ◌+ℤ◌, ◌<ℤ◌, ◌≤ℤ◌, pos, unsigned_abs, IfOk, OnOk, All};
+ghost use Rattle.std.specs.Prelude.{◌<◌, ◌≤◌, ◌+ℤ◌, ◌<ℤ◌, ◌≤ℤ◌, pos, unsigned_abs, IfOk, OnOk, All};
 ghost use Rattle.scad_geom.specs.Limits.{coordinate_limit};
 ghost use Rattle.scad_geom.specs.Within.{IsWithin};
 ghost use Rattle.plan_support.specs.Multiple.{IsMultiple};

@@ -1,5 +1,5 @@
 //! A move whose nearness to sides is asked for.
-ghost use Rattle.std.specs.Prelude.{◌≡◌, ◌≤◌, ◌^◌, All, true, false};
+ghost use Rattle.std.specs.Prelude.{◌≡◌, ◌≤◌, All, true, false};
 ghost use Rattle.std.specs.List.{Any};
 ghost use Rattle.scad_geom.specs.Limits.{coordinate_limit};
 ghost use Rattle.scad_geom.specs.Within.{IsEdgeWithin};

@@ -1,16 +1,14 @@
 -- The edges of a wall's shape are within the limit of a layer's coordinates.
-use Rattle.std.proofs.Common.{ℕ, ◌+◌, ◌≤◌, List, [], ◌∷◌, flat_map, arith, ℤ, pos, ◌+ℤ◌, ◌-ℤ◌}
+use Rattle.std.proofs.Common.{ℕ, ◌+◌, ◌≤◌, List, [], ◌∷◌, arith, ℤ}
 use Rattle.std.specs.Prelude.{All, unsigned_abs}
 use Rattle.std.specs.List.{AllByRecursion}
-use Rattle.std.proofs.lemmas.Int.{ints}
 use Rattle.std.proofs.lemmas.List.Elements.{recursion_from_All, All-from_recursion}
 use Rattle.scad_base.proofs.Lists.{AllByRecursion-append}
-use Rattle.scad_geom.specs.declared.point.Pt.{Pt}
 use Rattle.scad_geom.specs.declared.point.Edge.{Edge}
 use Rattle.scad_geom.specs.declared.level.LeafEdge.{LeafEdge}
 use Rattle.scad_geom.specs.Limits.{point_limit, coordinate_limit}
-use Rattle.scad_geom.specs.Within.{IsWithin, IsEdgeWithin}
-use Rattle.scad_geom.specs.Loop.{path, sides}
+use Rattle.scad_geom.specs.Within.{IsEdgeWithin}
+use Rattle.scad_geom.specs.Loop.{sides}
 use Rattle.plan_sides.proofs.Within.{sides_within}
 use Rattle.scad_ring.specs.Limits.{distance_limit}
 use Rattle.scad_ring.specs.Corners.{corners_of}

@@ -25,7 +25,7 @@ impl<'p, V: Drop> Model for NameMap<'p, V> {
 }
 
 impl<'p, V: Drop> NameMap<'p, V> {
-    ghost use Rattle.std.specs.Prelude.{◌≡◌, [], option_copied, is_some, length, OnOk, OnErr};
+    ghost use Rattle.std.specs.Prelude.{◌≡◌, [], option_copied, is_some, OnOk, OnErr};
     ghost use Rattle.scad_bindings.specs.NamePlaces.{put_in, value_in};
 
     /// No names. They take no memory.

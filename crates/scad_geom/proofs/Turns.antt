@@ -2,7 +2,7 @@
 use Rattle.std.proofs.Common.{◌≡◌, Bool, true, false, cond, [], ◌∷◌, refl, sym, ap, ap₂, ◌∙◌, arith, subst}
 use Rattle.scad_base.proofs.Integers.{zero_minus, at_most_of_less}
 use lib.IntN.{ℤ, pos, negsuc, ◌+ℤ◌, ◌-ℤ◌, ◌*ℤ◌, neg_ℤ}
-use lib.Signed.{◌<ℤ◌, lt_z, le_z}
+use lib.Signed.{◌<ℤ◌}
 use Rattle.std.specs.Prelude.{int_lt, int_le, if◌then◌else◌}
 use Rattle.std.proofs.lemmas.Int.{ints, by_lt_z}
 use Rattle.scad_geom.specs.declared.point.Pt.{Pt}

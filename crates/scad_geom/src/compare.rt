@@ -1,5 +1,5 @@
 //! Exact comparisons of heights, and of edges at a height: by products, each within 127 bits.
-ghost use Rattle.std.specs.Prelude.{◌≡◌, ◌+◌, ◌*◌, ◌^◌, ◌<◌, ◌≤◌, ◌+ℤ◌, ◌-ℤ◌, ◌*ℤ◌, pos, ◌<ℤ◌, int_lt, unsigned_abs};
+ghost use Rattle.std.specs.Prelude.{◌≡◌, ◌*◌, ◌<◌, ◌*ℤ◌};
 ghost use Rattle.std.specs.Ordering.{int_cmp};
 ghost use Rattle.scad_geom.specs.Limits.{coordinate_limit};
 ghost use Rattle.scad_geom.specs.Within.{IsWithin, IsEdgeWithin};

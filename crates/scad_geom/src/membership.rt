@@ -1,5 +1,5 @@
 //! Membership in a tree of set operations, by that in its leaves.
-ghost use Rattle.std.specs.Prelude.{◌≡◌, slice_index_or, false, not, ◌&&◌};
+ghost use Rattle.std.specs.Prelude.{◌≡◌, slice_index_or, false, ◌&&◌};
 ghost use Rattle.scad_geom.specs.Shape.{shape_holds, any_holds, all_holds, has_items};
 
 use crate::shape::Shape;

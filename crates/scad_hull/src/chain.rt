@@ -1,5 +1,5 @@
 //! Rings of corners by chains that turn to the left.
-ghost use Rattle.std.specs.Prelude.{◌≡◌, [], reverse, IfOk, OnOk};
+ghost use Rattle.std.specs.Prelude.{◌≡◌, [], reverse, IfOk};
 ghost use Rattle.scad_hull.specs.Chain.{bent, led, half, ring_round};
 
 use crate::plane::Plane;

@@ -1,5 +1,5 @@
 //! Reading an input to its end, or to one byte past a limit.
-ghost use Rattle.std.specs.Prelude.{◌≡◌, ◌≢◌, ◌++◌, ◌+◌, ◌-◌, ◌*◌, ◌<◌, ◌≤◌, ℕ, false, true, length, take, min, vec_len, Option, IsSomeAnd, IfSome, IfNone, IfOk, OnErr, IsErrOf};
+ghost use Rattle.std.specs.Prelude.{◌≡◌, ◌≢◌, ◌++◌, ◌+◌, ◌-◌, ◌<◌, ◌≤◌, false, true, length, take, min, Option, IsSomeAnd, IfSome, IfNone, IfOk, IsErrOf};
 ghost use Rattle.scad_io.specs.Desk.{Gives, taken};
 ghost use Rattle.scad_io.specs.Reading.{ReadsAll, ReadsPast, ReadsPart};
 

@@ -1,6 +1,6 @@
 //! One character of UTF-8 at the front of bytes.
 
-ghost use Rattle.std.specs.Prelude.{◌≡◌, ◌+◌, ◌<◌, ◌≤◌, length, slice_index, IfSome};
+ghost use Rattle.std.specs.Prelude.{◌≡◌, ◌+◌, ◌<◌, ◌≤◌, slice_index, IfSome};
 ghost use Rattle.scad_lex.specs.Character.{tail_at, two_tails_at, form_of, two_bytes, three_bytes, four_bytes, character_at};
 
 use crate::bytes::byte_at;

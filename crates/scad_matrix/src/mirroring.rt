@@ -1,6 +1,5 @@
 //! Reflections.
-ghost use Rattle.std.specs.Prelude.{◌≡◌, ◌*◌, ◌^◌, ◌<◌, ◌≤◌, ◌+ℤ◌, ◌*ℤ◌, ◌≤ℤ◌, pos, unsigned_abs};
-ghost use Rattle.scad_num.specs.Number.{most};
+ghost use Rattle.std.specs.Prelude.{◌≡◌, ◌*◌, ◌^◌, ◌<◌, ◌≤◌, ◌*ℤ◌, ◌≤ℤ◌, pos, unsigned_abs};
 ghost use Rattle.scad_num.specs.Rounding.{half_up, half_away};
 ghost use Rattle.scad_matrix.specs.Makers.{square_of, reflection, along, across};
 

@@ -5,7 +5,7 @@ use Rattle.std.proofs.Math.Nat.{mul-div-le, lt-mul-div-succ, div-eq_of_lt}
 use Rattle.std.proofs.lemmas.Int.{ints}
 use Rattle.scad_base.proofs.Integers.{unsigned_abs-neg}
 use Rattle.std.proofs.Math.IntN.{neg_ℤ-neg_ℤ}
-use Rattle.scad_num.specs.Laws.{IsNearest, IsFloor, IsCeiling, RoundsToNearest, RoundsAwayFromZero, FloorsAndCeilings}
+use Rattle.scad_num.specs.Laws.{IsNearest, RoundsToNearest, RoundsAwayFromZero, FloorsAndCeilings}
 use Rattle.scad_num.specs.Number.{one, floor_of, ceil_of}
 use Rattle.scad_num.specs.Rounding.{half_up, half_away}
 

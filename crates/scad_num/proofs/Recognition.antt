@@ -1,14 +1,13 @@
 -- The literal that is cut off is the longest by the form of literals.
-use Rattle.std.proofs.Common.{◌≡◌, ℕ, zero, suc, ◌+◌, ◌-◌, ◌<◌, ◌≤◌, min, Bool, true, false, cond, eqb, ltb, ◌&&◌, ◌||◌, List, [], ◌∷◌, ◌++◌, length, take, drop, refl, sym, ap, ap₂, subst, arith, ◌∙◌, ◌⊎◌, inl, inr, ◌↔◌, append_assoc, length-append, take-append-drop}
+use Rattle.std.proofs.Common.{◌≡◌, ℕ, zero, suc, ◌+◌, ◌-◌, ◌<◌, ◌≤◌, Bool, true, false, cond, eqb, ◌&&◌, ◌||◌, List, [], ◌∷◌, ◌++◌, length, take, drop, refl, sym, ap, subst, arith, ◌∙◌, ◌⊎◌, inl, inr, append_assoc, length-append, take-append-drop}
 use Rattle.std.specs.Prelude.{slice_index, ◌==◌, nat_lt, if◌then◌else◌}
 use Rattle.std.specs.Char.{is_ascii_digit}
-use Rattle.std.specs.List.{prefix_len, AllByRecursion}
 use Rattle.std.proofs.lemmas.Bool.{cases_lt, cases_Bool}
 use Rattle.std.proofs.lemmas.Bool.Decides.{nat_tests}
 use Rattle.std.proofs.lemmas.List.{length-take, length-drop, get_or_at, get_or_past, drop_at, append-nil, take_all}
 use Rattle.scad_num.specs.Laws.{LiteralsAreLongest, LiteralsAreRecognised}
-use Rattle.scad_num.specs.Literal.{point, AreDigits, Mantissa, whole, pointed, IsMark, IsSign, Exponent, unsigned, signed, Literal, plain, scaled, IsLongestLiteral, digits_len, has_point, mantissa_len, sign_len, exponent_len, literal_len, is_literal}
-use Rattle.scad_num.proofs.LongestLiteral.{decimals_len, len_of, mantissa_len-by_digits, has_mark, power_len, exponent_of, exponent_len-by_parts, exponent_of-parts, exponent_len-nil, literal_of-parts}
+use Rattle.scad_num.specs.Literal.{point, AreDigits, Mantissa, whole, pointed, IsMark, IsSign, Exponent, unsigned, signed, Literal, plain, scaled, digits_len, has_point, mantissa_len, sign_len, exponent_len, literal_len, is_literal}
+use Rattle.scad_num.proofs.LongestLiteral.{decimals_len, len_of, mantissa_len-by_digits, has_mark, power_len, exponent_of, exponent_len-by_parts, exponent_of-parts, exponent_len-nil}
 use Rattle.std.proofs.Math.Seq.{drop-append-add}
 
 -- ---- a literal in front is no longer than what is cut off

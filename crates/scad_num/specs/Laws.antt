@@ -1,7 +1,7 @@
 -- What the roundings, the roots and the recognition of literals mean.
 use Rattle.std.specs.Prelude.{◌≡◌, ℕ, ◌+◌, ◌*◌, ◌^◌, ◌<◌, ◌≤◌, List, true, ◌↔◌, ℤ, pos, neg_ℤ, ◌+ℤ◌, ◌*ℤ◌, ◌<ℤ◌, ◌≤ℤ◌, unsigned_abs}
 use Rattle.scad_num.specs.Literal.{Literal, IsLongestLiteral, literal_len, is_literal}
-use Rattle.scad_num.specs.Number.{one, floor_of, ceil_of, round_of}
+use Rattle.scad_num.specs.Number.{one, floor_of, ceil_of}
 use Rattle.scad_num.specs.Root.{root}
 use Rattle.scad_num.specs.Rounding.{half_up, half_away}
 

@@ -1,6 +1,6 @@
 //! Decimal digits as whole numbers, capped just past the range.
-ghost use Rattle.std.specs.Prelude.{◌≡◌, ◌+◌, ◌*◌, ◌/◌, ◌^◌, ◌<◌, ◌≤◌, ◌++◌, length, take, min};
-ghost use Rattle.std.specs.Str.Parse.{AllDigits, digits_value, digits_value_after};
+ghost use Rattle.std.specs.Prelude.{◌≡◌, ◌+◌, ◌*◌, ◌^◌, ◌<◌, ◌≤◌, take, min};
+ghost use Rattle.std.specs.Str.Parse.{AllDigits, digits_value_after};
 
 /// The number that the digits write when they follow those of `n`, or the cap where it is greater.
 pub(crate) fn digits_onto(n: u128, digits: &[u8], cap: u128) -> u128

@@ -1,7 +1,7 @@
 //! Number literals and their values.
-ghost use Rattle.std.specs.Prelude.{◌≡◌, ◌+◌, ◌*◌, ◌^◌, ◌<◌, ◌≤◌, ◌++◌, length, take, drop, min, true, pos};
+ghost use Rattle.std.specs.Prelude.{◌≡◌, ◌+◌, ◌*◌, ◌^◌, ◌<◌, ◌≤◌, ◌++◌, length, take, drop, min, true};
 ghost use Rattle.std.specs.Str.Parse.{AllDigits, digits_value};
-ghost use Rattle.scad_num.specs.Literal.{mantissa_len, exponent_len, literal_len, is_literal, literal_number, whole_digits, decimal_digits, tens_up, tens_down};
+ghost use Rattle.scad_num.specs.Literal.{literal_len, is_literal, literal_number, whole_digits, decimal_digits};
 ghost use Rattle.scad_num.specs.Number.{most};
 ghost use Rattle.scad_num.specs.Rounding.{half_up};
 

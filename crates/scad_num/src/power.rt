@@ -1,7 +1,7 @@
 //! The exponent of a literal.
-ghost use Rattle.std.specs.Prelude.{◌≡◌, ◌==◌, ◌||◌, ◌+◌, ◌*◌, ◌^◌, ◌<◌, ◌≤◌, length, slice_index, take, min};
-ghost use Rattle.std.specs.Str.Parse.{AllDigits, digits_value, digits_value_after};
-ghost use Rattle.scad_num.specs.Literal.{sign_len, power_digits, has_power, exponent_len, tens_up, tens_down};
+ghost use Rattle.std.specs.Prelude.{◌≡◌, ◌==◌, ◌||◌, ◌+◌, ◌*◌, ◌^◌, ◌<◌, ◌≤◌, length, slice_index, min};
+ghost use Rattle.std.specs.Str.Parse.{AllDigits};
+ghost use Rattle.scad_num.specs.Literal.{sign_len, power_digits, exponent_len, tens_up, tens_down};
 
 use crate::decimal::digits_onto;
 use crate::mantissa::digits_at_front;

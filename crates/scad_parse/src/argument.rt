@@ -1,6 +1,6 @@
 //! Arguments.
 
-ghost use Rattle.std.specs.Prelude.{◌≡◌, length};
+ghost use Rattle.std.specs.Prelude.{length};
 ghost use Rattle.scad_ast.specs.Tree.{no_arguments};
 ghost use Rattle.scad_ast.specs.View.{arguments};
 ghost use Rattle.scad_grammar.specs.Rules.{args_of};

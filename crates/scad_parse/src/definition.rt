@@ -1,10 +1,10 @@
 //! Parameters, and the definitions of modules and functions.
 
-ghost use Rattle.std.specs.Prelude.{◌≡◌, length, []};
+ghost use Rattle.std.specs.Prelude.{[]};
 ghost use Rattle.scad_ast.specs.Scope.{item_of, items, parameter};
 ghost use Rattle.scad_grammar.specs.Lists.{with_item};
 ghost use Rattle.scad_grammar.specs.Rules.{in_round_of};
-ghost use Rattle.scad_parse.specs.Reading.{below, rules_at};
+ghost use Rattle.scad_parse.specs.Reading.{below};
 ghost use Rattle.scad_parse.specs.ReadingStatements.{below_statements, statement_rules_at, scope_seen};
 ghost use Rattle.scad_parse.specs.ReadingStatements.{parameters_seen, heading_seen, heading_read, parameter_of};
 ghost use Rattle.scad_parse.specs.ReadingStatements.{default_of, default_seen};

@@ -1,6 +1,5 @@
 //! The elements of vectors.
 
-ghost use Rattle.std.specs.Prelude.{◌≡◌};
 ghost use Rattle.scad_ast.specs.View.{expression_of, element_of};
 ghost use Rattle.scad_grammar.specs.Rules.{elem_of, else_of, for_head_of};
 ghost use Rattle.scad_parse.specs.Reading.{below, rules_at, round_head_of};

@@ -1,7 +1,6 @@
 //! Expressions. Each function reads what its rule derives from where the reader stands, where so many more constructs
 //! may open, and gives the tree.
 
-ghost use Rattle.std.specs.Prelude.{◌≡◌};
 ghost use Rattle.scad_ast.specs.View.{expression_of};
 ghost use Rattle.scad_grammar.specs.Rules.{expr_of, choice_of, expr_to};
 ghost use Rattle.scad_parse.specs.Reading.{below, rules_at, keyed, bound_by};

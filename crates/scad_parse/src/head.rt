@@ -1,6 +1,5 @@
 //! The head of a `for` among elements.
 
-ghost use Rattle.std.specs.Prelude.{◌≡◌};
 ghost use Rattle.scad_ast.specs.View.{element_of};
 ghost use Rattle.scad_grammar.specs.Rules.{headed};
 ghost use Rattle.scad_parse.specs.Heads.{head_of};

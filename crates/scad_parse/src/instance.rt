@@ -1,6 +1,5 @@
 //! What a statement runs: marks, and a call with its child or an `if`.
 
-ghost use Rattle.std.specs.Prelude.{◌≡◌};
 ghost use Rattle.scad_ast.specs.Tree.{choice, call_of};
 ghost use Rattle.scad_ast.specs.View.{expression_of, arguments};
 ghost use Rattle.scad_ast.specs.Scope.{items, body_of};

@@ -1,6 +1,6 @@
 //! The marks before a statement, and the name that a call begins with.
 
-ghost use Rattle.std.specs.Prelude.{◌≡◌, Bool, true, false, Some, None, IfOk};
+ghost use Rattle.std.specs.Prelude.{◌≡◌, true, false, Some, None, IfOk};
 ghost use Rattle.scad_grammar.specs.Lists.{no_marks, starred, percented, hashed};
 ghost use Rattle.scad_grammar.specs.StatementSteps.{callee_kind, callee};
 ghost use Rattle.scad_parse.specs.ReadingStatements.{marks_of, begins_with_mark, with_first_mark, callee_here};

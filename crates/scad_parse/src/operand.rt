@@ -1,6 +1,5 @@
 //! The operands of an expression and the operators between, before and behind them.
 
-ghost use Rattle.std.specs.Prelude.{◌≡◌};
 ghost use Rattle.scad_ast.specs.View.{expression_of};
 ghost use Rattle.scad_grammar.specs.Rules.{operand_of, links_of, unary_of, posts_of};
 ghost use Rattle.scad_parse.specs.Reading.{below, rules_at, prefixed_by, chain_of};

@@ -1,6 +1,5 @@
 //! The operands without operators.
 
-ghost use Rattle.std.specs.Prelude.{◌≡◌};
 ghost use Rattle.scad_ast.specs.View.{expression_of};
 ghost use Rattle.scad_parse.specs.Reading.{below, prim_at, name_at};
 ghost use Rattle.scad_parse.specs.Standing.{Reads};

@@ -1,6 +1,5 @@
 //! Statements, where definitions may stand and where they may not, and groups of them.
 
-ghost use Rattle.std.specs.Prelude.{◌≡◌};
 ghost use Rattle.scad_ast.specs.Scope.{items};
 ghost use Rattle.scad_grammar.specs.StatementRules.{statement_of};
 ghost use Rattle.scad_parse.specs.ReadingStatements.{below_statements, statement_rules_at, scope_seen, definition_at};

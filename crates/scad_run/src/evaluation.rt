@@ -1,16 +1,14 @@
 //! Evaluation of a source, with its echo lines.
-ghost use Rattle.std.specs.Prelude.{◌≡◌, ◌-◌, ◌^◌, ◌<◌, ◌++◌, ◌∷◌, [], length, codes, flat_map, IfOk};
-ghost use Rattle.scad_io.specs.Desk.{View};
+ghost use Rattle.std.specs.Prelude.{◌≡◌, ◌-◌, ◌^◌, ◌<◌, ◌∷◌, [], length, IfOk};
 ghost use Rattle.scad_io.specs.declared.desk.Out.TheVariants.{Report};
 ghost use Rattle.scad_script.specs.Steps.{Sends};
-ghost use Rattle.scad_script.specs.Script.{Script, first};
-ghost use Rattle.scad_script.specs.Play.{Left, Carries};
+ghost use Rattle.scad_script.specs.Script.{first};
+ghost use Rattle.scad_script.specs.Play.{Carries};
 ghost use Rattle.scad_script.specs.Run.{Sound};
 ghost use Rattle.scad_script.specs.Departure.{Keeps};
-ghost use Rattle.scad_tree.specs.Solid.{Solid};
 ghost use Rattle.scad_tree.specs.View.{solid_of};
 ghost use Rattle.scad_run.specs.Meaning.{source_means, MeansTree};
-ghost use Rattle.scad_run.specs.SourceReport.{echo_text, refusal_of, told};
+ghost use Rattle.scad_run.specs.SourceReport.{echo_text, refusal_of};
 ghost use Rattle.scad_run.specs.Playing.{Tells};
 
 use crate::meaning::model_of_source;

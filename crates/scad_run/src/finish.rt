@@ -1,5 +1,5 @@
 //! What a command does with a source's tree.
-ghost use Rattle.std.specs.Prelude.{◌≡◌, ◌<◌, ◌≤◌, false, None};
+ghost use Rattle.std.specs.Prelude.{◌≡◌, ◌<◌, false, None};
 ghost use Rattle.scad_script.specs.Play.{Completes};
 ghost use Rattle.scad_script.specs.Run.{Sound};
 ghost use Rattle.scad_script.specs.Departure.{Leaves};

@@ -1,5 +1,5 @@
 //! The work of `verify`: outlines and a printing program are read, and the program is judged by the outlines.
-ghost use Rattle.std.specs.Prelude.{◌≡◌, ◌≤◌, Ok, IfOk};
+ghost use Rattle.std.specs.Prelude.{◌≡◌, Ok, IfOk};
 ghost use Rattle.scad_script.specs.Script.{ends};
 ghost use Rattle.scad_script.specs.Run.{Sound};
 ghost use Rattle.scad_script.specs.Departure.{Keeps, Leaves};

@@ -1,5 +1,5 @@
 //! The end of `sample`: its tree is planned, and nothing is kept of the files but their sizes.
-ghost use Rattle.std.specs.Prelude.{◌≡◌, ◌++◌, decimal, IfOk, OnOk};
+ghost use Rattle.std.specs.Prelude.{◌≡◌, ◌++◌, IfOk, OnOk};
 ghost use Rattle.slice_work.specs.declared.want.Want.TheVariants.{Plan};
 ghost use Rattle.scad_tree.specs.View.{solid_of};
 ghost use Rattle.scad_slice.specs.Parts.{IsPart};

@@ -1,5 +1,5 @@
 //! The settings of a run.
-ghost use Rattle.std.specs.Prelude.{◌≡◌, ◌<◌, option_map, IfOk};
+ghost use Rattle.std.specs.Prelude.{◌<◌, IfOk};
 ghost use Rattle.scad_words.specs.Settings.{settings_of, AreInRange};
 ghost use Rattle.scad_script.specs.Run.{Sound, CreatesNone};
 ghost use Rattle.scad_script.specs.Departure.{Keeps};

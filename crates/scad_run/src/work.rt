@@ -1,5 +1,5 @@
 //! The work of a command, up to the report's last line.
-ghost use Rattle.std.specs.Prelude.{◌≡◌, ◌<◌, ◌≤◌, ◌-◌, ◌^◌, false, Some, None, option_map, length, map, string_bytes, IfOk, IfErr};
+ghost use Rattle.std.specs.Prelude.{◌≡◌, ◌<◌, ◌≤◌, ◌-◌, false, Some, None, option_map, map, string_bytes, IfOk, IfErr};
 ghost use Rattle.scad_script.specs.Script.{IsWithin};
 ghost use Rattle.scad_script.specs.Play.{Carries, Completes};
 ghost use Rattle.scad_script.specs.Run.{Sound, CreatesNone};

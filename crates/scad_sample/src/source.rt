@@ -1,6 +1,5 @@
 //! The text of a sample.
 ghost use Rattle.std.specs.Prelude.{◌≡◌, [], ◌∷◌, ◌++◌, ◌+◌, ◌%◌, ◌<◌, ◌≤◌, length, IfOk, OnOk};
-ghost use Rattle.std.specs.Fmt.{decimal};
 ghost use Rattle.scad_base.specs.Characters.{digit_zero};
 ghost use Rattle.gcode_text.specs.Numeral.{last_digits, fixed};
 ghost use Rattle.scad_sample.specs.Sample.{plate_start, hole_start, hole_middle, hole_end, plate_end, hole_text, holes, sample_text};

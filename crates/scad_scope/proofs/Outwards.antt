@@ -1,7 +1,7 @@
 -- Frames in memory and the environments that they stand for.
 use Rattle.std.proofs.Common.{◌≡◌, ℕ, ◌+◌, ◌-◌, ◌<◌, ◌≤◌, List, [], ◌∷◌, ◌++◌, map, length, take, drop, get_or, set, Option, Some, None, option_map, Bor, refl, sym, ap, ◌∙◌, append_assoc, arith}
 use Rattle.std.specs.Prelude.{option_copied}
-use Rattle.std.proofs.lemmas.List.{map-append, map-set, take-map, length-map, get_or-take, get_or_past, get_or-map, set-get_or, drop_more, length-append, length-take, length-take-le, take-append-drop, take_at, append-nil}
+use Rattle.std.proofs.lemmas.List.{map-set, length-map, get_or-take, get_or_past, get_or-map, set-get_or, drop_more, length-append, length-take, length-take-le, take-append-drop, take_at, append-nil}
 use Rattle.std.proofs.Math.Seq.{get_or-append_seam, map-set_same}
 use Rattle.scad_value.specs.Datum.{Datum}
 use Rattle.scad_value.specs.declared.value.Value.{Value}

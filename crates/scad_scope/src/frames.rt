@@ -23,7 +23,7 @@ pub struct Frames<'p> {
 }
 
 impl<'p> Frames<'p> {
-    ghost use Rattle.std.specs.Prelude.{◌≡◌, ◌-◌, ◌∷◌, ◌++◌, [], ℕ, List, Some, None, length, take, option_map, IfOk, OnOk, OnErr, nat_eq};
+    ghost use Rattle.std.specs.Prelude.{◌≡◌, ◌-◌, ◌∷◌, ◌++◌, [], ℕ, List, Some, None, length, take, option_map, IfOk, OnOk, OnErr};
     ghost use Rattle.scad_ast.specs.Scope.{item_of, items};
     ghost use Rattle.scad_value.specs.View.{datum_of};
     ghost use Rattle.scad_scope.specs.Chain.{names_at, HoldNames};

@@ -28,7 +28,7 @@ pub struct PlacedValues<'p> {
 }
 
 impl<'p> PlacedValues<'p> {
-    ghost use Rattle.std.specs.Prelude.{ℕ, List, [], ◌∷◌, ◌++◌, ◌<◌, ◌≤◌, Some, None, length, OnOk, OnErr};
+    ghost use Rattle.std.specs.Prelude.{ℕ, List, [], ◌∷◌, ◌++◌, ◌<◌, Some, None, length, OnOk, OnErr};
     ghost use Rattle.scad_value.specs.View.{datum_of};
     ghost use Rattle.scad_scope.specs.FrameNames.{listing_of, placed_in};
     ghost use Rattle.scad_scope.specs.Listing.{place_of, name_at};

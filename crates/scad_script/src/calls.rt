@@ -1,6 +1,6 @@
 //! The two steps that draw: an output is created, and a piece is written to it.
-ghost use Rattle.std.specs.Prelude.{◌≡◌, ◌≢◌, ◌<◌, ◌∷◌, [], true, false, OnOk, IsErrOf, OnErr};
-ghost use Rattle.scad_io.specs.Desk.{side, HasCause};
+ghost use Rattle.std.specs.Prelude.{◌≡◌, ◌≢◌, ◌<◌, ◌∷◌, [], false, OnOk, OnErr};
+ghost use Rattle.scad_io.specs.Desk.{side};
 ghost use Rattle.scad_script.specs.Steps.{Makes, Sends};
 ghost use Rattle.scad_script.specs.Script.{first};
 ghost use Rattle.scad_script.specs.Play.{Carries, IsThere, stop_of};

@@ -1,5 +1,5 @@
 //! The step that reads: a file is opened and read to its end, or past a limit.
-ghost use Rattle.std.specs.Prelude.{◌≡◌, ◌<◌, ◌≤◌, ◌∷◌, [], Some, IfOk, OnOk, IsErrOf, IfSome, option_map};
+ghost use Rattle.std.specs.Prelude.{◌≡◌, ◌<◌, ◌∷◌, [], Some, IfOk, IfSome, option_map};
 ghost use Rattle.scad_script.specs.Steps.{Reads};
 ghost use Rattle.scad_script.specs.Script.{first, input_of, IsWithin};
 ghost use Rattle.scad_script.specs.Play.{Carries};

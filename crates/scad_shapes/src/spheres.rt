@@ -1,5 +1,5 @@
 //! Spheres.
-ghost use Rattle.std.specs.Prelude.{◌≡◌, ◌<◌, ◌≤◌, ◌++◌, ◌∷◌, [], pos, unsigned_abs, length, IfOk};
+ghost use Rattle.std.specs.Prelude.{◌≡◌, ◌<◌, ◌≤◌, [], pos, unsigned_abs, length, IfOk};
 ghost use Rattle.scad_shapes.specs.Limits.{triangle_limit};
 ghost use Rattle.scad_base.specs.Memory.{UnlessMemory};
 ghost use Rattle.scad_shapes.specs.Faults.{is_memory};

@@ -1,9 +1,7 @@
 //! What stands below higher layers of a tree, found before its first layer is written.
-ghost use Rattle.std.specs.Prelude.{◌≡◌, ◌<◌, ◌≤◌, Err, IfOk, All, List};
+ghost use Rattle.std.specs.Prelude.{◌≡◌, ◌<◌, ◌≤◌, Err, IfOk};
 ghost use Rattle.scad_fault.specs.declared.budget.Budget.{Budget};
-ghost use Rattle.scad_geom.specs.declared.point.Pt.{Pt};
 ghost use Rattle.scad_tree.specs.View.{solid_of};
-ghost use Rattle.plan_support.specs.Rows.{AreRows};
 ghost use Rattle.slice_work.specs.declared.survey_fault.SurveyFault.TheVariants.{Over};
 ghost use Rattle.slice_work.specs.declared.want.Want.TheVariants.{Plan};
 ghost use Rattle.slice_work.specs.Part.{layer_limit};

@@ -1,5 +1,5 @@
 //! The last lines.
-ghost use Rattle.std.specs.Prelude.{◌≡◌, ◌++◌, decimal, IfOk, OnOk};
+ghost use Rattle.std.specs.Prelude.{◌≡◌, IfOk};
 ghost use Rattle.scad_slice.specs.Script.{done_line, plan_line};
 
 use gcode_text::push_hundred_thousandths;

@@ -1,7 +1,7 @@
 //! The heads and the ends of the files.
-ghost use Rattle.std.specs.Prelude.{◌≡◌, ◌≢◌, ◌≤◌, ◌<◌, ◌∷◌, [], true, length, IfOk};
+ghost use Rattle.std.specs.Prelude.{◌≡◌, ◌<◌, ◌∷◌, [], true, length, IfOk};
 ghost use Rattle.scad_io.specs.declared.desk.Out.TheVariants.{Cli, Gcode};
-ghost use Rattle.scad_script.specs.Steps.{Sends, text_of};
+ghost use Rattle.scad_script.specs.Steps.{Sends};
 ghost use Rattle.scad_script.specs.Script.{first};
 ghost use Rattle.scad_script.specs.Play.{Carries, IsThere};
 ghost use Rattle.scad_script.specs.Run.{Sound};

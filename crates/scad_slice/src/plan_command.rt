@@ -1,5 +1,5 @@
 //! What follows the tree of a source that is planned.
-ghost use Rattle.std.specs.Prelude.{◌≡◌, ◌≤◌, false};
+ghost use Rattle.std.specs.Prelude.{◌≡◌, false};
 ghost use Rattle.scad_script.specs.Play.{Completes};
 ghost use Rattle.scad_script.specs.Run.{Sound};
 ghost use Rattle.scad_script.specs.Departure.{Leaves};

@@ -19,7 +19,7 @@ use Rattle.scad_geom.proofs.Ring.{Term, ring, var, num, plus, less, times}
 use Rattle.scad_solid.specs.declared.triangle.Triangle.{Triangle}
 use Rattle.scad_solid.specs.Cut.{is_above, is_below, point_between, cut_between, cut_of, cuts_of}
 use Rattle.scad_solid.specs.Solid.{fan, fan_around, fans}
-use Rattle.scad_solid.specs.Stack.{quad, band, stack_faces, stacked}
+use Rattle.scad_solid.specs.Stack.{quad, band, stacked}
 use Rattle.scad_solid.specs.Stack as stack
 use Rattle.scad_solid.specs.Laws.{at, prism}
 use Rattle.scad_geom.specs.Loop.{path}

@@ -1,6 +1,5 @@
 //! The triangles of faces.
 ghost use Rattle.std.specs.Prelude.{◌≡◌, ◌<◌, length, map, None, IfOk, IsTrue, find, nat_le};
-ghost use Rattle.std.specs.List.{list_all};
 ghost use Rattle.scad_solid.specs.Solid.{corners, fans, first_bad, names_points};
 
 use crate::face::Face;

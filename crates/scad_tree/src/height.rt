@@ -1,5 +1,5 @@
 //! The height that a tree reaches, and its layers.
-ghost use Rattle.std.specs.Prelude.{◌≡◌, ◌≤◌, pos, is_none};
+ghost use Rattle.std.specs.Prelude.{◌≡◌, ◌≤◌, is_none};
 ghost use Rattle.scad_solid.specs.Height.{higher_of};
 ghost use Rattle.scad_tree.specs.Height.{lower_of, top_of, greatest, least, layers_below, layers};
 ghost use Rattle.scad_tree.specs.Normal.{is_nothing};

@@ -1,5 +1,5 @@
 //! Which points of a layer's plane a tree contains.
-ghost use Rattle.std.specs.Prelude.{◌≡◌, not, ◌&&◌};
+ghost use Rattle.std.specs.Prelude.{◌≡◌, ◌&&◌};
 ghost use Rattle.scad_geom.specs.Half.{meant};
 ghost use Rattle.scad_solid.specs.Cut.{plane_of, contains};
 ghost use Rattle.scad_tree.specs.Containment.{contained_at};

@@ -1,6 +1,5 @@
 //! Nodes in normal form from their parts.
-ghost use Rattle.std.specs.Prelude.{◌≡◌, ◌++◌, [], ◌∷◌, IfOk, OnOk, IsTrue, not, filter};
-ghost use Rattle.std.specs.List.{list_any};
+ghost use Rattle.std.specs.Prelude.{◌≡◌, ◌++◌, [], ◌∷◌, IfOk, OnOk};
 ghost use Rattle.scad_tree.specs.View.{solid_of, solids};
 ghost use Rattle.scad_tree.specs.Normal.{parts, union_of, intersection_of, without, is_nothing};
 

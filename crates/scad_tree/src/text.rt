@@ -1,6 +1,5 @@
 //! The text of a tree.
 ghost use Rattle.std.specs.Prelude.{◌≡◌, ◌+◌, ◌++◌, IfOk, OnOk};
-ghost use Rattle.std.specs.Fmt.{decimal};
 ghost use Rattle.scad_tree.specs.Order.{leaves, all_leaves};
 ghost use Rattle.scad_tree.specs.Solid.{members};
 ghost use Rattle.scad_tree.specs.Text.{indent, line, leaf_text, lines, all_lines, text_of};

@@ -1,5 +1,5 @@
 //! The settings' table: the range of each key, and its value where a text has none.
-ghost use Rattle.std.specs.Prelude.{◌≡◌, ◌&&◌, ◌||◌, Some, None, ℤ, pos, int_le};
+ghost use Rattle.std.specs.Prelude.{◌≡◌, ◌&&◌, ◌||◌, Some, None};
 ghost use Rattle.scad_words.specs.Rows as spec;
 
 /// The least and the greatest value of a setting, whether 0, for none, is one besides, and its value where none is given.

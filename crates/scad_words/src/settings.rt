@@ -1,6 +1,6 @@
 //! The settings of a print, read from TOML.
-ghost use Rattle.std.specs.Prelude.{◌≡◌, Some, None, IfOk, IfErr, IfSome, pos, codes, option_map, option_and_then, ◌⊎◌};
-ghost use Rattle.toml.specs.Data.{as_integer, get_member};
+ghost use Rattle.std.specs.Prelude.{◌≡◌, Some, None, IfOk, option_map, ◌⊎◌};
+ghost use Rattle.toml.specs.Data.{as_integer};
 ghost use Rattle.toml.specs.View.{view, table_view};
 ghost use Rattle.scad_words.specs.Settings as spec;
 

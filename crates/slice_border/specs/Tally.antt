@@ -1,6 +1,5 @@
 -- Winding numbers of leaves, and how a bundle's edges change them.
-use Rattle.std.specs.Prelude.{Bool, not, List, [], ◌∷◌, ℕ, ◌==◌, ◌≡◌, ℤ, pos, negsuc, ◌+ℤ◌, int_lt, if◌then◌else◌, slice_index_or}
-use Rattle.scad_geom.specs.declared.point.Edge.{Edge}
+use Rattle.std.specs.Prelude.{Bool, not, List, [], ◌∷◌, ℕ, ◌==◌, ◌≡◌, ℤ, pos, ◌+ℤ◌, if◌then◌else◌, slice_index_or}
 use Rattle.scad_geom.specs.declared.level.LeafEdge.{LeafEdge}
 use Rattle.scad_geom.specs.declared.shape.Shape.{Shape}
 use Rattle.scad_geom.specs.Shape.{shape_holds}

@@ -1,5 +1,5 @@
 //! The pairs of edges that share a bucket of heights.
-ghost use Rattle.std.specs.Prelude.{◌≡◌, ◌<◌, ◌≤◌, ◌^◌, ◌&&◌, ◌∷◌, length, OnOk, All, int_le};
+ghost use Rattle.std.specs.Prelude.{◌≡◌, ◌<◌, ◌&&◌, ◌∷◌, length, OnOk, All, int_le};
 ghost use Rattle.scad_geom.specs.Line.{low, high};
 ghost use Rattle.slice_events.specs.Lines.{edges_in};
 ghost use Rattle.slice_events.specs.Boxes.{left_end, right_end, boxes_meet};

@@ -1,9 +1,5 @@
 //! What is found of the pairs of edges that are compared.
-ghost use Rattle.std.specs.Prelude.{◌≡◌, ◌+◌, ◌++◌, ◌∷◌, ◌≤◌, ◌^◌, ◌<◌, OnOk, true, false, if◌then◌else◌};
-ghost use Rattle.scad_geom.specs.Limits.{coordinate_limit};
-ghost use Rattle.scad_geom.specs.Level.{IsLevelWithin};
-ghost use Rattle.slice_events.specs.Collection.{levels_in};
-ghost use Rattle.slice_events.specs.Limits.{crossing_limit};
+ghost use Rattle.std.specs.Prelude.{◌+◌, ◌<◌, OnOk};
 ghost use Rattle.slice_events.specs.Yields.{yield_of, HasRoom, HasYielded};
 
 use crate::events::CROSSING_LIMIT;

@@ -1,7 +1,7 @@
 //! Where two edges meet.
-ghost use Rattle.std.specs.Prelude.{◌≡◌, ◌+◌, ◌*◌, ◌<◌, ◌≤◌, ◌&&◌, ◌||◌, not, pos, int_le, true, unsigned_abs};
+ghost use Rattle.std.specs.Prelude.{◌≡◌, ◌<◌, ◌≤◌, ◌&&◌, ◌||◌, not, pos, int_le, true, unsigned_abs};
 ghost use Rattle.scad_geom.specs.Limits.{coordinate_limit, divisor_limit};
-ghost use Rattle.scad_geom.specs.Within.{IsWithin, IsEdgeWithin};
+ghost use Rattle.scad_geom.specs.Within.{IsWithin};
 ghost use Rattle.scad_geom.specs.Line.{low, high, rise, left_of, lean, apart};
 ghost use Rattle.scad_geom.specs.Sign.{is_zero};
 ghost use Rattle.scad_geom.specs.Meeting.{straddles, meets, meeting};

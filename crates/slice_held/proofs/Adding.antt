@@ -1,10 +1,10 @@
 -- What a shape's cells are added by.
-use Rattle.std.proofs.Common.{◌≡◌, ◌≢◌, ℕ, zero, suc, ◌+◌, ◌<◌, ◌≤◌, Bool, true, false, not, List, [], ◌∷◌, ◌++◌, length, map, drop, refl, sym, ap, ap₂, ◌∙◌, subst, arith}
+use Rattle.std.proofs.Common.{◌≡◌, ℕ, ◌+◌, Bool, true, false, List, [], ◌∷◌, ◌++◌, length, map, sym, ap, ap₂, ◌∙◌, subst}
 use Rattle.std.proofs.lemmas.List.{map-append, append_assoc}
 use Rattle.scad_geom.specs.declared.shape.Shape.{Shape}
 use Rattle.slice_held.specs.declared.cell.Cell.{Cell}
 use Rattle.slice_held.specs.declared.kept_shape.Held.{Held}
-use Rattle.slice_held.specs.Cells.{cell_at, bare, AreSound, HasPlaceUnder}
+use Rattle.slice_held.specs.Cells.{bare, HasPlaceUnder}
 use Rattle.slice_held.specs.Layout.{blank, cells_of, cells_of_all}
 use Rattle.slice_held.specs.Chain.{AreChained, Enters}
 use Rattle.slice_held.specs.Held.{leaf_count, IsBlank, Adds}

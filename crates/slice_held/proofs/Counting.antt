@@ -1,8 +1,8 @@
 -- What operations are told where one cell changes.
 use Rattle.std.proofs.Common.{◌⊎◌, inl, inr, ◌≡◌, ◌≢◌, ℕ, zero, suc, ◌+◌, ◌-◌, ◌<◌, ◌≤◌, ◌^◌, Bool, true, false, cond, ◌&&◌, List, [], ◌∷◌, length, set, get_or, map, refl, sym, ap, ap₂, ◌∙◌, subst, arith}
-use Rattle.std.specs.Prelude.{count_by, ◌==◌, slice_index_or}
+use Rattle.std.specs.Prelude.{count_by, ◌==◌}
 use Rattle.std.proofs.lemmas.List.Sums.{sum_by-set, count_by-le-length}
-use Rattle.std.proofs.lemmas.List.{get_or-set_same, get_or-set_other, length-set, map-set}
+use Rattle.std.proofs.lemmas.List.{get_or-set_same, get_or-set_other, length-set}
 use Rattle.slice_held.specs.declared.cell.Cell.{Cell}
 use Rattle.slice_held.specs.Cells.{no_cell, cell_at, bare, differ, is_told, tells, told, moved, ParentsComeFirst, ParentsAreOperations, IsCounted, AreCounted, IsRightFor, Recounts}
 

@@ -1,5 +1,5 @@
 -- The value of a shape's first cell is the shape's, where the counts of operations are right.
-use Rattle.std.proofs.Common.{◌⊎◌, inl, inr, ◌≡◌, ◌≢◌, ℕ, zero, suc, ◌+◌, ◌-◌, ◌<◌, ◌≤◌, Bool, true, false, cond, not, ◌&&◌, ◌||◌, List, [], ◌∷◌, ◌++◌, length, get_or, map, drop, refl, sym, ap, ap₂, ◌∙◌, subst, arith}
+use Rattle.std.proofs.Common.{◌⊎◌, inl, inr, ◌≡◌, ◌≢◌, ℕ, zero, suc, ◌+◌, ◌-◌, ◌<◌, ◌≤◌, Bool, true, false, not, ◌&&◌, ◌||◌, List, [], ◌∷◌, ◌++◌, length, map, drop, refl, sym, ap, ap₂, ◌∙◌, subst, arith}
 use Rattle.std.specs.Prelude.{count_by, ◌==◌, if◌then◌else◌}
 use Rattle.std.specs.List.{AllByRecursion}
 use Rattle.std.proofs.lemmas.List.{length-append, length-map}
@@ -8,7 +8,7 @@ use Rattle.scad_geom.specs.declared.shape.Shape.{Shape, Empty, Leaf, Union', Int
 use Rattle.scad_geom.specs.Shape.{shape_holds, some_hold, all_hold, has_member}
 use Rattle.scad_geom.proofs.Order.{front, back}
 use Rattle.slice_held.specs.declared.cell.Cell.{Cell}
-use Rattle.slice_held.specs.Cells.{no_cell, cell_at, bare, holds, is_told, tells, told}
+use Rattle.slice_held.specs.Cells.{cell_at, bare, holds, is_told, tells, told}
 use Rattle.slice_held.specs.Layout.{blank, cells_of, cells_of_row}
 use Rattle.slice_held.proofs.Counting.{once, none_told, told_parent}
 

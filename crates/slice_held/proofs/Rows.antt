@@ -1,17 +1,17 @@
 -- The cells of members, which code sees as a slice, and cells added one after another.
-use Rattle.std.proofs.Common.{◌≡◌, ◌≢◌, ℕ, zero, suc, ◌+◌, ◌<◌, ◌≤◌, Bool, true, false, not, List, [], ◌∷◌, ◌++◌, length, map, drop, refl, sym, ap, ap₂, ◌∙◌, subst, arith, rules}
-use Rattle.scad_geom.specs.declared.shape.Shape.{Shape, Empty, Leaf, Union, Inter, Diff, items-the_row-Shape, Union', Inter', Diff', Row_of-Shape, end_of-Shape, more_of-Shape}
+use Rattle.std.proofs.Common.{◌≡◌, ℕ, ◌+◌, ◌<◌, ◌≤◌, Bool, true, false, not, List, [], ◌∷◌, ◌++◌, length, map, refl, sym, ap, ◌∙◌, subst, arith, rules}
+use Rattle.scad_geom.specs.declared.shape.Shape.{Shape, Union, Inter, Diff, items-the_row-Shape, Row_of-Shape, end_of-Shape, more_of-Shape}
 use Rattle.scad_geom.specs.declared.shape.Shape.{the_lemmas}
 use Rattle.std.specs.Prelude.{Vec}
 use Rattle.std.specs.declared.boxed.Box.{Box}
 use Rattle.std.specs.Global.{Global}
-use Rattle.std.proofs.lemmas.List.{length-append, length-map, append_assoc}
-use Rattle.scad_geom.specs.Shape.{has_member, has_items}
+use Rattle.std.proofs.lemmas.List.{length-append, length-map}
+use Rattle.scad_geom.specs.Shape.{has_items}
 use Rattle.scad_geom.proofs.Shapes.{has_row}
 use Rattle.slice_held.specs.declared.cell.Cell.{Cell}
-use Rattle.slice_held.specs.Cells.{no_cell, cell_at, bare, HasPlaceUnder}
+use Rattle.slice_held.specs.Cells.{cell_at, bare, HasPlaceUnder}
 use Rattle.slice_held.specs.Layout.{blank, cells_of, cells_of_row, cells_of_all}
-use Rattle.slice_held.proofs.Sound.{bare_in, at_front, past_end}
+use Rattle.slice_held.proofs.Sound.{bare_in, at_front}
 
 pub row_cells : (p : ℕ) (r : Bool) (at : ℕ) (m : _) (row : Row_of-Shape m)
     → cells_of_row p r at row ≡ cells_of_all p r at (items-the_row-Shape m row)

@@ -1,18 +1,16 @@
 -- What cells show of a shape.
-use Rattle.std.proofs.Common.{◌≡◌, ◌≢◌, ℕ, zero, suc, ◌+◌, ◌<◌, ◌≤◌, Bool, true, false, not, List, [], ◌∷◌, ◌++◌, length, map, drop, refl, sym, ap, ap₂, ◌∙◌, subst, arith}
+use Rattle.std.proofs.Common.{◌≡◌, ◌≢◌, ℕ, zero, suc, ◌+◌, ◌<◌, Bool, true, false, not, List, [], ◌∷◌, ◌++◌, length, map, drop, refl, sym, ap, ap₂, ◌∙◌, subst, arith}
 use Rattle.std.specs.Prelude.{◌==◌, if◌then◌else◌}
 use Rattle.std.specs.List.{AllByRecursion}
 use Rattle.scad_geom.specs.declared.shape.Shape.{Shape, Empty, Leaf, Union', Inter', Diff', Row_of-Shape, end_of-Shape, more_of-Shape}
 use Rattle.scad_geom.specs.Shape.{shape_holds}
 use Rattle.slice_held.specs.declared.cell.Cell.{Cell}
 use Rattle.slice_held.specs.declared.kept_shape.Held.{Held}
-use Rattle.slice_held.specs.Cells.{cell_at, bare, holds, AreSound, AreOut, AreSet}
+use Rattle.slice_held.specs.Cells.{cell_at, bare, holds, AreSet}
 use Rattle.slice_held.specs.Layout.{cells_of, cells_of_row}
-use Rattle.slice_held.specs.Chain.{AreChained}
-use Rattle.slice_held.specs.Held.{IsReady, IsBlank, Shows, Adds, with_leaf}
+use Rattle.slice_held.specs.Held.{IsReady, Shows, Adds, with_leaf}
 use Rattle.slice_held.proofs.Layouts.{IsLeafBy, holds_whole, cells_more, all_append}
 use Rattle.slice_held.proofs.Sound.{leaf_at, size_is}
-use Rattle.slice_held.proofs.Chains.{chained_by}
 
 -- ---- a leaf's cell holds where its count isn't 0
 abbrev IsAnyLeaf : Cell → Type 0

@@ -1,5 +1,5 @@
 -- The members of an operation are less deep than it.
-use Rattle.std.proofs.Common.{rules, ◌<◌, ◌≤◌, List, ℕ, arith}
+use Rattle.std.proofs.Common.{rules, ◌<◌, arith}
 use denote.Param.Weighed.{most}
 use Rattle.std.specs.Prelude.{Vec}
 use Rattle.std.specs.declared.boxed.Box.{Box}

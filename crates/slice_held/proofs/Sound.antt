@@ -1,10 +1,10 @@
 -- Sound cells stay sound where a leaf is put in or out, or a cell is added.
-use Rattle.std.proofs.Common.{rules, ◌⊎◌, inl, inr, ◌≡◌, ◌≢◌, ℕ, zero, suc, ◌+◌, ◌-◌, ◌<◌, ◌≤◌, ◌^◌, Bool, true, false, cond, not, ◌&&◌, List, [], ◌∷◌, ◌++◌, length, get_or, map, refl, sym, ap, ap₂, ◌∙◌, subst, arith}
+use Rattle.std.proofs.Common.{rules, ◌⊎◌, inl, inr, ◌≡◌, ◌≢◌, ℕ, zero, suc, ◌+◌, ◌-◌, ◌<◌, ◌≤◌, ◌^◌, Bool, true, false, ◌&&◌, List, [], ◌∷◌, ◌++◌, length, map, refl, sym, ap, ◌∙◌, subst, arith}
 use Rattle.std.specs.Prelude.{count_by, ◌==◌}
 use Rattle.std.proofs.lemmas.List.{length-append, length-map, map-append}
 use Rattle.std.proofs.lemmas.List.Sums.{count_by-le-length}
 use Rattle.slice_held.specs.declared.cell.Cell.{Cell}
-use Rattle.slice_held.specs.Cells.{no_cell, cell_at, bare, holds, is_told, tells, told, moved, ParentsComeFirst, ParentsAreOperations, IsCounted, AreCounted, IsRightFor, Recounts, AreSound, AreOut, HasPlaceUnder}
+use Rattle.slice_held.specs.Cells.{no_cell, cell_at, bare, is_told, tells, told, moved, ParentsComeFirst, ParentsAreOperations, IsCounted, AreCounted, IsRightFor, Recounts, AreSound, AreOut, HasPlaceUnder}
 use Rattle.slice_held.proofs.Counting.{once, none_told, told_parent}
 use Rattle.slice_held.proofs.Layouts.{count-append}
 

@@ -1,5 +1,5 @@
 -- A shape and which of its leaves are in.
-use Rattle.std.specs.Prelude.{Bool, true, false, ◌≡◌, ◌==◌, ◌<◌, if◌then◌else◌, List, map, ℕ, ◌+◌, ◌++◌, length}
+use Rattle.std.specs.Prelude.{Bool, true, ◌≡◌, ◌==◌, ◌<◌, if◌then◌else◌, List, map, ℕ, ◌+◌, ◌++◌, length}
 use Rattle.scad_geom.specs.declared.shape.Shape.{Shape}
 use Rattle.slice_held.specs.declared.cell.Cell.{Cell}
 use Rattle.slice_held.specs.declared.kept_shape.Held.{Held}

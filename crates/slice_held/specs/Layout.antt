@@ -1,7 +1,7 @@
 -- The cells of a shape, each operation before its members and these in their order.
 use Rattle.std.specs.Prelude.{Bool, true, false, not, List, [], ◌∷◌, ◌++◌, ℕ, ◌+◌, length}
 use Rattle.scad_geom.specs.declared.shape.Shape.{Shape, Empty, Leaf, Union', Inter', Diff', Row_of-Shape, end_of-Shape, more_of-Shape}
-use Rattle.scad_geom.specs.Shape.{has_member, has_items}
+use Rattle.scad_geom.specs.Shape.{has_member}
 use Rattle.slice_held.specs.declared.cell.Cell.{Cell}
 
 -- the cell of a leaf, by its number and one, or of an operation, which counts nothing yet

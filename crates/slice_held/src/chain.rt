@@ -1,5 +1,5 @@
 //! The cells of each leaf, from its last to its first.
-ghost use Rattle.std.specs.Prelude.{◌≡◌, ◌≢◌, ◌<◌, ◌^◌, ◌+◌, ℕ, map, length, vec_len, slice_index_or};
+ghost use Rattle.std.specs.Prelude.{◌≡◌, ◌<◌, ◌^◌, map, length};
 ghost use Rattle.slice_held.specs.Cells.{bare, AreSound, AreSet};
 ghost use Rattle.slice_held.specs.Chain.{AreChained, Enters};
 

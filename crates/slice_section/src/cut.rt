@@ -1,5 +1,5 @@
 //! The cut of a triangle.
-ghost use Rattle.std.specs.Prelude.{◌≡◌, ◌^◌, ◌≤◌, ◌*ℤ◌, ◌-ℤ◌, pos, unsigned_abs, IsTrue, IfSome, find};
+ghost use Rattle.std.specs.Prelude.{◌≡◌, ◌≤◌, ◌*ℤ◌, ◌-ℤ◌, pos, unsigned_abs, IsTrue, IfSome, find};
 ghost use Rattle.std.specs.Option.{option_map};
 ghost use Rattle.scad_geom.specs.Rounding.{half_down};
 ghost use Rattle.scad_geom.specs.Limits.{point_limit};

@@ -1,7 +1,7 @@
 //! The passages of the edges that reach two heights.
-ghost use Rattle.std.specs.Prelude.{◌≡◌, ◌<◌, ◌^◌, ◌++◌, ◌*ℤ◌, ◌<ℤ◌, pos, int_le, true, not, length, filter, IfOk, OnOk, All};
+ghost use Rattle.std.specs.Prelude.{◌≡◌, ◌<◌, ◌^◌, ◌++◌, ◌<ℤ◌, pos, true, not, length, filter, IfOk, OnOk, All};
 ghost use Rattle.scad_geom.specs.Limits.{coordinate_limit};
-ghost use Rattle.scad_geom.specs.Line.{low, high, rise};
+ghost use Rattle.scad_geom.specs.Line.{rise};
 ghost use Rattle.scad_geom.specs.Within.{IsEdgeWithin};
 ghost use Rattle.scad_geom.specs.Level.{IsLevelWithin};
 ghost use Rattle.slice_bundles.specs.Bundles.{reaches, reaching, edge_at};

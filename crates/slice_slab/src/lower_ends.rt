@@ -1,5 +1,5 @@
 //! The lower ends of edges, from low to high.
-ghost use Rattle.std.specs.Prelude.{◌≡◌, ◌≤◌, ◌<◌, ◌^◌, ◌*ℤ◌, int_lt, int_le, length, drop, ◌++◌, IfOk, OnOk, All};
+ghost use Rattle.std.specs.Prelude.{◌≡◌, ◌≤◌, ◌<◌, ◌^◌, int_lt, length, drop, ◌++◌, IfOk, OnOk, All};
 ghost use Rattle.std.specs.List.Sorted.{IsPermutation};
 ghost use Rattle.std.specs.Ordering.{is_lt};
 ghost use Rattle.scad_geom.specs.Limits.{coordinate_limit};

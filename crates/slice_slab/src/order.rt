@@ -1,7 +1,7 @@
 //! The order of edges at a height.
 ghost use Rattle.std.specs.Prelude.{◌≡◌, ◌*ℤ◌};
-ghost use Rattle.std.specs.Ordering.{is_lt, is_eq, int_cmp};
-ghost use Rattle.slice_slab.specs.Passages.{is_left, leans_left, comes_first};
+ghost use Rattle.std.specs.Ordering.{is_lt, int_cmp};
+ghost use Rattle.slice_slab.specs.Passages.{comes_first};
 
 use crate::passage::Passage;
 use scad_geom::wide::times;

@@ -1,6 +1,6 @@
 //! Neighbouring rays that coincide, in bundles.
 ghost use Rattle.std.specs.Prelude.{◌≡◌, ◌<◌, ◌∷◌, [], ◌++◌, true, length, IfOk, OnOk};
-ghost use Rattle.slice_sweep.specs.Rays.{bundles_of, is_parallel, ends_bundle};
+ghost use Rattle.slice_sweep.specs.Rays.{bundles_of, ends_bundle};
 
 use crate::ray::Ray;
 use crate::slope::are_parallel;

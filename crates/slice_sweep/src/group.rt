@@ -6,7 +6,6 @@ ghost use Rattle.scad_geom.specs.Line.{low, high, rise, x_at};
 ghost use Rattle.scad_geom.specs.Within.{IsEdgeWithin};
 ghost use Rattle.scad_geom.specs.Level.{IsLevelWithin};
 ghost use Rattle.slice_bundles.specs.Bundles.{edge_at};
-ghost use Rattle.slice_bundles.specs.KeptOrder.{IsSamePlaceAt};
 ghost use Rattle.slice_sweep.specs.Strands.{head, numbers_in, AreThere, strand_at, IsTogether};
 ghost use Rattle.slice_sweep.specs.Changes.{has_started, older};
 

@@ -1,5 +1,5 @@
 //! The calls that lift the height.
-ghost use Rattle.std.specs.Prelude.{◌≡◌, ◌<◌, ◌^◌, ℕ, List, length, slice_index_or, [], IfOk, OnOk, All};
+ghost use Rattle.std.specs.Prelude.{◌≡◌, ◌<◌, ◌^◌, length, slice_index_or, [], IfOk, OnOk, All};
 ghost use Rattle.scad_geom.specs.declared.level.Level.{Level};
 ghost use Rattle.scad_geom.specs.Limits.{coordinate_limit};
 ghost use Rattle.scad_geom.specs.Within.{IsEdgeWithin};

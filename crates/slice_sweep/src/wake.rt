@@ -1,13 +1,11 @@
 //! From when on a strand is looked at.
-ghost use Rattle.std.specs.Prelude.{◌≡◌, ◌<◌, ◌+◌, ◌<ℤ◌, ◌≤ℤ◌, ℕ, ℤ, List, pos, length, All};
+ghost use Rattle.std.specs.Prelude.{◌≡◌, ◌<◌, ◌+◌, ◌<ℤ◌, ◌≤ℤ◌, ℤ, List, pos, length, All};
 ghost use Rattle.scad_geom.specs.declared.level.Level.{Level};
 ghost use Rattle.scad_geom.specs.Limits.{coordinate_limit};
-ghost use Rattle.scad_geom.specs.Line.{high, rise};
+ghost use Rattle.scad_geom.specs.Line.{high};
 ghost use Rattle.scad_geom.specs.Within.{IsEdgeWithin};
-ghost use Rattle.scad_geom.specs.EdgeOrder.{IsBefore};
 ghost use Rattle.scad_geom.specs.Level.{IsLevelWithin, IsLower};
 ghost use Rattle.slice_bundles.specs.Bundles.{edge_at};
-ghost use Rattle.slice_bundles.specs.KeptOrder.{IsLeftAt};
 ghost use Rattle.slice_sweep.specs.Keys.{IsBelowKey, stale};
 ghost use Rattle.slice_sweep.specs.Strands.{head, EndAbove, LiesLeft, AreThere, strand_at, bundles_of};
 ghost use Rattle.slice_sweep.specs.Lows.{AreLow};

@@ -12,7 +12,7 @@ use Rattle.gcode_text.specs.declared.rates.Rates.{Rates}
 use Rattle.gcode_text.specs.Amount.{paths_volume}
 use Rattle.gcode_text.specs.Limits.{width_limit, height_limit}
 use Rattle.gcode_text.specs.Gcode as gcode
-use Rattle.gcode_text.specs.Gcode.{Printed, printed_paths}
+use Rattle.gcode_text.specs.Gcode.{printed_paths}
 use Rattle.slice_work.specs.declared.want.Want.{Want}
 use Rattle.slice_work.specs.declared.want.Want.TheVariants.{Outlines, Plan}
 use Rattle.slice_work.specs.declared.laid_layer.LaidLayer.{LaidLayer}

@@ -1,7 +1,6 @@
 //! One layer is written.
 ghost use Rattle.std.specs.Prelude.{◌≡◌, ◌≢◌, ◌+◌, ◌*◌, ◌^◌, ◌<◌, ◌≤◌, ◌++◌, ◌∷◌, [], true, length, IfOk, OnOk};
 ghost use Rattle.std.specs.List.{sum_by};
-ghost use Rattle.scad_io.specs.Desk.{side};
 ghost use Rattle.scad_script.specs.Steps.{Sends};
 ghost use Rattle.scad_script.specs.Script.{first};
 ghost use Rattle.scad_script.specs.Play.{Carries, IsThere};

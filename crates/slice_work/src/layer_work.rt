@@ -1,5 +1,5 @@
 //! The work on one layer.
-ghost use Rattle.std.specs.Prelude.{◌<◌, ℕ, IfOk};
+ghost use Rattle.std.specs.Prelude.{◌<◌, IfOk};
 ghost use Rattle.slice_work.specs.Part.{Part, Ends, EndsWithin, layer_limit};
 
 use crate::layer::LayerEnd;

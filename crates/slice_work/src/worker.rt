@@ -1,7 +1,6 @@
 //! One worker's part of a round.
-ghost use Rattle.std.specs.Prelude.{◌≡◌, ◌+◌, ◌<◌, ◌≤◌, false, None, Some, IfOk, All};
+ghost use Rattle.std.specs.Prelude.{◌≡◌, ◌+◌, ◌<◌, ◌≤◌, false, Some, IfOk};
 ghost use Rattle.layer_board.specs.Events.{IsEmpty};
-ghost use Rattle.layer_board.specs.Pass.{fails, finishes};
 ghost use Rattle.layer_board.specs.Calls.{view, layers_of, IsOf};
 ghost use Rattle.slice_work.specs.Part.{Part, layer_limit};
 ghost use Rattle.slice_work.specs.Shares.{IsShare, AreDrawnOf, SkipsAbove, settled};

@@ -1,6 +1,6 @@
 -- Between two neighbouring heights, a leaf's winding number is the sum of the headings of its edges
 -- in the bundles that lie to the right.
-use Rattle.std.proofs.Common.{◌≡◌, ℕ, Bool, true, false, List, [], ◌∷◌, ◌++◌, refl, sym, ap, ap₂, ◌∙◌}
+use Rattle.std.proofs.Common.{◌≡◌, ℕ, Bool, true, false, List, [], ◌∷◌, ◌++◌, refl, sym, ap₂, ◌∙◌}
 use lib.IntN.{ℤ, pos, ◌+ℤ◌, +ℤ_idl}
 use Rattle.std.specs.Prelude.{if◌then◌else◌}
 use Rattle.std.specs.List.{AllByRecursion, concat}
@@ -11,7 +11,7 @@ use Rattle.scad_geom.specs.EdgeOrder.{AreAligned}
 use Rattle.scad_geom.proofs.Leaves.{wind_leaf}
 use Rattle.scad_geom.proofs.Order.{front, back}
 use Rattle.scad_geom.proofs.Sums.{sum_z, sum_z-append, sum_z-permutation}
-use Rattle.slice_bundles.specs.Bundles.{no_edge, edge_at, reaching, IsBundle, AreRanked, AreBundles}
+use Rattle.slice_bundles.specs.Bundles.{edge_at, reaching, IsBundle, AreRanked, AreBundles}
 use Rattle.slice_border.specs.Tally.{headings}
 use Rattle.slice_border.proofs.Reaching.{heading_for, lies_left, wind_reaching}
 use Rattle.slice_border.proofs.Passing.{IsLive, live_bundles, same_side, passing, HeadPasses, Around}

@@ -11,7 +11,7 @@ use Rattle.gcode_text.specs.declared.rates.Rates.{Rates}
 use Rattle.gcode_text.specs.Amount.{move_volume}
 use Rattle.gcode_text.specs.Gcode.{Printed, printed_paths}
 use Rattle.plan_verify.specs.Verdict as told
-use Rattle.plan_verify.specs.Verdict.{Told, AllDo, program_moves, IsVerdict}
+use Rattle.plan_verify.specs.Verdict.{Told}
 use Rattle.print_laws.specs.Print.{extruding, PathSide, sides_at, sides_from, moves_along}
 
 abbrev pub moves_in : List Told → List Move

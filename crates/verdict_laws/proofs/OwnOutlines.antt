@@ -22,7 +22,7 @@ use Rattle.plan_verify.specs.declared.verdict.VerifyFault.{VerifyFault}
 use Rattle.plan_verify.specs.declared.verdict.VerifyFault.TheVariants.{Memory, UnknownWord, BadNumber}
 use Rattle.plan_verify.specs.Stays.{Stays}
 use Rattle.plan_verify.specs.Verdict as told
-use Rattle.plan_verify.specs.Verdict.{Told, AllDo, program_moves, IsVerdict}
+use Rattle.plan_verify.specs.Verdict.{Told, AllDo, program_moves}
 use Rattle.print_laws.specs.Print.{all_outlines, all_printed, written, extruding, sides_from, StaysInside, IsPrintOf}
 use Rattle.print_laws.specs.Laws.{PlansArePrintable}
 use Rattle.print_laws.proofs.Prints.{are_planned}

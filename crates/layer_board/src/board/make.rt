@@ -1,5 +1,5 @@
 //! How a board is made.
-ghost use Rattle.std.specs.Prelude.{◌≡◌, ◌<◌, ◌≤◌, length, IfOk, map, All, Contains, vec_len};
+ghost use Rattle.std.specs.Prelude.{◌≡◌, ◌<◌, ◌≤◌, IfOk, map, All, Contains, vec_len};
 ghost use Rattle.layer_board.specs.Limits.{worker_limit};
 ghost use Rattle.layer_board.specs.Pass.{opened, gives, given};
 ghost use Rattle.layer_board.specs.Calls.{view, layers_of, workers_of, IsOf, IsFresh, AreDealt};

@@ -1,5 +1,5 @@
 //! Statements, definitions and scopes.
-ghost use Rattle.std.specs.Prelude.{◌++◌, List, Option, codes, map, true};
+ghost use Rattle.std.specs.Prelude.{◌++◌, codes, map, true};
 ghost use Rattle.scad_ast.specs.Text.{spaced, in_parentheses, expression_text, default_text, parameters_text, in_braces, body, otherwise, items_text, item_text};
 ghost use Rattle.scad_ast.specs.View.{expression_of};
 ghost use Rattle.scad_ast.specs.Scope.{item_of, body_of, items, parameter};

@@ -9,7 +9,7 @@ use Rattle.scad_ast.specs.Tree.{no_arguments, item}
 use Rattle.scad_ast.specs.Tree.{Parameter, Items, assignment, function_of}
 use Rattle.scad_grammar.specs.Tokens.{sign, operator}
 use Rattle.scad_grammar.specs.Lists.{with_argument, with_parameter, with_item, Marks}
-use Rattle.scad_grammar.specs.Grammar.{no_choice, choice, tightest, line, no_link, link, Prim, two_parts, three_parts}
+use Rattle.scad_grammar.specs.Grammar.{no_choice, choice, tightest, line, no_link, link, two_parts, three_parts}
 use Rattle.scad_grammar.specs.Behind.{BehindItems, BehindParameters, BehindOperand, prefixed, first_of}
 use Rattle.scad_grammar.specs.Behind.{right_of, tested, BehindExpression, in_round, in_index, chosen, other, body_of}
 use Rattle.scad_grammar.specs.Behind.{argument_of, plain_item, range_second, range_third, loop_test, element_test}

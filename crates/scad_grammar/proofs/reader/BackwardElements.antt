@@ -10,7 +10,6 @@ use Rattle.scad_ast.specs.Tree.{Elements, no_elements, element, Element, item, e
 use Rattle.scad_ast.specs.Tree.{let_element, if_element, if_else, Items}
 use Rattle.scad_grammar.specs.Tokens.{sign, key}
 use Rattle.scad_grammar.specs.Lists.{with_element, let_of, Marks}
-use Rattle.scad_grammar.specs.Grammar.{Prim}
 use Rattle.scad_grammar.specs.Grammar.{last_arg, comma_arg, MoreElems, last_elem, comma_elem, no_else, an_else}
 use Rattle.scad_grammar.specs.Grammar.{at_end_of_arguments}
 use Rattle.scad_grammar.specs.Behind.{Keyed, BehindItems, BehindOperand}

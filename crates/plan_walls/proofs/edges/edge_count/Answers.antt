@@ -1,5 +1,5 @@
 -- The count is that of the sides and of the corners of all rings, at most eleven for each side.
-use Rattle.std.proofs.Common.{◌≡◌, ◌+◌, ◌≤◌, List, [], length, drop, arith, subst}
+use Rattle.std.proofs.Common.{◌≡◌, ◌+◌, List, [], length, drop, arith, subst}
 use Rattle.std.specs.Prelude.{sum_by}
 use Rattle.std.proofs.Math.ListN.{drop_of_length-le}
 use Rattle.scad_geom.specs.declared.point.Edge.{Edge}

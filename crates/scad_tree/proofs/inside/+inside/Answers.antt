@@ -6,7 +6,7 @@ use Rattle.scad_solid.specs.declared.triangle.Triangle.{Triangle}
 use Rattle.scad_tree.specs.Member.{holds, some_hold, all_hold}
 use Rattle.scad_tree.specs.Normal.{are_some}
 use Rattle.scad_tree.specs.Solid.{members}
-use Rattle.scad_tree.specs.View.{solid_of, solids}
+use Rattle.scad_tree.specs.View.{solids}
 use Rattle.scad_tree.proofs.Rows.{at_union, at_inter, left-more, left-none}
 use Rattle.scad_tree.proofs.inside.+inside.Goals as goal
 

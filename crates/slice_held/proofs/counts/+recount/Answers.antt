@@ -1,8 +1,8 @@
 -- What is told otherwise goes on upwards.
-use Rattle.std.proofs.Common.{rules, ◌≡◌, ◌<◌, ◌≤◌, ◌^◌, ◌+◌, ◌-◌, length, true, false, ℕ, Bool, List, subst, sym, arith, ◌⊎◌, inl, inr, ap, ◌∙◌, set}
+use Rattle.std.proofs.Common.{◌≡◌, ◌<◌, ◌^◌, ◌+◌, ◌-◌, length, true, ℕ, List, subst, sym, arith, ap, ◌∙◌, set}
 use Rattle.std.proofs.lemmas.List.{length-set}
 use Rattle.slice_held.specs.declared.cell.Cell.{Cell}
-use Rattle.slice_held.specs.Cells.{counting, moved, is_told, differ, cell_at, IsRightFor, Recounts}
+use Rattle.slice_held.specs.Cells.{counting, moved, is_told, cell_at, IsRightFor, Recounts}
 use Rattle.slice_held.proofs.Counting.{ends, below, near, few_above, some_above, goes_on, goes_on_rest, recounted, parents_kept, operations_kept}
 use Rattle.slice_held.proofs.counts.+recount.Goals as goal
 

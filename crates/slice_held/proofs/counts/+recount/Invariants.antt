@@ -1,4 +1,4 @@
-use Rattle.std.proofs.Common.{◌≡◌, ◌<◌, ◌≤◌, ◌^◌, ◌+◌, length, ℕ, ◌-◌, ◌*◌}
+use Rattle.std.proofs.Common.{◌+◌, ◌-◌}
 use Rattle.slice_held.proofs.counts.+recount.Given as goal
 
 abbrev pub decreases-recount : goal.decreases-recount

@@ -1,6 +1,4 @@
 -- Operations come before their members as they did.
-use Rattle.std.proofs.Common.{List, ap, ◌∙◌}
-use Rattle.slice_held.specs.declared.cell.Cell.{Cell}
 use Rattle.slice_held.proofs.Sound.{sound_by}
 use Rattle.slice_held.proofs.leaf_cells.put.Goals as goal
 

@@ -1,5 +1,5 @@
 -- A vertex that isn't strictly between its neighbours is a corner.
-use Rattle.std.proofs.Common.{◌≡◌, ◌∷◌, [], ◌++◌, ◌+◌, Bool, cond, drop, get_or, pos, sym, ap, ◌∙◌, List, append_assoc}
+use Rattle.std.proofs.Common.{◌∷◌, [], ◌++◌, ◌+◌, Bool, cond, drop, get_or, pos, sym, ap, ◌∙◌, List, append_assoc}
 use Rattle.std.proofs.lemmas.List.{append-nil, at_drop_more, drop_all}
 use Rattle.scad_geom.specs.declared.point.Pt.{Pt}
 use Rattle.slice_loops.specs.Corners.{corners_between}

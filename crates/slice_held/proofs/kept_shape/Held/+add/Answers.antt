@@ -1,5 +1,5 @@
 -- An operation's cell comes first, then those of its members.
-use Rattle.std.proofs.Common.{arith, ◌<◌, ◌≡◌, ◌+◌, ◌++◌, ◌∷◌, [], ℕ, true, false, not, List, length, drop, get_or, subst, sym, ap, ap₂, ◌∙◌}
+use Rattle.std.proofs.Common.{arith, ◌<◌, ◌+◌, ◌++◌, ◌∷◌, [], ℕ, true, false, not, List, length, drop, get_or, subst, sym, ap, ap₂, ◌∙◌}
 use Rattle.std.proofs.lemmas.List.{drop_more}
 use Rattle.std.proofs.lemmas.Result.{on_ok_weaker}
 use Rattle.scad_geom.specs.declared.shape.Shape.{Shape}
