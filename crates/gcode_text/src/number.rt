@@ -1,14 +1,12 @@
 //! Numbers in words.
 ghost use Rattle.std.specs.Prelude.{◌≡◌, ◌+◌, ◌*◌, ◌^◌, ◌≤◌, ◌==◌, IsTrue, pos, min};
-ghost use Rattle.std.specs.Char.{is_ascii_digit};
-ghost use Rattle.std.specs.List.{list_all};
 ghost use Rattle.std.specs.Option.{option_map};
 ghost use Rattle.std.specs.Str.Parse.{digits_value_after};
 ghost use Rattle.gcode_text.specs.Cap.{cap, capped, capped_number, fits_cap};
 ghost use Rattle.gcode_text.specs.Reading.{negative, are_digits, whole_size, pointed_size, size_of, number};
 
 use crate::scan::{behind_first, byte_at};
-use text_scan::first_at;
+use text_scan::{all_digits, first_at};
 
 /// No accepted number is greater.
 const CAP: u128 = 4_000_000_000_000_000_000;
@@ -101,17 +99,6 @@ fn are_digits(text: &[u8]) -> bool
     ensures { result ≡ are_digits text.now }
 {
     !text.is_empty() && all_digits(text)
-}
-
-fn all_digits(text: &[u8]) -> bool
-    ensures { result ≡ list_all is_ascii_digit text.now }
-{
-    'bytes: for b in text {
-        if !b.is_ascii_digit() {
-            return false;
-        }
-    }
-    true
 }
 
 /// The number that the digits write when they follow those of `n`, cut to the cap.

@@ -1,5 +1,5 @@
 //! Hulls in space.
-ghost use Rattle.std.specs.Prelude.{◌≡◌, ◌++◌, All, IfOk, IsTrue, OnOk, Some, None, if◌then◌else◌, map};
+ghost use Rattle.std.specs.Prelude.{◌≡◌, All, IfOk, IsTrue, Some, None, if◌then◌else◌, map};
 ghost use Rattle.std.specs.List.{flat_map, list_all};
 ghost use Rattle.std.specs.List.Sorted.{IsStrictlySortedBy};
 ghost use Rattle.scad_base.specs.Memory.{UnlessMemory};
@@ -21,7 +21,7 @@ use crate::flat::POINT_COUNT_LIMIT;
 use crate::node::{Node, by_height, nodes_of, points_of};
 use crate::wrapping::wrap;
 use scad_geom::Pt3;
-use scad_solid::{Triangle, Triangles};
+use scad_solid::{Triangle, Triangles, push_fan};
 use std::alloc::{AllocError, Global};
 use std::collections::BTreeSet;
 
@@ -87,22 +87,4 @@ fn fans(alloc: Global, rings: &[Vec<Node>]) -> Result<Vec<Triangle>, AllocError>
         push_fan(&mut triangles, corners.as_slice())?;
     }
     Ok(triangles)
-}
-
-fn push_fan(out: &mut Vec<Triangle>, face: &[Pt3]) -> Result<(), AllocError>
-    ensures { OnOk result (out.new.items ≡ out.old.items ++ fan face.now) }
-{
-    let [first, second, rest @ ..] = face else {
-        return Ok(());
-    };
-    let mut b = *second;
-    for c in rest {
-        out.push(Triangle {
-            a: *first,
-            b,
-            c: *c,
-        })?;
-        b = *c;
-    }
-    Ok(())
 }

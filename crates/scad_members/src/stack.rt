@@ -1,10 +1,11 @@
 //! The stack of what waits.
 
-ghost use Rattle.std.specs.Prelude.{◌≡◌, ◌++◌, ◌∷◌, [], OnOk};
+ghost use Rattle.std.specs.Prelude.{◌≡◌, [], OnOk};
 
 use crate::work::Frame;
 use scad_fault::Place;
 use scad_leaves::{Operation, Where, at_first};
+use scad_operations::append;
 use scad_tree::Tree;
 use std::alloc::{AllocError, AllocFailed, Global};
 use std::mem::replace;
@@ -18,15 +19,6 @@ pub struct Stack<'p> {
     pub stands: Where,
     frames: Vec<Frame<'p>>,
     made: Vec<Tree>,
-}
-
-/// A value behind others. Where there is no memory it is let go by one call, since its type is a parameter.
-fn append<T: Drop>(all: &mut Vec<T>, value: T) -> Result<(), AllocError>
-    ensures { OnOk result (all.new.items ≡ all.old.items ++ value ∷ []) }
-{
-    all.reserve(1)?;
-    all.push_reserved(value);
-    Ok(())
 }
 
 impl<'p> Stack<'p> {

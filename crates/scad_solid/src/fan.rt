@@ -6,8 +6,8 @@ use crate::triangle::Triangle;
 use scad_geom::Pt3;
 use std::alloc::AllocError;
 
-/// Adds the fan of the face from its first point.
-pub(crate) fn push_fan(out: &mut Vec<Triangle>, face: &[Pt3]) -> Result<(), AllocError>
+/// Adds the fan of a face from its first point: a triangle at each point from the third on.
+pub fn push_fan(out: &mut Vec<Triangle>, face: &[Pt3]) -> Result<(), AllocError>
     ensures { OnOk result (out.new.items ≡ out.old.items ++ fan face.now) }
 {
     let [first, second, rest @ ..] = face else {

@@ -19,6 +19,7 @@ mod triangles;
 mod wrapping;
 
 pub use face::Face;
+pub use fan::push_fan;
 pub use fault::SolidFault;
 pub use ring::Ring;
 pub use side::Side;

@@ -1,8 +1,8 @@
 //! Numbers in words.
 ghost use Rattle.std.specs.Prelude.{◌≡◌, ◌≤◌, IfSome};
-ghost use Rattle.std.specs.Char.{is_ascii_digit};
-ghost use Rattle.std.specs.List.{list_all};
 ghost use Rattle.scad_words.specs.Numbers.{is_number, number_of, worker_limit, if_workers, workers_of, if_sample, sample_of};
+
+use text_scan::all_digits;
 
 /// The number of a sample is below this.
 const SAMPLE_LIMIT: u64 = 1 << 31;
@@ -62,15 +62,4 @@ fn is_number(text: &[u8], most: usize) -> bool
     ensures { result ≡ is_number most text.now }
 {
     1 <= text.len() && text.len() <= most && all_digits(text)
-}
-
-fn all_digits(text: &[u8]) -> bool
-    ensures { result ≡ list_all is_ascii_digit text.now }
-{
-    'bytes: for b in text {
-        if !b.is_ascii_digit() {
-            return false;
-        }
-    }
-    true
 }
