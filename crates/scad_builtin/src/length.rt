@@ -8,8 +8,7 @@ ghost use Rattle.scad_builtin.specs.Numbers.{whole_number};
 ghost use Rattle.scad_builtin.specs.Vectors.{length_of};
 
 use crate::fault::BuiltinFault;
-use crate::number::ONE;
-use scad_num::Num;
+use scad_num::{Num, ONE};
 use scad_value::Value;
 
 /// A count as a number, where it is in range.

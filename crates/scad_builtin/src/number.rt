@@ -8,10 +8,7 @@ ghost use Rattle.scad_builtin.specs.Numbers.{sine_of, cosine_of, tangent_of, cut
 ghost use Rattle.scad_builtin.specs.Numbers.{minor_of};
 
 use crate::fault::BuiltinFault;
-use scad_num::{Num, NumFault, half_away};
-
-/// The millionths of 1.
-pub(crate) const ONE: i64 = 1_000_000;
+use scad_num::{Num, NumFault, ONE, half_away};
 
 pub(crate) fn size(a: Num) -> Num
     ensures { result ≡ size_of a }

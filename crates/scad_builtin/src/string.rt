@@ -8,9 +8,9 @@ ghost use Rattle.scad_builtin.specs.Numbers.{cut_of};
 ghost use Rattle.scad_builtin.specs.Strings.{bare_text, joined_texts, character_of, first_code};
 
 use crate::fault::BuiltinFault;
-use crate::number::{ONE, cut};
+use crate::number::cut;
 use scad_fault::Chars;
-use scad_num::Num;
+use scad_num::{Num, ONE};
 use scad_value::{Value, push_text};
 use std::alloc::Global;
 

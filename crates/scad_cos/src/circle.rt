@@ -3,10 +3,10 @@ ghost use Rattle.std.specs.Prelude.{◌≡◌, ◌<◌, ◌≤◌, pos, ◌<ℤ�
 ghost use Rattle.scad_num.specs.Number.{most};
 ghost use Rattle.scad_cos.specs.Circle.{fragment_limit, least_step, fragments_by_steps, fragments_of, vertex_angle_of};
 
-use scad_num::{Num, half_up};
+use scad_num::{Num, ONE, ONE_PART, half_up};
 
-/// The millionths of 1.
-const ONE: u128 = 1_000_000;
+/// The millionths of 1, in 128 bits.
+const WIDE_ONE: u128 = ONE_PART as u128;
 
 /// A least angle or a least side as a divisor.
 #[tactic(auto, unfolding(crate::specs::Circle::least_step))]
@@ -30,10 +30,10 @@ fn fragments_by_steps(r: u128, angle: u128, size: u128) -> u128
     ensures at_least_five { 5 ≤ result }
     ensures small { result ≤ 1000000000000 }
 {
-    let by_angle = half_up(360 * ONE * ONE, angle);
-    let around = half_up(6_283_185 * r, ONE);
-    let by_size = half_up(around * ONE, size);
-    by_angle.min(by_size).max(5 * ONE).div_ceil(ONE)
+    let by_angle = half_up(360 * WIDE_ONE * WIDE_ONE, angle);
+    let around = half_up(6_283_185 * r, WIDE_ONE);
+    let by_size = half_up(around * WIDE_ONE, size);
+    by_angle.min(by_size).max(5 * WIDE_ONE).div_ceil(WIDE_ONE)
 }
 
 /// How many sides stand for a circle of radius `r` under `$fn`, `$fa` and `$fs`.
@@ -47,7 +47,7 @@ pub fn fragments(r: Num, fn_: Num, fa: Num, fs: Num) -> i64
         return 3;
     }
     if fn_.millionths() > 0 {
-        return (fn_.millionths() / 1_000_000).max(3);
+        return (fn_.millionths() / ONE).max(3);
     }
     fragments_by_steps(r.millionths() as u128, least_step(fa), least_step(fs)) as i64
 }

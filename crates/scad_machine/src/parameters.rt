@@ -13,7 +13,7 @@ use crate::names::is_dollar;
 use crate::parameter_names::ParameterNames;
 use crate::parameter_values::ParameterValues;
 use scad_ast::{Arg, Item, Param, Scope};
-use scad_num::Num;
+use scad_num::{Num, ONE};
 use scad_value::Value;
 use std::alloc::{AllocError, Global};
 
@@ -136,5 +136,5 @@ pub(crate) fn number_of_children(all: &Scope) -> Value
     } else {
         count
     };
-    Value::Number(Num::within(shown as i64 * 1_000_000))
+    Value::Number(Num::within(shown as i64 * ONE))
 }

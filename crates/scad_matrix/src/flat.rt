@@ -3,8 +3,8 @@ ghost use Rattle.std.specs.Prelude.{◌≡◌};
 ghost use Rattle.scad_matrix.specs.Matrix.{flattened, placed_profile};
 
 use crate::matrix::{Matrix, MatrixFault, Row};
-use crate::products::{ONE, entry};
-use scad_num::Num;
+use crate::products::entry;
+use scad_num::{Num, ONE};
 
 impl Matrix {
     /// The matrix as it acts inside an extrusion: by its x and y rows and columns alone, z left as it is.

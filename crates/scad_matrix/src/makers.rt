@@ -4,7 +4,7 @@ ghost use Rattle.scad_matrix.specs.Makers.{angle_limit, translation, scaling, ro
 
 use crate::matrix::{Matrix, Row};
 use scad_cos::{cos, sin};
-use scad_num::Num;
+use scad_num::{Num, ONE};
 
 /// A coordinate axis.
 #[derive(Clone, Copy)]
@@ -18,7 +18,7 @@ pub enum Axis {
 pub fn translate(x: Num, y: Num, z: Num) -> Matrix
     ensures { result ≡ translation x y z }
 {
-    let (o, i) = (number(0), number(1_000_000));
+    let (o, i) = (number(0), number(ONE));
     Matrix {
         x: row(i, o, o, x),
         y: row(o, i, o, y),
@@ -55,7 +55,7 @@ pub fn turn(axis: Axis, angle: i64) -> Matrix
     requires { unsigned_abs angle ≤ angle_limit }
     ensures { result ≡ rotation axis angle }
 {
-    let (o, i) = (number(0), number(1_000_000));
+    let (o, i) = (number(0), number(ONE));
     let (c, s, t) = (number(cos(angle)), number(sin(angle)), number(-sin(angle)));
     match axis {
         Axis::X => Matrix {

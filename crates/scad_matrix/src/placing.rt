@@ -3,9 +3,9 @@ ghost use Rattle.std.specs.Prelude.{◌≡◌};
 ghost use Rattle.scad_matrix.specs.Matrix.{placed_coordinate, coordinate_in_range, placed};
 
 use crate::matrix::{Matrix, MatrixFault, Row};
-use crate::products::{ONE, dot};
+use crate::products::dot;
 use scad_geom::{POINT_LIMIT, Pt3};
-use scad_num::{Num, half_away};
+use scad_num::{Num, ONE, half_away};
 
 impl Matrix {
     /// The placed point in whole micrometres: the exact product, each coordinate rounded once, a half

@@ -5,10 +5,7 @@ ghost use Rattle.scad_matrix.specs.Matrix.{dot, entry, entry_number, row_number,
 
 use crate::matrix::{Matrix, MatrixFault, Row};
 use scad_geom::wide::{plus, times};
-use scad_num::{Num, half_away};
-
-/// The millionths of 1.
-pub(crate) const ONE: i64 = 1_000_000;
+use scad_num::{Num, ONE, ONE_PART, half_away};
 
 // The exact product of a row and a column whose last entry is given in millionths. Each of its four
 // products is below 2^100, so 128 bits hold their sum, and twice what is rounded.
@@ -47,7 +44,7 @@ fn rounded(row: &Row, x: Num, y: Num, z: Num, last: i64) -> i128
     requires { unsigned_abs last ≤ one }
     ensures { result ≡ entry row.now x y z last }
 {
-    half_away(dot(row, x, y, z, last), 1_000_000)
+    half_away(dot(row, x, y, z, last), ONE_PART)
 }
 
 /// An entry of a product: the exact product, rounded once, where it is in range.

@@ -9,7 +9,7 @@ ghost use Rattle.scad_members.specs.ChildRange.{NameAlike, IsReached, IsEnough, 
 
 use crate::item::statements;
 use scad_ast::Scope;
-use scad_num::Num;
+use scad_num::{Num, ONE};
 
 /// Where a scope has fewer statements, the number behind its last child is in the range of numbers.
 const CHILD_LIMIT: usize = scad_machine::CHILD_LIMIT as usize;
@@ -78,7 +78,7 @@ pub(crate) fn child_bounds(scope: &Scope, start: Num, step: Num, end: Num) -> (N
     if count >= CHILD_LIMIT {
         return (start, end);
     }
-    let high = Num::within(count as i64 * 1_000_000);
+    let high = Num::within(count as i64 * ONE);
     if step.millionths() > 0 {
         (first_up(start, step), last_up(step, end, high))
     } else if step.millionths() < 0 {

@@ -11,6 +11,7 @@ ghost use Rattle.scad_members.specs.Choice.{child_named};
 use crate::child_range::child_bounds;
 use crate::item::child_at;
 use scad_ast::{Item, Scope};
+use scad_num::ONE;
 use scad_operations::{Remainder, run_over};
 use scad_value::Value;
 use std::alloc::{AllocError, Global};
@@ -22,7 +23,7 @@ pub(crate) fn child_named<'p>(scope: &'p Scope, value: &Value) -> Option<&'p Ite
 {
     match value {
         Value::Number(n) => {
-            let whole = n.millionths() / 1_000_000;
+            let whole = n.millionths() / ONE;
             if whole < 0 {
                 None
             } else {

@@ -14,11 +14,8 @@ use crate::fineness::{Fineness, Resolution};
 use crate::reading::{is_true, size};
 use crate::shape::resolution_of;
 use scad_ast::Arg;
-use scad_num::Num;
+use scad_num::{Num, ONE};
 use scad_value::Value;
-
-/// A whole number of millimetres or degrees.
-const ONE: i64 = 1_000_000;
 
 fn is_number(number: Num, value: &Value) -> bool
     ensures { result ≡ is_number number (datum_of value.now) }

@@ -18,11 +18,9 @@ use crate::polygons::polygon_by;
 use crate::reading::{Pair, if_size, is_true, pair};
 use crate::shape::{common_radius, fragments};
 use scad_ast::Arg;
-use scad_num::Num;
+use scad_num::{Num, ONE};
 use scad_value::Value;
 use std::alloc::Global;
-
-const ONE: i64 = 1_000_000;
 
 fn both_sizes(p: Pair) -> Result<Pair, ArgumentFault>
     ensures { result ≡ both_sizes p }

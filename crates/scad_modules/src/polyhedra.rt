@@ -12,7 +12,7 @@ ghost use Rattle.scad_modules.specs.View.{Reads};
 
 use crate::fault::ArgumentFault;
 use crate::reading::{Triple, number, point, vector};
-use scad_num::Num;
+use scad_num::{Num, ONE_PART};
 use scad_solid::Face;
 use scad_value::Value;
 use std::alloc::Global;
@@ -57,8 +57,8 @@ fn index_below(limit: usize, n: u64) -> Result<u32, ArgumentFault>
     ensures value { result ≡ whole_below limit (pos n) }
     ensures below { IfOk result (λ i. i < limit) }
 {
-    if n % 1_000_000 == 0 && ((n / 1_000_000) as usize) < limit {
-        Ok((n / 1_000_000) as u32)
+    if n % ONE_PART == 0 && ((n / ONE_PART) as usize) < limit {
+        Ok((n / ONE_PART) as u32)
     } else {
         Err(ArgumentFault::BadArgument)
     }

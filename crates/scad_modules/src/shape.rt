@@ -21,11 +21,9 @@ use crate::reading::{
     Triple, half_or, if_size, is_true, needed, number, point, radius_or, size, vector,
 };
 use scad_ast::Arg;
-use scad_num::Num;
+use scad_num::{Num, ONE};
 use scad_value::Value;
 use std::alloc::Global;
-
-const ONE: i64 = 1_000_000;
 
 /// The numbers of `$fn`, `$fa` and `$fs`.
 pub(crate) fn resolution_of(fine: &Fineness) -> Result<Resolution, ArgumentFault>

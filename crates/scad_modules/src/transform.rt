@@ -17,7 +17,7 @@ use crate::module::Transform;
 use crate::reading::{Triple, coordinates, needed, number_at, point, vector};
 use scad_ast::Arg;
 use scad_matrix::{Axis, Matrix, MatrixFault, Row, mirror, scale, translate, turn};
-use scad_num::{Num, half_away};
+use scad_num::{Num, ONE, half_away};
 use scad_value::Value;
 
 /// `translate(v)`.
@@ -31,7 +31,7 @@ fn translate_by(v: &Value) -> Result<Matrix, ArgumentFault>
 fn scale_by_three(v: &Value) -> Result<Matrix, ArgumentFault>
     ensures { result ≡ scale_by_three (datum_of v.now) }
 {
-    let (x, y, z) = coordinates(Num::within(1_000_000), v)?;
+    let (x, y, z) = coordinates(Num::within(ONE), v)?;
     Ok(scale(x, y, z))
 }
 

@@ -9,10 +9,10 @@ use std::marker::Model;
 pub const MOST: u64 = 1_000_000_000_000_000;
 
 /// The millionths of 1.
-pub(crate) const ONE: i64 = 1_000_000;
+pub const ONE: i64 = 1_000_000;
 
-/// The same, without a sign.
-pub(crate) const ONE_PART: u64 = 1_000_000;
+/// The millionths of 1, without a sign.
+pub const ONE_PART: u64 = 1_000_000;
 
 /// A number of the language, in whole millionths.
 #[derive(Clone, Copy, PartialEq, Eq, PartialOrd, Ord)]

@@ -18,7 +18,7 @@ mod whole;
 mod wide;
 
 pub use fault::NumFault;
-pub use fixed_point::{MOST, Num};
+pub use fixed_point::{MOST, Num, ONE, ONE_PART};
 pub use literal::{literal_len, parse_decimal};
 pub use rounding::{half_away, half_up};
 pub use text::NumText;

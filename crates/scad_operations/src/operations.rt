@@ -16,7 +16,7 @@ use scad_ast::{BinOp, UnOp};
 use scad_builtin::{BuiltinFault, call};
 use scad_fault::{FaultKind, Place};
 use scad_machine::{EvalFault, Machine, fault_at, named_fault};
-use scad_num::Num;
+use scad_num::{Num, ONE};
 use scad_value::{Value, ValueFault, binary, index, unary};
 use std::alloc::{AllocError, Global};
 
@@ -128,7 +128,7 @@ pub(crate) fn range_by_one(start: &Value, end: &Value) -> Value
 fn range_of_ends(a: Num, b: Num) -> Value
     ensures { datum_of result ≡ range_of_ends a b }
 {
-    let one = Num::within(1_000_000);
+    let one = Num::within(ONE);
     if b.millionths() < a.millionths() {
         Value::Range(b, one, a)
     } else {
@@ -144,7 +144,7 @@ pub(crate) fn member(alloc: Global, a: &Value, name: &[u8]) -> Result<Value, All
     if name == b"x".as_slice() {
         index(alloc, a, &Value::Number(Num::within(0)))
     } else if name == b"y".as_slice() {
-        index(alloc, a, &Value::Number(Num::within(1_000_000)))
+        index(alloc, a, &Value::Number(Num::within(ONE)))
     } else if name == b"z".as_slice() {
         index(alloc, a, &Value::Number(Num::within(2_000_000)))
     } else {

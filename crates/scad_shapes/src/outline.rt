@@ -7,7 +7,7 @@ ghost use Rattle.scad_shapes.specs.Outline.{rectangle, part_of, vertex, circle};
 
 use crate::extent::extent;
 use scad_cos::{cos, sin, vertex_angle};
-use scad_num::{Num, half_away, times};
+use scad_num::{Num, ONE_PART, half_away, times};
 use std::alloc::{AllocError, Global};
 
 /// The rectangle of a cube.
@@ -63,7 +63,7 @@ fn rounded(n: i128) -> i128
     ensures value { result ≡ half_away n one }
     ensures small { unsigned_abs result ≤ most }
 {
-    half_away(n, 1_000_000)
+    half_away(n, ONE_PART)
 }
 
 fn number(millionths: i128) -> Num

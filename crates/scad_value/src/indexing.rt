@@ -9,7 +9,7 @@ ghost use Rattle.scad_value.specs.View.{datum_of, elements};
 use crate::duplicate::copy;
 use crate::value::Value;
 use scad_fault::Chars;
-use scad_num::Num;
+use scad_num::{Num, ONE};
 use std::alloc::{AllocError, Global};
 
 /// The character at a place, as a string.
@@ -78,7 +78,7 @@ pub fn index(alloc: Global, a: &Value, i: &Value) -> Result<Value, AllocError>
     ensures memory { IfErr result (λ _. IsTrue (is_list (indexed (datum_of a.now) (datum_of i.now)))) }
 {
     match i {
-        Value::Number(z) => at_whole(alloc, a, z.millionths() / 1_000_000),
+        Value::Number(z) => at_whole(alloc, a, z.millionths() / ONE),
         _ => Ok(Value::Undef),
     }
 }
