@@ -29,6 +29,23 @@ use Rattle.plan_infill.proofs.RowReach.{comes, told, exchange, exchange_back, ap
 abbrev pub IsDecided : Type 0 → Type 0
 IsDecided P = P ⊎ (P → ⊥)
 
+-- what was decided
+abbrev pub holds : {P : Type 0} → IsDecided P → Bool
+holds (inl p) = true
+holds (inr n) = false
+
+pub held : {P : Type 0} (d : IsDecided P) → holds d ≡ true → P
+held (inl p) e = p
+held (inr n) e = absurd (false≢true e)
+
+pub holding : {P : Type 0} (d : IsDecided P) → P → holds d ≡ true
+holding (inl p) q = refl
+holding (inr n) q = absurd (n q)
+
+pub failing : {P : Type 0} (d : IsDecided P) → (P → ⊥) → holds d ≡ false
+failing (inl p) n = absurd (n p)
+failing (inr n) m = refl
+
 -- ---- one edge
 is_around : (w a b z : ℤ) → IsDecided (IsAround w a b z)
 is_around w a b z = by_cases (order z (int_min a b -ℤ w)) (order (int_max a b +ℤ w) z)

@@ -16,3 +16,7 @@ pub mod Deciding
 pub mod StretchSearch
 pub mod SomeRuns
 pub mod Lengths
+pub mod Extents
+pub mod Multiples
+pub mod Elements
+pub mod Means

@@ -1,31 +1,17 @@
 -- Each line has its runs.
-use Rattle.std.proofs.Common.{◌≡◌, inl, inr, ℕ, ◌+◌, Bool, true, false, List, refl, flat_map, arith, ℤ, pos}
+use Rattle.std.proofs.Common.{◌≡◌, inl, inr, ℕ, ◌+◌, Bool, true, false, List, flat_map, arith, ℤ, pos}
 use Rattle.std.proofs.Common.{◌+ℤ◌, ◌-ℤ◌, ◌<ℤ◌}
 use lib.Signed.{◌≤ℤ◌}
 use Rattle.std.proofs.lemmas.Int.{ints}
-use Rattle.std.proofs.lemmas.Bool.{false≢true}
 use Rattle.scad_geom.specs.declared.point.Pt.{Pt}
 use Rattle.scad_geom.specs.Loop.{sides}
 use Rattle.plan_infill.specs.declared.line.Line.{Line}
 use Rattle.plan_infill.specs.Runs.{IsDeep, point_on}
 use Rattle.plan_infill.specs.There.{HasRuns, RunsAreThere}
 use Rattle.plan_infill.proofs.Beyond.{extent, none_far}
-use Rattle.plan_infill.proofs.Deciding.{IsDecided, deep_or_not}
+use Rattle.plan_infill.proofs.Deciding.{holds, held, holding, deep_or_not}
 use Rattle.plan_infill.proofs.StretchSearch.{HasStretches, stretches_of}
 use Rattle.plan_infill.proofs.DeepRuns.{not_deep, are_runs}
-
--- what was decided
-abbrev holds : {P : Type 0} → IsDecided P → Bool
-holds (inl p) = true
-holds (inr n) = false
-
-held : {P : Type 0} (d : IsDecided P) → holds d ≡ true → P
-held (inl p) e = p
-held (inr n) e = absurd (false≢true e)
-
-holding : {P : Type 0} (d : IsDecided P) → P → holds d ≡ true
-holding (inl p) q = refl
-holding (inr n) q = absurd (n q)
 
 module _ (outlines : List (List Pt)) (c : ℕ) (line : Line) (least : ℕ) where
   abbrev test : ℤ → Bool

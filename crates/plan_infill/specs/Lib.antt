@@ -1,5 +1,7 @@
 -- What the public calls promise.
 pub mod Runs
+pub mod Extent
+pub mod Multiple
 pub mod There
 pub mod Lengths
 -- What only the steps of the code promise to one another.

@@ -1,28 +1,8 @@
 -- Two lists that go up and have the same elements are one.
-use Rattle.std.proofs.Common.{◌≡◌, ◌⊎◌, inl, inr, List, [], ◌∷◌, map, refl, sym, ◌∙◌, ap₂, subst, arith}
+use Rattle.std.proofs.Common.{◌≡◌, inl, inr, List, [], ◌∷◌, map, refl, sym, ◌∙◌, ap₂, subst}
 use Rattle.std.specs.Prelude.{All, Contains}
-use Rattle.std.proofs.lemmas.List.Elements.{All-contains, Contains-append_left, Contains-append_right}
-use Rattle.std.proofs.lemmas.List.Elements.{Contains-append_cases, Contains-push, Contains-push_cases}
-
-nothing_in : {A : Type 0} (x : A) → Contains [] x → ⊥
-nothing_in x c = let lt = c.1 in omega arith
-
--- an element is the first or one of the others
-pub first_or_other : {A : Type 0} (x : A) (xs : List A) (z : A) → Contains (x ∷ xs) z → (x ≡ z) ⊎ Contains xs z
-first_or_other {A} x xs z c =
-    elim (Contains-append_cases (x ∷ []) xs z c) [
-      | inl f ↦ elim (Contains-push_cases [] x z f) [
-        | inl n ↦ absurd (nothing_in z n)
-        | inr e ↦ inl e
-      ]
-      | inr o ↦ inr o
-    ]
-
-pub first_in : {A : Type 0} (x : A) (xs : List A) → Contains (x ∷ xs) x
-first_in x xs = Contains-append_left (x ∷ []) xs x (Contains-push [] x)
-
-pub other_in : {A : Type 0} (x : A) (xs : List A) (z : A) → Contains xs z → Contains (x ∷ xs) z
-other_in x xs z c = Contains-append_right (x ∷ []) xs z c
+use Rattle.std.proofs.lemmas.List.Elements.{All-contains}
+use Rattle.plan_infill.proofs.Elements.{nothing_in, first_or_other, first_in, other_in}
 
 -- what an element of a mapped list is made of
 pub record IsMadeOf {A B : Type 0} (f : A → B) (xs : List A) (y : B) : Type 0 where

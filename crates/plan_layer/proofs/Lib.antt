@@ -4,8 +4,6 @@ pub mod Beyond
 pub mod Each
 pub mod Clearance
 pub mod Lengths
-pub mod Extents
-pub mod Multiples
 pub mod LineRuns
 pub mod WallPaths
 pub mod MoveCount

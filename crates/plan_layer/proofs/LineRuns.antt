@@ -10,12 +10,13 @@ use Rattle.scad_geom.specs.declared.point.Pt.{Pt}
 use Rattle.scad_geom.specs.Loop.{sides}
 use Rattle.scad_geom.proofs.Rising.{order}
 use Rattle.plan_infill.specs.declared.run.Run.{Run}
+use Rattle.plan_infill.specs.Extent.{IsEdgeAmong}
+use Rattle.plan_infill.specs.Multiple.{IsMultiple}
 use Rattle.plan_infill.specs.Runs.{AreRuns}
+use Rattle.plan_infill.proofs.Multiples.{multiples_apart}
 use Rattle.scad_words.specs.declared.settings.Settings.{Settings}
-use Rattle.plan_layer.specs.Extent.{IsEdgeAmong}
-use Rattle.plan_layer.specs.Infill.{line_at, IsMultiple, depth, IsLayerRun, LineRuns, IsFilled, AreUpwards, AreFilled}
+use Rattle.plan_layer.specs.Infill.{has_rows, line_at, depth, IsLayerRun, LineRuns, IsFilled, AreUpwards, AreFilled}
 use Rattle.plan_layer.specs.Infill.{line_of}
-use Rattle.plan_layer.proofs.Multiples.{multiples_apart}
 use Rattle.plan_layer.proofs.Beyond.{nothing_beyond}
 
 -- those that lie before a coordinate
@@ -37,7 +38,7 @@ upwards_push (k ∷ ks) l u b = (
 )
 
 module _ (outlines : List (List Pt)) (layer : ℕ) (s : Settings) where
-  module _ (low high : ℤ) (among : All (IsEdgeAmong layer low high) (flat_map sides outlines)) where
+  module _ (low high : ℤ) (among : All (IsEdgeAmong (has_rows layer) low high) (flat_map sides outlines)) where
     run_beyond : (z : ℤ) (r : Run) → (z <ℤ low) ⊎ (high <ℤ z) → IsLayerRun outlines layer s z r → ⊥
     run_beyond z r o is =
         let long = is.long in nothing_beyond outlines layer low high z r.from o among (depth s)

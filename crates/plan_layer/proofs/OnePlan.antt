@@ -65,7 +65,7 @@ one_walls outlines within width k h (a ∷ xs) (b ∷ ys) few e p q =
     (one_walls outlines within width (k + 1) h xs ys (omega (arith, few)) (omega (arith, e)) p.1 q.1)
 
 -- ---- runs
-runs_turn : (r s : Run) → r.from <ℤ s.from → s.from <ℤ r.from → ⊥
+pub runs_turn : (r s : Run) → r.from <ℤ s.from → s.from <ℤ r.from → ⊥
 runs_turn r s h k = omega (arith, ints)
 
 module _ (outlines : List (List Pt)) (c : ℕ) (line : Line) (least : ℕ) where

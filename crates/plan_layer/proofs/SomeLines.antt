@@ -1,44 +1,27 @@
 -- A layer has the lines of infill that have runs: from far before all outlines on, line by line.
-use Rattle.std.proofs.Common.{◌≡◌, ◌⊎◌, inl, inr, ℕ, zero, suc, ◌+◌, ◌*◌, ◌<◌, ◌≤◌, Bool, true, false, List, []}
-use Rattle.std.proofs.Common.{◌++◌, subst, flat_map, arith, ℤ, pos, ◌+ℤ◌, ◌-ℤ◌, ◌%◌}
-use Rattle.std.specs.Prelude.{All, ◌==◌, if◌then◌else◌}
+use Rattle.std.proofs.Common.{◌≡◌, ◌⊎◌, inl, inr, ℕ, zero, suc, ◌+◌, ◌*◌, ◌<◌, ◌≤◌, List, [], ◌++◌, subst, flat_map}
+use Rattle.std.proofs.Common.{arith, ℤ, pos, ◌+ℤ◌, ◌-ℤ◌}
+use Rattle.std.specs.Prelude.{All}
 use Rattle.std.proofs.lemmas.Int.{ints}
 use Rattle.std.proofs.lemmas.Bool.{cases_lt}
-use Rattle.std.proofs.lemmas.List.Elements.{All-nil, All-weaker}
+use Rattle.std.proofs.lemmas.List.Elements.{All-nil}
 use Rattle.scad_geom.specs.declared.point.Pt.{Pt}
 use Rattle.scad_geom.specs.Loop.{sides}
-use Rattle.scad_geom.specs.Within.{IsWithin, IsEdgeWithin}
 use Rattle.scad_geom.proofs.Signs.{minus_times}
+use Rattle.plan_infill.specs.Extent.{IsEdgeAmong}
+use Rattle.plan_infill.specs.Multiple.{IsMultiple}
 use Rattle.plan_infill.specs.There.{HasRuns}
 use Rattle.plan_infill.proofs.Beyond.{extent, extent_within}
+use Rattle.plan_infill.proofs.Extents.{edges_among, edges_wider}
+use Rattle.plan_infill.proofs.Multiples.{next_multiple, times_more, one_more_time, twice_and_more}
 use Rattle.plan_infill.proofs.SomeRuns.{runs_are_there}
 use Rattle.scad_words.specs.declared.settings.Settings.{Settings}
-use Rattle.plan_layer.specs.Extent.{IsAmong, across, IsEdgeAmong}
-use Rattle.plan_layer.specs.Infill.{line_at, IsMultiple, depth, LineRuns, IsFilled, AreFilled, line_of}
+use Rattle.plan_layer.specs.Infill.{has_rows, line_at, depth, LineRuns, IsFilled, AreFilled, line_of}
 use Rattle.plan_layer.proofs.LineRuns.{FilledBefore, before_none, before_more, before_all}
-use Rattle.plan_layer.proofs.Multiples.{next_multiple}
 
 pub record HasLines (outlines : List (List Pt)) (layer : ℕ) (s : Settings) : Type 0 where
   pub lines : List LineRuns
   pub are_filled : AreFilled outlines layer s lines
-
--- a point within a limit lies between it and its negative across the lines
-among_by : (rows : Bool) (limit : ℕ) (p : Pt) → IsWithin limit p
-    → IsAmong (pos 0 -ℤ pos limit) (pos limit) (if rows then p.y else p.x)
-among_by true limit p w = let h = w.y in record { from = omega (arith, ints, h); to = omega (arith, ints, h) }
-among_by false limit p w = let h = w.x in record { from = omega (arith, ints, h); to = omega (arith, ints, h) }
-
-wider : (m n : ℕ) → m ≤ n → (p : Pt) → IsWithin m p → IsWithin n p
-wider m n o p w = let x = w.x in let y = w.y in record { x = omega (arith, o, x); y = omega (arith, o, y) }
-
-times_more : (n spacing : ℕ) → 0 < spacing → n ≤ n * spacing
-times_more n spacing h = grind arith
-
-one_more_time : (k spacing : ℕ) → k * spacing + spacing ≡ suc k * spacing
-one_more_time k spacing = grind arith
-
-twice_and_more : (n spacing : ℕ) → 0 < spacing → n * spacing + n * spacing < (n + n + 1) * spacing
-twice_and_more n spacing h = grind arith
 
 module _ (outlines : List (List Pt)) (layer : ℕ) (s : Settings) where
   module _ (spaced : 0 < s.infill_spacing) where
@@ -52,13 +35,10 @@ module _ (outlines : List (List Pt)) (layer : ℕ) (s : Settings) where
     abbrev low : ℤ
     low = pos 0 -ℤ pos limit
 
-    among : All (IsEdgeAmong layer low (pos limit)) (flat_map sides outlines)
-    among = All-weaker (IsEdgeWithin n) (IsEdgeAmong layer low (pos limit))
-        (λ e w. record { a = end e.a w.a; b = end e.b w.b }) (flat_map sides outlines)
-        (extent_within (flat_map sides outlines))
-      where
-        end : (p : Pt) → IsWithin n p → IsAmong low (pos limit) (across layer p)
-        end p w = among_by (layer % 2 == 0) limit p (wider n limit (times_more n s.infill_spacing spaced) p w)
+    among : All (IsEdgeAmong (has_rows layer) low (pos limit)) (flat_map sides outlines)
+    among = edges_among (has_rows layer) limit (flat_map sides outlines)
+        (edges_wider n limit (times_more n s.infill_spacing spaced) (flat_map sides outlines)
+        (extent_within (flat_map sides outlines)))
 
     -- the lines before a place
     record AreFound (place : ℤ) : Type 0 where

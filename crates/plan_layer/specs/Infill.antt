@@ -1,22 +1,21 @@
 -- The infill of a layer: the runs of its lines, in the order and the direction in which they are printed.
-use Rattle.std.specs.Prelude.{◌≡◌, ◌≢◌, Bool, true, false, not, ◌==◌, if◌then◌else◌, ℕ, ◌*◌, ◌%◌, ◌<◌, List, [], ◌∷◌}
-use Rattle.std.specs.Prelude.{◌++◌, map, reverse, All, Contains, ℤ, pos, ◌*ℤ◌, ◌<ℤ◌}
+use Rattle.std.specs.Prelude.{◌≡◌, ◌≢◌, Bool, true, false, not, ◌==◌, if◌then◌else◌, ℕ, ◌*◌, ◌%◌, List, [], ◌∷◌}
+use Rattle.std.specs.Prelude.{◌++◌, map, reverse, All, Contains, ℤ, ◌<ℤ◌}
 use Rattle.scad_geom.specs.declared.point.Pt.{Pt}
 use Rattle.plan_infill.specs.declared.line.Line.{Line}
 use Rattle.plan_infill.specs.declared.line.Line.TheVariants.{Row, Column}
 use Rattle.plan_infill.specs.declared.run.Run.{Run}
+use Rattle.plan_infill.specs.Multiple.{IsMultiple}
 use Rattle.plan_infill.specs.Runs.{point_on, IsRun, AreRuns}
 use Rattle.scad_words.specs.declared.settings.Settings.{Settings}
 
--- the line of a layer at a coordinate: a row on even layers, a column on odd ones
-abbrev pub line_at : ℕ → ℤ → Line
-line_at layer z = if layer % 2 == 0 then Row z else Column z
+-- even layers have rows, odd ones columns
+abbrev pub has_rows : ℕ → Bool
+has_rows layer = layer % 2 == 0
 
--- lines lie at the whole multiples of the spacing; with the spacing 0 there is none
-pub record IsMultiple (spacing : ℕ) (z : ℤ) : Type 0 where
-  pub spaced : 0 < spacing
-  pub times : ℤ
-  pub is : z ≡ times *ℤ pos spacing
+-- the line of a layer at a coordinate
+abbrev pub line_at : ℕ → ℤ → Line
+line_at layer z = if has_rows layer then Row z else Column z
 
 -- infill lies inside of all walls
 abbrev pub depth : Settings → ℕ
@@ -31,7 +30,7 @@ pub record LineRuns : Type 0 where
   pub at : ℤ
   pub runs : List Run
 
--- a line of infill with all its runs, of which there are some
+-- a line of infill, at a whole multiple of the spacing, with all its runs, of which there are some
 pub record IsFilled (outlines : List (List Pt)) (layer : ℕ) (s : Settings) (l : LineRuns) : Type 0 where
   pub multiple : IsMultiple s.infill_spacing l.at
   pub runs : AreRuns outlines (depth s) (line_at layer l.at) s.line_width l.runs

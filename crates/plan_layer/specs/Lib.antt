@@ -7,5 +7,3 @@ pub mod Lengths
 pub mod Refusal
 pub mod There
 pub mod One
--- What only the steps of the code promise to one another.
-pub mod Extent

@@ -4,7 +4,6 @@
 //! the width of a line from the layer's outlines and lies inside them, and each refusal with its cause.
 #![tactic(auto, using(scad_geom::proofs::Casts::casts))]
 
-mod extent;
 mod fault;
 mod infill_paths;
 pub mod laws;

@@ -1,12 +1,11 @@
 //! The lines of infill that have runs.
-ghost use Rattle.std.specs.Prelude.{◌≡◌, ◌<◌, ◌≤◌, ◌+ℤ◌, ◌<ℤ◌, ◌≤ℤ◌, pos, unsigned_abs, IfOk, OnOk, All};
+ghost use Rattle.std.specs.Prelude.{◌≡◌, ◌≤◌, unsigned_abs, IfOk, OnOk, All};
 ghost use Rattle.scad_geom.specs.Limits.{point_limit};
 ghost use Rattle.scad_geom.specs.Within.{IsWithin};
 ghost use Rattle.scad_words.specs.Settings.{AreInRange};
 ghost use Rattle.plan_layer.specs.Infill as spec;
 
-use crate::extent::extent_of;
-use plan_infill::{Line, Run, runs};
+use plan_infill::{Line, Run, extent_of, multiple_from, runs};
 use plan_sides::sides;
 use scad_geom::Loop;
 use scad_words::Settings;
@@ -58,7 +57,7 @@ pub(crate) fn filled_lines(
     if spacing == 0 {
         return Ok(lines);
     }
-    let extent = extent_of(layer, &sides(alloc, outlines)?);
+    let extent = extent_of(&sides(alloc, outlines)?, has_rows(layer));
     let high = extent.high as i64;
     let mut at = multiple_from(extent.low, spacing);
     'lines: while at <= high {
@@ -66,17 +65,6 @@ pub(crate) fn filled_lines(
         at += spacing as i64;
     }
     Ok(lines)
-}
-
-// The least multiple of the spacing that isn't below a place.
-fn multiple_from(place: i32, spacing: u32) -> i64
-    requires { 0 < spacing }
-    ensures multiple { spec.IsMultiple spacing result }
-    ensures from { place ≤ℤ result }
-    ensures first { result <ℤ (place +ℤ pos spacing) }
-{
-    let place = place as i64;
-    place + (-place).rem_euclid(spacing as i64)
 }
 
 // Adds the line at a coordinate where it has runs.
@@ -106,9 +94,16 @@ fn push_filled(
 pub(crate) fn line_at(layer: u32, at: i32) -> Line
     ensures { result ≡ spec.line_at layer at }
 {
-    if layer % 2 == 0 {
+    if has_rows(layer) {
         Line::Row(at)
     } else {
         Line::Column(at)
     }
+}
+
+// Whether the lines of a layer are rows.
+fn has_rows(layer: u32) -> bool
+    ensures { result ≡ spec.has_rows layer }
+{
+    layer % 2 == 0
 }

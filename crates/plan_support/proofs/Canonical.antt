@@ -4,33 +4,14 @@ use lib.Signed.{◌≤ℤ◌}
 use Rattle.std.specs.Prelude.{Contains, int_le, ◌||◌}
 use Rattle.std.proofs.lemmas.Int.{ints}
 use Rattle.std.proofs.lemmas.Bool.{both_ways, and_parts}
-use Rattle.std.proofs.lemmas.List.Elements.{All-weaker, All-contains, Contains-append_left, Contains-append_right, Contains-append_cases, Contains-push, Contains-push_cases, Contains-get_or}
+use Rattle.std.proofs.lemmas.List.Elements.{All-weaker, All-contains, Contains-get_or}
 use Rattle.scad_geom.proofs.Rising.{by_order, order}
 use Rattle.plan_infill.specs.declared.run.Run.{Run}
 use Rattle.plan_infill.specs.Runs.{GoUp}
+use Rattle.plan_infill.proofs.Elements.{nothing_in, first_or_other, first_in, other_in}
 use Rattle.plan_support.specs.Stretches.{IsStretch, AreStretches}
 use Rattle.plan_support.specs.Rows.{AreApart}
 use Rattle.plan_support.specs.On.{has_place, is_on}
-
-nothing_in : {A : Type 0} (x : A) → Contains [] x → ⊥
-nothing_in x c = let lt = c.1 in omega arith
-
--- an element is the first or one of the others
-pub first_or_other : {A : Type 0} (x : A) (xs : List A) (z : A) → Contains (x ∷ xs) z → (x ≡ z) ⊎ Contains xs z
-first_or_other {A} x xs z c =
-    elim (Contains-append_cases (x ∷ []) xs z c) [
-      | inl f ↦ elim (Contains-push_cases [] x z f) [
-        | inl n ↦ absurd (nothing_in z n)
-        | inr e ↦ inl e
-      ]
-      | inr o ↦ inr o
-    ]
-
-pub first_in : {A : Type 0} (x : A) (xs : List A) → Contains (x ∷ xs) x
-first_in x xs = Contains-append_left (x ∷ []) xs x (Contains-push [] x)
-
-pub other_in : {A : Type 0} (x : A) (xs : List A) (z : A) → Contains xs z → Contains (x ∷ xs) z
-other_in x xs z c = Contains-append_right (x ∷ []) xs z c
 
 -- ---- places on runs
 pub has : (r : Run) (x : ℤ) → r.from ≤ℤ x → x ≤ℤ r.to → has_place r x ≡ true

@@ -13,10 +13,11 @@ use Rattle.plan_infill.specs.Quotient.{IsFloor, IsCeiling}
 use Rattle.plan_infill.proofs.Quotients.{at_most_times, after_floor, before_ceiling}
 use Rattle.plan_infill.specs.declared.run.Run.{Run}
 use Rattle.plan_support.specs.On.{is_on}
-use Rattle.plan_support.proofs.Canonical.{place_on, first_in}
+use Rattle.plan_infill.proofs.Elements.{first_in}
+use Rattle.plan_support.proofs.Canonical.{place_on}
 use Rattle.plan_support.specs.declared.reach.Reach.{Reach}
 use Rattle.plan_support.specs.Near.{IsBesideEnds, line_reach, IsReach, IsClipped}
-use Rattle.plan_support.proofs.Extents.{lesser, greater}
+use Rattle.plan_infill.proofs.Extents.{lesser, greater}
 
 from_ceiling : (n d r x : ℤ) → pos 0 <ℤ d → IsCeiling n d r → r ≤ℤ x → n ≤ℤ (x *ℤ d)
 from_ceiling n d r x h c k =

@@ -6,7 +6,7 @@ use Rattle.scad_geom.specs.Segment.{segments}
 use Rattle.scad_geom.specs.Loop.{sides}
 use Rattle.scad_geom.specs.Winding.{wind, is_over, passage_by, side_by, is_beyond, turn}
 use Rattle.plan_infill.specs.declared.run.Run.{Run}
-use Rattle.plan_support.specs.Multiple.{IsMultiple}
+use Rattle.plan_infill.specs.Multiple.{IsMultiple}
 use Rattle.plan_support.specs.Rows.{Row, runs_at}
 use Rattle.plan_support.specs.Spans.{point_at}
 

@@ -20,11 +20,11 @@ use Rattle.plan_infill.specs.declared.line.Line.TheVariants.{Row as AtHeight}
 use Rattle.plan_infill.specs.declared.run.Run.{Run}
 use Rattle.plan_infill.specs.Runs.{IsRun, AreRuns}
 use Rattle.plan_infill.proofs.Beyond.{extent, none_far}
+use Rattle.plan_infill.proofs.DeepRuns.{deep_by_nothing}
 use Rattle.plan_support.specs.On.{has_place, is_on}
 use Rattle.plan_support.specs.Spans.{point_at, IsWound}
 use Rattle.plan_support.specs.Near.{IsPlace, AreNear, AreHoles}
 use Rattle.plan_support.proofs.Canonical.{run_there, place_on}
-use Rattle.plan_support.proofs.WoundStretches.{deep_if}
 use Rattle.plan_support.proofs.Wholly.{start_of, end_of}
 use Rattle.plan_support.proofs.HeightRows.{same_height, other_height}
 use Rattle.scad_geom.proofs.Rising.{by_order, order}
@@ -64,7 +64,7 @@ module _ (outlines : List (List Pt)) (y : ℤ) where
         let r : Run = record { from = s.from; to = e.to } in
         let run : IsRun outlines 0 (AtHeight y) 0 r = record {
           long = omega (arith, ints, low, high);
-          deep = λ z a b. deep_if outlines (point_at z y) (test_wound z (by_order (order z x)
+          deep = λ z a b. deep_by_nothing outlines (point_at z y) (test_wound z (by_order (order z x)
               (λ o. s.holds z a o) (λ o. e.holds z (omega (arith, ints, o)) b)));
           before = λ d. both_ways (test (s.from -ℤ pos 1)) s.before (wound_test (s.from -ℤ pos 1) d.inside);
           after = λ d. both_ways (test (e.to +ℤ pos 1)) e.after (wound_test (e.to +ℤ pos 1) d.inside);

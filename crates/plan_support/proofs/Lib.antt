@@ -1,8 +1,6 @@
 pub mod Consecutive
 pub mod Stretches
 pub mod HeightRows
-pub mod Extents
-pub mod Multiples
 pub mod WoundStretches
 pub mod LineRows
 mod Examples

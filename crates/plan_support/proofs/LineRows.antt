@@ -1,5 +1,5 @@
 -- The rows of support lines, found one line after another.
-use Rattle.std.proofs.Common.{◌≡◌, ◌≢◌, ℕ, List, [], ◌∷◌, ◌++◌, get_or, sym, subst, ◌∙◌, flat_map, arith, ℤ, pos, ◌+ℤ◌, ◌<ℤ◌}
+use Rattle.std.proofs.Common.{◌≡◌, ◌≢◌, inl, inr, ℕ, true, List, [], ◌∷◌, ◌++◌, get_or, sym, subst, ◌∙◌, flat_map, arith, ℤ, pos, ◌+ℤ◌, ◌<ℤ◌}
 use lib.Signed.{◌≤ℤ◌}
 use Rattle.std.specs.Prelude.{All, unsigned_abs, ◌≤◌}
 use Rattle.std.proofs.lemmas.Int.{ints}
@@ -11,14 +11,14 @@ use Rattle.scad_geom.specs.Loop.{sides}
 use Rattle.scad_geom.proofs.Rising.{by_order, order}
 use Rattle.plan_infill.specs.declared.line.Line.TheVariants.{Row as AtHeight}
 use Rattle.plan_infill.specs.declared.run.Run.{Run}
+use Rattle.plan_infill.specs.Extent.{IsEdgeAmong}
+use Rattle.plan_infill.specs.Multiple.{IsMultiple}
 use Rattle.plan_infill.specs.Runs.{AreRuns}
-use Rattle.plan_infill.proofs.Beyond.{below_all, above_all}
-use Rattle.plan_support.specs.Extent.{IsEdgeAmong}
-use Rattle.plan_support.specs.Multiple.{IsMultiple}
+use Rattle.plan_infill.proofs.Extents.{none_beyond}
+use Rattle.plan_infill.proofs.Multiples.{multiples_apart}
 use Rattle.plan_support.specs.Stretches.{AreStretches}
 use Rattle.plan_support.specs.Rows.{Row, runs_at, GoUpwards, AreApart, AreRows, AreRowsOf}
 use Rattle.plan_support.specs.Spans.{IsSpanned, AreSpans, row_of}
-use Rattle.plan_support.proofs.Multiples.{multiples_apart}
 use Rattle.plan_support.proofs.Stretches.{no_stretches, stand_apart}
 use Rattle.plan_support.proofs.HeightRows.{none_above, others_stay, last_row, own_row, upwards_push}
 use Rattle.plan_support.proofs.WoundStretches.{spanned_runs}
@@ -48,18 +48,12 @@ module _ (outlines : List (List Pt)) (spacing : ℕ) where
   abbrev Here : ℤ → ℤ → Type 0
   Here y x = IsSpanned outlines spacing x y
 
-  module _ (low high : ℤ) (among : All (IsEdgeAmong low high) (flat_map sides outlines)) where
+  module _ (low high : ℤ) (among : All (IsEdgeAmong true low high) (flat_map sides outlines)) where
     none_under : (x y : ℤ) → y <ℤ low → IsSpanned outlines spacing x y → ⊥
-    none_under x y o h = h.wound (below_all x y (flat_map sides outlines)
-        (All-weaker (IsEdgeAmong low high) (λ e. (y <ℤ e.a.y) × (y <ℤ e.b.y))
-        (λ e k. let f = k.a.from in let g = k.b.from in (omega (arith, ints), omega (arith, ints)))
-        (flat_map sides outlines) among))
+    none_under x y o h = h.wound (none_beyond outlines true low high y x (inl o) among)
 
     none_over : (x y : ℤ) → high <ℤ y → IsSpanned outlines spacing x y → ⊥
-    none_over x y o h = h.wound (above_all x y (flat_map sides outlines)
-        (All-weaker (IsEdgeAmong low high) (λ e. (e.a.y ≤ℤ y) × (e.b.y ≤ℤ y))
-        (λ e k. let f = k.a.to in let g = k.b.to in (omega (arith, ints), omega (arith, ints)))
-        (flat_map sides outlines) among))
+    none_over x y o h = h.wound (none_beyond outlines true low high y x (inr o) among)
 
     -- below the first multiple from the least height on there is none
     pub below_none : (place : ℤ) → IsMultiple spacing place → place <ℤ (low +ℤ pos spacing)

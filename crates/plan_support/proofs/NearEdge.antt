@@ -18,7 +18,7 @@ use Rattle.plan_infill.specs.declared.run.Run.{Run}
 use Rattle.plan_support.specs.declared.reach.Reach.{Reach}
 use Rattle.plan_support.specs.Spans.{point_at}
 use Rattle.plan_support.specs.Near.{AreNear, IsBesideEnds, IsBesideLine, IsReach, IsClipped}
-use Rattle.plan_support.proofs.Extents.{lesser, greater}
+use Rattle.plan_infill.proofs.Extents.{lesser, greater}
 use Rattle.plan_support.proofs.NearRow.{FoundFor, meets_if, found_if, turned, mirrored_lies, mirrored_back, cross_is, IsTold, found_by, told_of}
 
 -- ---- in numbers, of an edge from (lx, ly) up to (hx, hy), and the place x of a row at the height y

@@ -20,7 +20,8 @@ use Rattle.plan_support.specs.Stretches.{AreStretches}
 use Rattle.plan_support.specs.On.{is_on, is_on_some, is_covered}
 use Rattle.plan_support.specs.Lines.{Ascend, row_heights, AreHeights, AreStretchesBelow, AreStretchesFrom, some_of, kept_of, kept_row, kept_rows, AreLines}
 use Rattle.plan_support.specs.Covers.{IsCovered}
-use Rattle.plan_support.proofs.Canonical.{has, are_stretches, first_in, other_in, first_or_other}
+use Rattle.plan_infill.proofs.Elements.{first_in, other_in, first_or_other}
+use Rattle.plan_support.proofs.Canonical.{has, are_stretches}
 use Rattle.plan_support.proofs.Stretches.{no_stretches}
 use Rattle.plan_support.proofs.HeightRows.{same_height, other_height}
 use Rattle.plan_support.proofs.LineRows.{rows_apart}

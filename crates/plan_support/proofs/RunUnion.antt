@@ -11,7 +11,7 @@ use Rattle.plan_infill.specs.declared.run.Run.{Run}
 use Rattle.plan_support.specs.Rows.{AreApart}
 use Rattle.plan_support.specs.On.{has_place, is_on}
 use Rattle.plan_support.specs.Unite.{StartInOrder, TakeIn}
-use Rattle.plan_support.proofs.Extents.{greater}
+use Rattle.plan_infill.proofs.Extents.{greater}
 use Rattle.plan_support.proofs.Starts.{no_sooner}
 
 -- ---- the last of runs that stand apart

@@ -17,7 +17,8 @@ use Rattle.plan_support.specs.Spans.{row_of}
 use Rattle.plan_support.specs.Free.{at_least, AreLeft}
 use Rattle.plan_support.specs.Near.{IsPlace, HasPlaces, AreHoles}
 use Rattle.plan_support.specs.Supports.{IsSupported, IsFreeOn, row_paths, paths_of, way_behind, AddsRow, AreSupports}
-use Rattle.plan_support.proofs.Canonical.{run_there, are_stretches, first_in, other_in, first_or_other}
+use Rattle.plan_infill.proofs.Elements.{first_in, other_in, first_or_other}
+use Rattle.plan_support.proofs.Canonical.{run_there, are_stretches}
 use Rattle.plan_support.proofs.Stretches.{no_stretches}
 use Rattle.plan_support.proofs.HeightRows.{none_above, others_stay, last_row, upwards_push}
 

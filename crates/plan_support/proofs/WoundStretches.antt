@@ -1,24 +1,14 @@
 -- Runs that are deep by nothing are the stretches that outlines wind round.
-use Rattle.std.proofs.Common.{ℕ, List, arith, ℤ, pos, ◌+ℤ◌, ◌-ℤ◌}
-use Rattle.std.proofs.lemmas.Int.{ints}
+use Rattle.std.proofs.Common.{ℕ, List, ℤ, pos, ◌+ℤ◌, ◌-ℤ◌}
 use Rattle.std.proofs.lemmas.List.Elements.{All-weaker}
 use Rattle.scad_geom.specs.declared.point.Pt.{Pt}
-use Rattle.scad_geom.specs.Point.{Point}
-use Rattle.scad_ring.specs.Octagon.{octagon_of}
-use Rattle.scad_ring.specs.Nearness.{Open, IsClear}
 use Rattle.plan_infill.specs.declared.line.Line.TheVariants.{Row as AtHeight}
 use Rattle.plan_infill.specs.declared.run.Run.{Run}
 use Rattle.plan_infill.specs.Runs.{IsDeep, IsRun, AreRuns}
-use Rattle.plan_support.specs.Multiple.{IsMultiple}
+use Rattle.plan_infill.proofs.DeepRuns.{deep_by_nothing}
+use Rattle.plan_infill.specs.Multiple.{IsMultiple}
 use Rattle.plan_support.specs.Stretches.{IsStretch, AreStretches}
-use Rattle.plan_support.specs.Spans.{point_at, IsWound, IsSpanned}
-
--- no point differs from another by less than nothing
-nothing_near : (q a b : Point) → IsClear Open (octagon_of 0) q a b
-nothing_near q a b s t from to some near = let r = near.0 in let l = near.1.0 in omega (arith, ints, r, l)
-
-pub deep_if : (outlines : List (List Pt)) (q : Pt) → IsWound outlines q → IsDeep outlines 0 q
-deep_if outlines q w = record { inside = w; apart = λ k d l. nothing_near _ _ _ }
+use Rattle.plan_support.specs.Spans.{point_at, IsSpanned}
 
 module _ (outlines : List (List Pt)) (spacing : ℕ) (y : ℤ) (m : IsMultiple spacing y) where
   spanned_if : (x : ℤ) → IsDeep outlines 0 (point_at x y) → IsSpanned outlines spacing x y
@@ -28,14 +18,14 @@ module _ (outlines : List (List Pt)) (spacing : ℕ) (y : ℤ) (m : IsMultiple s
   stretch_of r s = record {
     long = s.long;
     holds = λ x a b. spanned_if x (s.deep x a b);
-    before = λ h. s.before (deep_if outlines (point_at (r.from -ℤ pos 1) y) h.wound);
-    after = λ h. s.after (deep_if outlines (point_at (r.to +ℤ pos 1) y) h.wound);
+    before = λ h. s.before (deep_by_nothing outlines (point_at (r.from -ℤ pos 1) y) h.wound);
+    after = λ h. s.after (deep_by_nothing outlines (point_at (r.to +ℤ pos 1) y) h.wound);
   }
 
   run_of : (r : Run) → IsStretch (λ x. IsSpanned outlines spacing x y) 0 r → IsRun outlines 0 (AtHeight y) 0 r
   run_of r s = record {
     long = s.long;
-    deep = λ x a b. deep_if outlines (point_at x y) (s.holds x a b).wound;
+    deep = λ x a b. deep_by_nothing outlines (point_at x y) (s.holds x a b).wound;
     before = λ d. s.before (spanned_if (r.from -ℤ pos 1) d);
     after = λ d. s.after (spanned_if (r.to +ℤ pos 1) d);
   }

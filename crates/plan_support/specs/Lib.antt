@@ -1,14 +1,12 @@
 -- What the public calls promise.
 pub mod Stretches
 pub mod Rows
-pub mod Multiple
 pub mod Spans
 pub mod On
 pub mod Covers
 pub mod Supports
 pub mod Lines
 -- What only the steps of the code promise to one another.
-pub mod Extent
 pub mod Shares
 pub mod Free
 pub mod Near

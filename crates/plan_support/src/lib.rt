@@ -7,7 +7,6 @@
 mod cover;
 mod cover_fault;
 mod cover_rows;
-mod extent;
 mod free;
 mod heights;
 mod line;

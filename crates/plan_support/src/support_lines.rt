@@ -1,14 +1,12 @@
 //! The stretches of support lines that outlines wind round.
-ghost use Rattle.std.specs.Prelude.{◌<◌, ◌≤◌, ◌+ℤ◌, ◌<ℤ◌, ◌≤ℤ◌, pos, unsigned_abs, IfOk, OnOk, All};
+ghost use Rattle.std.specs.Prelude.{◌≤◌, unsigned_abs, IfOk, OnOk, All};
 ghost use Rattle.scad_geom.specs.Limits.{coordinate_limit};
 ghost use Rattle.scad_geom.specs.Within.{IsWithin};
-ghost use Rattle.plan_support.specs.Multiple.{IsMultiple};
 ghost use Rattle.plan_support.specs.Rows.{AreRows};
 ghost use Rattle.plan_support.specs.Spans.{AreSpans, AddsSpans};
 
-use crate::extent::extent_of;
 use crate::rows::Rows;
-use plan_infill::{Line, runs};
+use plan_infill::{Line, extent_of, multiple_from, runs};
 use plan_sides::sides;
 use scad_geom::Loop;
 use std::alloc::{AllocError, Global};
@@ -24,7 +22,7 @@ pub fn spans(alloc: Global, outlines: &[Loop], spacing: u32) -> Result<Rows, All
     ensures rows { IfOk result AreRows }
 {
     let mut rows = Rows::new(alloc);
-    let extent = extent_of(&sides(alloc, outlines)?);
+    let extent = extent_of(&sides(alloc, outlines)?, true);
     let high = extent.high as i64;
     let mut y = multiple_from(extent.low, spacing);
     'lines: while y <= high {
@@ -32,17 +30,6 @@ pub fn spans(alloc: Global, outlines: &[Loop], spacing: u32) -> Result<Rows, All
         y += spacing as i64;
     }
     Ok(rows)
-}
-
-// The least multiple of the spacing that isn't below a height.
-fn multiple_from(y: i32, spacing: u32) -> i64
-    requires { 0 < spacing }
-    ensures multiple { IsMultiple spacing result }
-    ensures from { y ≤ℤ result }
-    ensures first { result <ℤ (y +ℤ pos spacing) }
-{
-    let y = y as i64;
-    y + (-y).rem_euclid(spacing as i64)
 }
 
 // Adds the row at a height, where it has runs.

@@ -13,15 +13,16 @@ use Rattle.scad_geom.specs.Winding.{wind}
 use Rattle.scad_geom.specs.Within.{IsWithin, IsEdgeWithin}
 use Rattle.scad_geom.proofs.Rising.{order}
 use Rattle.winding_laws.specs.Points.{IsOn}
+use Rattle.plan_infill.specs.Extent.{IsEdgeAmong}
 use Rattle.plan_infill.specs.Runs.{IsDeep, point_on}
+use Rattle.plan_infill.proofs.DeepRuns.{deep_by_nothing}
+use Rattle.plan_infill.proofs.Extents.{edges_among}
 use Rattle.plan_sides.proofs.Within.{outlines_within}
-use Rattle.plan_layer.specs.Extent.{IsEdgeAmong}
-use Rattle.plan_layer.specs.Infill.{line_at}
+use Rattle.plan_layer.specs.Infill.{has_rows, line_at}
 use Rattle.plan_layer.specs.Clearance.{PathsKeepClear}
 use Rattle.plan_walls.specs.Clearance.{KeepsClear}
 use Rattle.plan_layer.specs.Moves.{all_moves}
 use Rattle.plan_layer.proofs.Beyond.{nothing_beyond}
-use Rattle.plan_layer.proofs.Extents.{across_from, across_to}
 
 abbrev least : ℤ
 least = pos 0 -ℤ pos point_limit
@@ -59,21 +60,9 @@ ends_on a b = record {
 }
 
 module _ (outlines : List (List Pt)) (within : All (λ l. All (IsWithin point_limit) l) outlines) where
-  -- by the distance 0 a point is deep where it is wound round
-  deep : (p : Pt) → wind (whole p) (segments (flat_map sides outlines)) ≢ pos 0 → IsDeep outlines 0 p
-  deep p h = record {
-    inside = h;
-    apart = λ k d there s t from to some n. let a = n.0 in let b = n.1.0 in omega (arith, ints, a, b);
-  }
-
-  among : (layer : ℕ) → All (IsEdgeAmong layer least most) (flat_map sides outlines)
+  among : (layer : ℕ) → All (IsEdgeAmong (has_rows layer) least most) (flat_map sides outlines)
   among layer =
-      All-weaker (IsEdgeWithin point_limit) (IsEdgeAmong layer least most)
-      (λ e h. record {
-        a = record { from = across_from layer e.a h.a; to = across_to layer e.a h.a };
-        b = record { from = across_from layer e.b h.b; to = across_to layer e.b h.b };
-      })
-      (flat_map sides outlines) (outlines_within point_limit outlines within)
+      edges_among (has_rows layer) point_limit (flat_map sides outlines) (outlines_within point_limit outlines within)
 
   not_beyond : (layer : ℕ) (z t : ℤ) → IsDeep outlines 0 (point_on (line_at layer z) t) → unsigned_abs z ≤ point_limit
   not_beyond layer z t d = elim (order least z) [
@@ -85,7 +74,9 @@ module _ (outlines : List (List Pt)) (within : All (λ l. All (IsWithin point_li
   ]
 
   wound_within : (p : Pt) → wind (whole p) (segments (flat_map sides outlines)) ≢ pos 0 → IsWithin point_limit p
-  wound_within p h = record { x = not_beyond 1 p.x p.y (deep p h); y = not_beyond 0 p.y p.x (deep p h) }
+  wound_within p h =
+      let d = deep_by_nothing outlines p h in
+      record { x = not_beyond 1 p.x p.y d; y = not_beyond 0 p.y p.x d }
 
   -- ---- the ends of moves that keep a distance
   kept_within : (c : ℕ) (e : Edge) → KeepsClear outlines c e → IsEdgeWithin point_limit e

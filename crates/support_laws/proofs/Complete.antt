@@ -13,7 +13,7 @@ use Rattle.plan_support.specs.On.{is_on}
 use Rattle.plan_support.specs.Stretches.{IsStretch, AreStretches}
 use Rattle.plan_support.proofs.Canonical.{run_there, place_on}
 use Rattle.plan_support.proofs.Wholly.{HasStart, HasEnd, start_of, end_of}
-use Rattle.support_laws.proofs.LineDecision.{IsDecided, holds, held, holding, failing}
+use Rattle.plan_infill.proofs.Deciding.{IsDecided, holds, held, holding, failing}
 
 -- what a stretch covers holds
 pub if_on : (Holds : ℤ → Type 0) (least : ℕ) (rs : List Run) → AreStretches Holds least rs → (x : ℤ)

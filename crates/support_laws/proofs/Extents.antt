@@ -9,6 +9,7 @@ use Rattle.scad_geom.specs.Loop.{sides}
 use Rattle.scad_geom.specs.Within.{IsWithin, IsEdgeWithin}
 use Rattle.scad_geom.proofs.Rising.{by_order, order}
 use Rattle.plan_infill.proofs.Beyond.{below_all, above_all, left_of_all, right_of_all, extent, extent_within}
+use Rattle.plan_infill.proofs.Extents.{edges_wider}
 use Rattle.plan_support.specs.Spans.{point_at, IsWound}
 use Rattle.support_laws.specs.Supports.{IsBelow}
 
@@ -61,19 +62,12 @@ abbrev pub extents : List (List (List Pt)) → ℕ
 extents [] = 0
 extents (o ∷ os) = extent (flat_map sides o) + extents os
 
-wider : (m n : ℕ) → m ≤ n → (p : Pt) → IsWithin m p → IsWithin n p
-wider m n o p w = let x = w.x in let y = w.y in record { x = omega (arith, o, x); y = omega (arith, o, y) }
-
 all_within : (n : ℕ) (above : List (List (List Pt))) → extents above ≤ n → All (AreWithin n) above
 all_within n [] h = All-nil (AreWithin n)
 all_within n (o ∷ os) h =
     All-cons (AreWithin n) o os
-    (All-weaker (IsEdgeWithin (extent (flat_map sides o))) (IsEdgeWithin n)
-    (λ e w. record {
-      a = wider (extent (flat_map sides o)) n (omega (arith, h)) e.a w.a;
-      b = wider (extent (flat_map sides o)) n (omega (arith, h)) e.b w.b;
-    })
-    (flat_map sides o) (extent_within (flat_map sides o)))
+    (edges_wider (extent (flat_map sides o)) n (omega (arith, h)) (flat_map sides o)
+    (extent_within (flat_map sides o)))
     (all_within n os (omega (arith, h)))
 
 pub extents_within : (above : List (List (List Pt))) → All (AreWithin (extents above)) above

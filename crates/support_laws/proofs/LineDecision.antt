@@ -17,35 +17,15 @@ use Rattle.scad_geom.specs.Sign.{is_zero}
 use Rattle.scad_geom.specs.Winding.{wind}
 use Rattle.scad_geom.proofs.Rising.{order}
 use Rattle.scad_geom.proofs.Signs.{zero_true}
-use Rattle.plan_support.specs.Multiple.{IsMultiple}
+use Rattle.plan_infill.specs.Multiple.{IsMultiple}
 use Rattle.plan_support.specs.Near.{line_reach, IsBesideEnds, IsBesideLine}
 use Rattle.plan_support.specs.Spans.{point_at, IsWound, IsSpanned}
 use Rattle.plan_support.specs.Supports.{IsFree}
 use Rattle.plan_support.proofs.NearRow.{FoundFor}
 use Rattle.plan_support.proofs.NearEdge.{IsBesideRow, found_if_beside, row_if_found, ends_if_found, line_if_found, meets, clear}
-use Rattle.plan_layer.proofs.Ascending.{first_in, other_in, first_or_other}
+use Rattle.plan_infill.proofs.Deciding.{IsDecided}
+use Rattle.plan_infill.proofs.Elements.{first_in, other_in, first_or_other}
 use Rattle.support_laws.specs.Supports.{IsBelow, IsOverhung, NeedsSupport}
-
--- it holds, or it doesn't
-abbrev pub IsDecided : Type 0 → Type 0
-IsDecided P = P ⊎ (P → ⊥)
-
--- what was decided
-abbrev pub holds : {P : Type 0} → IsDecided P → Bool
-holds (inl p) = true
-holds (inr n) = false
-
-pub held : {P : Type 0} (d : IsDecided P) → holds d ≡ true → P
-held (inl p) e = p
-held (inr n) e = absurd (false≢true e)
-
-pub holding : {P : Type 0} (d : IsDecided P) → P → holds d ≡ true
-holding (inl p) q = refl
-holding (inr n) q = absurd (n q)
-
-pub failing : {P : Type 0} (d : IsDecided P) → (P → ⊥) → holds d ≡ false
-failing (inl p) n = absurd (n p)
-failing (inr n) m = refl
 
 both : (P Q R : Type 0) → (P → Q → R) → (R → P) → (R → Q) → IsDecided P → IsDecided Q → IsDecided R
 both P Q R make first second (inl p) (inl q) = inl (make p q)

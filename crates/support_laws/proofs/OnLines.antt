@@ -5,13 +5,14 @@ use Rattle.scad_geom.specs.declared.point.Pt.{Pt}
 use Rattle.scad_geom.specs.Loop.{sides}
 use Rattle.scad_geom.specs.Within.{IsWithin}
 use Rattle.plan_infill.proofs.Beyond.{extent, extent_within}
-use Rattle.plan_support.specs.Multiple.{IsMultiple}
+use Rattle.plan_infill.specs.Multiple.{IsMultiple}
 use Rattle.plan_support.specs.On.{is_on}
 use Rattle.plan_support.specs.Rows.{Row, runs_at, AreRowsOf}
 use Rattle.plan_support.specs.Spans.{point_at, IsSpanned}
 use Rattle.support_laws.specs.Supports.{IsOverhung, NeedsSupport}
 use Rattle.support_laws.proofs.Complete.{if_on, on_if}
-use Rattle.support_laws.proofs.LineDecision.{IsDecided, spanned_or_not, overhung_or_not, needed_or_not}
+use Rattle.plan_infill.proofs.Deciding.{IsDecided}
+use Rattle.support_laws.proofs.LineDecision.{spanned_or_not, overhung_or_not, needed_or_not}
 use Rattle.support_laws.proofs.Extents.{extents, extents_within, wound_within, below_within}
 
 pub record IsOnLines (Holds : ℤ → ℤ → Type 0) (spacing n : ℕ) : Type 0 where

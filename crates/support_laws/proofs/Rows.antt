@@ -11,12 +11,11 @@ use Rattle.plan_support.specs.Stretches.{IsStretch, AreStretches}
 use Rattle.plan_support.specs.Rows.{Row, runs_at, GoUpwards, AreRowsOf}
 use Rattle.plan_support.proofs.HeightRows.{own_row}
 use Rattle.plan_support.proofs.SupportRuns.{same_stretches}
-use Rattle.plan_layer.proofs.Ascending.{Ascends, one_list, first_in, other_in}
+use Rattle.plan_infill.proofs.Elements.{first_in, other_in}
+use Rattle.plan_layer.proofs.Ascending.{Ascends, one_list}
+use Rattle.plan_layer.proofs.OnePlan.{runs_turn}
 
 -- ---- the stretches of one height
-runs_turn : (r s : Run) → r.from <ℤ s.from → s.from <ℤ r.from → ⊥
-runs_turn r s h k = omega (arith, ints)
-
 module _ (Holds : ℤ → Type 0) (least : ℕ) where
   runs_ascend : (rs : List Run) → GoUp rs → All (IsStretch Holds least) rs
       → Ascends (λ r s. r.from <ℤ s.from) runs_turn rs

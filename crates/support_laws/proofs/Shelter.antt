@@ -10,7 +10,7 @@ use Rattle.plan_support.specs.On.{is_on, is_on_some}
 use Rattle.plan_support.specs.Rows.{Row, runs_at}
 use Rattle.plan_support.specs.Spans.{point_at, IsWound, IsSpanned, AreSpans}
 use Rattle.plan_support.specs.Supports.{IsSupported}
-use Rattle.plan_layer.proofs.Ascending.{first_in, other_in, first_or_other}
+use Rattle.plan_infill.proofs.Elements.{first_in, other_in, first_or_other}
 use Rattle.support_laws.specs.Supports.{IsOverhung, NeedsSupport}
 use Rattle.support_laws.specs.Laws.{CoversAreOverhung, RunsAreSupports}
 use Rattle.support_laws.proofs.Extents.{extents}

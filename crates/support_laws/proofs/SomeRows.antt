@@ -9,12 +9,12 @@ use Rattle.std.proofs.lemmas.List.Elements.{All-nil, All-cons, All-append, All-w
 use Rattle.scad_geom.proofs.Rising.{by_order, order}
 use Rattle.scad_geom.proofs.Signs.{minus_times}
 use Rattle.plan_infill.specs.declared.run.Run.{Run}
-use Rattle.plan_support.specs.Multiple.{IsMultiple}
+use Rattle.plan_infill.specs.Multiple.{IsMultiple}
 use Rattle.plan_support.specs.Rows.{Row, runs_at, GoUpwards, AreRowsOf}
 use Rattle.plan_support.specs.Spans.{row_of}
 use Rattle.plan_support.specs.Stretches.{AreStretches}
 use Rattle.plan_support.proofs.HeightRows.{none_above, others_stay, last_row, upwards_push}
-use Rattle.plan_support.proofs.Multiples.{next_multiple, multiples_apart}
+use Rattle.plan_infill.proofs.Multiples.{next_multiple, multiples_apart, times_more, one_more_time, twice_and_more}
 use Rattle.plan_support.proofs.Stretches.{no_stretches}
 use Rattle.support_laws.proofs.Complete.{HasStretches, some_stretches}
 use Rattle.support_laws.proofs.OnLines.{IsOnLines}
@@ -22,15 +22,6 @@ use Rattle.support_laws.proofs.OnLines.{IsOnLines}
 pub record HasRows (Holds : ℤ → ℤ → Type 0) (least : ℕ) : Type 0 where
   pub rows : List Row
   pub are_rows : AreRowsOf Holds least rows
-
-times_more : (n spacing : ℕ) → 0 < spacing → n ≤ n * spacing
-times_more n spacing h = grind arith
-
-one_more_time : (k spacing : ℕ) → k * spacing + spacing ≡ suc k * spacing
-one_more_time k spacing = grind arith
-
-twice_and_more : (n spacing : ℕ) → 0 < spacing → n * spacing + n * spacing < (n + n + 1) * spacing
-twice_and_more n spacing h = grind arith
 
 module _ (Holds : ℤ → ℤ → Type 0) (spacing n least : ℕ) (on : IsOnLines Holds spacing n) (spaced : 0 < spacing) where
   abbrev AreHere : ℤ → List Run → Type 0

@@ -1,7 +1,7 @@
 -- What stands below the outlines of higher layers on support lines, and the support runs of a layer.
 use Rattle.std.specs.Prelude.{◌≡◌, ◌<◌, ◌+◌, ℕ, true, List, [], length, drop, slice_index_or, ℤ, Contains}
 use Rattle.scad_geom.specs.declared.point.Pt.{Pt}
-use Rattle.plan_support.specs.Multiple.{IsMultiple}
+use Rattle.plan_infill.specs.Multiple.{IsMultiple}
 use Rattle.plan_support.specs.Rows.{Row, AreRowsOf}
 use Rattle.plan_support.specs.Spans.{point_at, IsWound}
 use Rattle.plan_support.specs.Supports.{IsFree, paths_of}

@@ -3,7 +3,7 @@ use lib.Signed.{◌≤ℤ◌}
 use Rattle.std.specs.Prelude.{unsigned_abs}
 use Rattle.std.specs.Int.{int_max}
 use Rattle.scad_geom.specs.Limits.{point_limit}
-use Rattle.plan_layer.specs.Infill.{IsMultiple}
+use Rattle.plan_infill.specs.Multiple.{IsMultiple}
 use Rattle.plan_layer.proofs.LineRuns.{FilledBefore}
 use Rattle.plan_layer.proofs.lines.filled_lines.Given as goal
 

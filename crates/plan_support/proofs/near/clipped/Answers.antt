@@ -3,7 +3,7 @@ use lib.Signed.{◌≤ℤ◌}
 use Rattle.std.specs.Int.{int_min, int_max}
 use Rattle.std.proofs.lemmas.Int.{ints, to_z-of_z}
 use Rattle.scad_geom.proofs.Casts.{casts}
-use Rattle.plan_support.proofs.Extents.{lesser, greater}
+use Rattle.plan_infill.proofs.Extents.{lesser, greater}
 use Rattle.plan_support.proofs.EdgeReach.{clipped_some, clipped_none}
 use Rattle.plan_support.proofs.near.clipped.Goals as goal
 use mir.Syntax.{w32, w128}

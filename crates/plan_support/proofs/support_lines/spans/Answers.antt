@@ -1,34 +1,22 @@
-use Rattle.std.proofs.Common.{◌≡◌, FitsSigned, to_z, of_z, List, flat_map, sym, subst, ◌∙◌, ap, arith, rules, ℤ, pos, ◌+ℤ◌}
+use Rattle.std.proofs.Common.{◌≡◌, true, FitsSigned, to_z, of_z, List, flat_map, sym, subst, ◌∙◌, arith, rules, ℤ, pos, ◌+ℤ◌}
 use Rattle.std.specs.Prelude.{All, unsigned_abs, ◌≤◌}
 use Rattle.std.proofs.lemmas.Int.{ints, to_z-of_z}
 use Rattle.scad_geom.specs.declared.point.Edge.{Edge}
 use Rattle.scad_geom.specs.Limits.{coordinate_limit}
 use Rattle.scad_geom.specs.Loop.{sides}
-use Rattle.scad_geom.specs.Within.{IsEdgeWithin}
-use Rattle.plan_sides.proofs.Within.{outlines_within}
-use Rattle.plan_support.specs.Extent.{IsEdgeAmong}
+use Rattle.plan_infill.specs.Extent.{IsEdgeAmong}
+use Rattle.plan_infill.proofs.Extents.{sides_within}
+use Rattle.plan_infill.proofs.Multiples.{next_multiple, falls, read_high}
 use Rattle.plan_support.specs.Spans.{AreSpans, AddsSpans, IsSpanned}
 use Rattle.plan_support.proofs.LineRows.{SpannedBelow, below_none, below_more, below_all_of, rows_apart}
-use Rattle.plan_support.proofs.Multiples.{next_multiple, falls}
 use Rattle.plan_support.proofs.support_lines.spans.Goals as goal
 use mir.Syntax.{w32, w64}
 
--- the greatest coordinate as it is compared
-read_high : (z : ℤ) → FitsSigned w32 z → to_z w64 (of_z w64 (to_z w32 (of_z w32 z))) ≡ z
-read_high z fits =
-    ap (λ (y : ℤ). to_z w64 (of_z w64 y)) (to_z-of_z w32 z fits) ∙ to_z-of_z w64 z (omega (arith, ints))
-
-pub extent_of-extent-requires : goal.extent_of-extent-requires
-extent_of-extent-requires c =
-    subst (λ (es : List Edge). All (IsEdgeWithin coordinate_limit) es)
-    (sym (c.deref.ensures.value ∙ c.in_ok-sides.ensures))
-    (outlines_within coordinate_limit c.args.outlines.now c.requires.within)
-
 among : (c : goal.After-multiple_from-y)
-    → All (IsEdgeAmong c.extent_of-extent.result.low c.extent_of-extent.result.high)
+    → All (IsEdgeAmong true c.extent_of-extent.result.low c.extent_of-extent.result.high)
     (flat_map sides c.args.outlines.now)
 among c =
-    subst (λ (es : List Edge). All (IsEdgeAmong c.extent_of-extent.result.low c.extent_of-extent.result.high) es)
+    subst (λ (es : List Edge). All (IsEdgeAmong true c.extent_of-extent.result.low c.extent_of-extent.result.high) es)
     (c.deref.ensures.value ∙ c.in_ok-sides.ensures) c.extent_of-extent.ensures.among
 
 pub lines-init : goal.lines-init
@@ -37,7 +25,9 @@ lines-init c =
     let low_fits : FitsSigned w32 c.extent_of-extent.result.low = search rules in
     let from = simp to_z-of_z at c.multiple_from-y.ensures.from in
     let first = simp to_z-of_z at c.multiple_from-y.ensures.first in
-    let low = c.extent_of-extent.ensures.from in
+    let within = sides_within coordinate_limit c.args.outlines.now _ (c.deref.ensures.value ∙ c.in_ok-sides.ensures)
+    c.requires.within in
+    let low = c.extent_of-extent.ensures.from coordinate_limit within in
     let spanned = subst (SpannedBelow c.args.outlines.now c.args.spacing c.multiple_from-y.result)
     (sym c.new-rows.ensures)
     (below_none c.args.outlines.now c.args.spacing c.extent_of-extent.result.low
@@ -49,12 +39,28 @@ lines-init c =
       from = omega (arith, ints);
     })
 
+pub push_spans-requires-clause-line : goal.push_spans-requires-clause-line
+push_spans-requires-clause-line c =
+    let within = sides_within coordinate_limit c.args.outlines.now _ (c.deref.ensures.value ∙ c.in_ok-sides.ensures)
+    c.requires.within in
+    let to = c.extent_of-extent.ensures.to coordinate_limit within in
+    let low = c.lines.invariant.from in
+    let high_fits : FitsSigned w32 c.extent_of-extent.result.high = search rules in
+    let high : to_z w64 (of_z w64 (to_z w32 (of_z w32 c.extent_of-extent.result.high)))
+    ≡ c.extent_of-extent.result.high = read_high c.extent_of-extent.result.high high_fits in
+    let before = c.lines-test.true in
+    let at_fits : FitsSigned w32 (to_z w64 c.lines.y-bits) = omega (arith, ints) in
+    let here : unsigned_abs (to_z w64 c.lines.y-bits) ≤ coordinate_limit = omega (arith, ints) in
+    simp to_z-of_z here
+
 pub lines-smaller : goal.lines-smaller
 lines-smaller c =
     let spaced : to_z w64 c.args.spacing ≡ pos c.args.spacing = omega (arith, ints) in
     let positive = c.lines.invariant.multiple.spaced in
     let low = c.lines.invariant.from in
-    let to = c.extent_of-extent.ensures.to in
+    let within = sides_within coordinate_limit c.args.outlines.now _ (c.deref.ensures.value ∙ c.in_ok-sides.ensures)
+    c.requires.within in
+    let to = c.extent_of-extent.ensures.to coordinate_limit within in
     let high_fits : FitsSigned w32 c.extent_of-extent.result.high = search rules in
     let high : to_z w64 (of_z w64 (to_z w32 (of_z w32 c.extent_of-extent.result.high)))
     ≡ c.extent_of-extent.result.high = read_high c.extent_of-extent.result.high high_fits in
@@ -72,7 +78,9 @@ pub lines-preserved : goal.lines-preserved
 lines-preserved c =
     let spaced : to_z w64 c.args.spacing ≡ pos c.args.spacing = omega (arith, ints) in
     let low = c.lines.invariant.from in
-    let to = c.extent_of-extent.ensures.to in
+    let within = sides_within coordinate_limit c.args.outlines.now _ (c.deref.ensures.value ∙ c.in_ok-sides.ensures)
+    c.requires.within in
+    let to = c.extent_of-extent.ensures.to coordinate_limit within in
     let high_fits : FitsSigned w32 c.extent_of-extent.result.high = search rules in
     let high : to_z w64 (of_z w64 (to_z w32 (of_z w32 c.extent_of-extent.result.high)))
     ≡ c.extent_of-extent.result.high = read_high c.extent_of-extent.result.high high_fits in
@@ -97,7 +105,7 @@ are_spans c =
     let behind = c.lines-test.false in
     below_all_of c.args.outlines.now c.args.spacing c.extent_of-extent.result.low
     c.extent_of-extent.result.high
-    (subst (λ (es : List Edge). All (IsEdgeAmong c.extent_of-extent.result.low c.extent_of-extent.result.high) es)
+    (subst (λ (es : List Edge). All (IsEdgeAmong true c.extent_of-extent.result.low c.extent_of-extent.result.high) es)
     (c.deref.ensures.value ∙ c.in_ok-sides.ensures) c.extent_of-extent.ensures.among)
     (to_z w64 c.lines.y-bits) c.lines.rows (omega (arith, ints)) c.lines.invariant.spanned
 

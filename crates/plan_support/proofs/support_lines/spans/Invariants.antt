@@ -3,7 +3,7 @@ use lib.Signed.{◌≤ℤ◌}
 use Rattle.std.specs.Prelude.{unsigned_abs}
 use Rattle.std.specs.Int.{int_max}
 use Rattle.scad_geom.specs.Limits.{coordinate_limit}
-use Rattle.plan_support.specs.Multiple.{IsMultiple}
+use Rattle.plan_infill.specs.Multiple.{IsMultiple}
 use Rattle.plan_support.proofs.LineRows.{SpannedBelow}
 use Rattle.plan_support.proofs.support_lines.spans.Given as goal
 

@@ -1,14 +1,15 @@
 -- Whole multiples of a spacing.
-use Rattle.std.proofs.Common.{◌≡◌, ℕ, ◌<◌, [], ◌∷◌, refl, ap, ◌∙◌, sym, arith, ℤ, pos, negsuc}
-use Rattle.std.proofs.Common.{◌+ℤ◌, ◌-ℤ◌, ◌*ℤ◌, ◌<ℤ◌}
+use Rattle.std.proofs.Common.{◌≡◌, ℕ, suc, ◌+◌, ◌*◌, ◌<◌, ◌≤◌, [], ◌∷◌, refl, ap, ◌∙◌, sym, arith, ℤ, pos, negsuc}
+use Rattle.std.proofs.Common.{◌+ℤ◌, ◌-ℤ◌, ◌*ℤ◌, ◌<ℤ◌, FitsSigned, to_z, of_z}
 use lib.Signed.{◌≤ℤ◌}
 use Rattle.std.specs.Prelude.{unsigned_abs}
 use Rattle.std.specs.Int.{int_div_euclid, int_rem_euclid, int_max}
-use Rattle.std.proofs.lemmas.Int.{ints}
+use Rattle.std.proofs.lemmas.Int.{ints, to_z-of_z}
 use Rattle.scad_geom.proofs.Ring.{ring, num, ◌⊖◌, ◌⊗◌, v0, v1, v2}
 use Rattle.scad_geom.proofs.Signs.{at_least_mul, pos_left, sub_mul, minus_times, one_more_times}
-use Rattle.plan_support.specs.Multiple.{IsMultiple}
-use Rattle.plan_support.proofs.Extents.{greater}
+use Rattle.plan_infill.specs.Multiple.{IsMultiple}
+use Rattle.plan_infill.proofs.Extents.{greater}
+use mir.Syntax.{w32, w64}
 
 -- the next one
 pub next_multiple : (spacing : ℕ) (z : ℤ) → IsMultiple spacing z → IsMultiple spacing (z +ℤ pos spacing)
@@ -61,3 +62,18 @@ falls high z next h k =
   where
     less : (x y : ℤ) → pos 0 ≤ℤ x → x <ℤ y → unsigned_abs x < unsigned_abs y
     less x y h k = omega (arith, ints)
+
+-- the greatest place as it is compared
+pub read_high : (z : ℤ) → FitsSigned w32 z → to_z w64 (of_z w64 (to_z w32 (of_z w32 z))) ≡ z
+read_high z fits =
+    ap (λ (y : ℤ). to_z w64 (of_z w64 y)) (to_z-of_z w32 z fits) ∙ to_z-of_z w64 z (omega (arith, ints))
+
+-- ---- multiples of sizes, from far before a place to far behind it
+pub times_more : (n spacing : ℕ) → 0 < spacing → n ≤ n * spacing
+times_more n spacing h = grind arith
+
+pub one_more_time : (k spacing : ℕ) → k * spacing + spacing ≡ suc k * spacing
+one_more_time k spacing = grind arith
+
+pub twice_and_more : (n spacing : ℕ) → 0 < spacing → n * spacing + n * spacing < (n + n + 1) * spacing
+twice_and_more n spacing h = grind arith

@@ -1,9 +1,9 @@
 use Rattle.std.proofs.Common.{◌≡◌, FitsSigned, to_z, arith, pos, ◌-ℤ◌, ◌+ℤ◌}
 use Rattle.std.proofs.lemmas.Int.{ints, to_z-of_z}
 use Rattle.std.specs.Int.{int_rem_euclid}
-use Rattle.plan_layer.specs.Infill.{IsMultiple}
-use Rattle.plan_layer.proofs.Multiples.{least_multiple}
-use Rattle.plan_layer.proofs.lines.multiple_from.Goals as goal
+use Rattle.plan_infill.specs.Multiple.{IsMultiple}
+use Rattle.plan_infill.proofs.Multiples.{least_multiple}
+use Rattle.plan_infill.proofs.multiple.multiple_from.Goals as goal
 use mir.Syntax.{w64}
 
 pub returns-clause-multiple : goal.returns-clause-multiple
