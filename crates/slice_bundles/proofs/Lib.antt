@@ -7,3 +7,4 @@ pub mod Choice
 pub mod Beginning
 pub mod Touching
 pub mod CoverHeight
+pub mod Lexicographic

@@ -7,10 +7,12 @@ use Rattle.std.specs.Prelude.{nat_lt}
 use Rattle.std.specs.Cmp.{IsStrictWeakOrder}
 use Rattle.std.specs.List.Sorted.{IsSortedBy}
 use Rattle.std.proofs.lemmas.Int.{ints}
+use Rattle.std.proofs.lemmas.List.Sorted.{IsStrictWeakOrder-by_number}
 use Rattle.scad_base.proofs.Tests.{is_lt-int_cmp}
 use Rattle.scad_geom.specs.declared.level.Level.{Level}
 use Rattle.scad_geom.specs.Level.{IsAtMost}
 use Rattle.scad_geom.proofs.Heights.{at_most_chain}
+use Rattle.slice_bundles.proofs.Lexicographic.{lexicographic}
 use Rattle.slice_sweep.specs.declared.ray.Ray.{Ray}
 use Rattle.slice_sweep.specs.Rays.{leans_left, comes_first, AreSorted}
 
@@ -29,43 +31,9 @@ lean_order = record {
 }
 
 -- numbers decide where slopes don't
-module _ (lt : Ray → Ray → Bool) (a : IsStrictWeakOrder lt) where
-  abbrev then_number : Ray → Ray → Bool
-  then_number r s = lt r s || (not (lt s r) && nat_lt r.number s.number)
-
-  not_below : (m n : ℕ) → nat_lt m n ≡ false → n ≤ m
-  not_below m n h = grind arith
-
-  numbered : IsStrictWeakOrder then_number
-  numbered = record {
-    one_way = λ x y h. one (lt x y) (lt y x) (nat_lt x.number y.number) (nat_lt y.number x.number) (a.one_way x y)
-        (λ p. grind arith) h;
-    chain = λ x y z h k. two (lt x y) (lt y x) (nat_lt x.number y.number) (lt y z) (lt z y) (nat_lt y.number z.number)
-        (lt x z) (lt z x) (nat_lt x.number z.number) (a.chain x y z) (a.chain z x y) (a.chain y z x)
-        (λ p q. grind arith) h k;
-  }
-    where
-      one : (s t u v : Bool) → (s ≡ true → t ≡ false) → (u ≡ true → v ≡ false)
-          → (s || (not t && u)) ≡ true → (t || (not s && v)) ≡ false
-      one true true u v p q h = let e = p refl in cc
-      one true false u v p q h = refl
-      one false true u v p q h = cc
-      one false false u v p q h = q h
-
-      two : (s t u : Bool) (s' t' u' : Bool) (s'' t'' u'' : Bool) → (s ≡ false → s' ≡ false → s'' ≡ false)
-          → (t'' ≡ false → s ≡ false → t' ≡ false) → (s' ≡ false → t'' ≡ false → t ≡ false)
-          → (u ≡ false → u' ≡ false → u'' ≡ false)
-          → (s || (not t && u)) ≡ false → (s' || (not t' && u')) ≡ false → (s'' || (not t'' && u'')) ≡ false
-      two true t u s' t' u' s'' t'' u'' c d e f h k = cc
-      two false t u true t' u' s'' t'' u'' c d e f h k = cc
-      two false t u false t' u' true t'' u'' c d e f h k = let x = c refl refl in cc
-      two false t u false t' u' false true u'' c d e f h k = refl
-      two false true u false t' u' false false u'' c d e f h k = let x = e refl refl in cc
-      two false false u false true u' false false u'' c d e f h k = let x = d refl refl in cc
-      two false false u false false u' false false u'' c d e f h k = f h k
-
 pub ray_order : IsStrictWeakOrder comes_first
-ray_order = numbered leans_left lean_order
+ray_order = lexicographic leans_left (λ r s. nat_lt r.number s.number) lean_order
+    (IsStrictWeakOrder-by_number (λ (r : Ray). r.number))
 
 -- ---- sorted rays
 sorted_by : (rs : List Ray) → ((k : ℕ) (d : Ray) → suc k < length rs → comes_first (get_or rs (suc k) d)
