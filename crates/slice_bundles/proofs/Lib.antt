@@ -8,3 +8,4 @@ pub mod Beginning
 pub mod Touching
 pub mod CoverHeight
 pub mod Lexicographic
+pub mod Joined

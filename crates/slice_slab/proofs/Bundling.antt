@@ -16,9 +16,10 @@ use Rattle.scad_geom.specs.declared.level.Level.{Level}
 use Rattle.scad_geom.specs.declared.level.LeafEdge.{LeafEdge}
 use Rattle.scad_geom.specs.EdgeOrder.{IsBefore, AreAligned}
 use Rattle.slice_slab.specs.declared.passage.Passage.{Passage}
-use Rattle.slice_bundles.specs.Bundles.{edge_at, Precedes, AreRanked, reaching, AreBundles}
+use Rattle.slice_bundles.specs.Bundles.{edge_at, AreRanked, reaching, AreBundles}
 use Rattle.slice_bundles.specs.Joined.{joined}
-use Rattle.slice_bundles.proofs.Bundling.{aligned_chain, aligned_before, before_chain, Rises, HeadRises}
+use Rattle.slice_bundles.proofs.Bundling.{Rises, HeadRises, all_later, all_aligned, precede_aligned, precede_before}
+use Rattle.slice_bundles.proofs.Joined.{concat-joined}
 use Rattle.slice_slab.specs.Passages.{is_left, leans_left, comes_first, IsPassageOf, numbers_of, is_aligned, bundles_of, AreSorted}
 use Rattle.std.specs.Cmp.{signed_Decides}
 
@@ -93,44 +94,6 @@ record Bundled (es : List LeafEdge) (at : Level) (p : Passage) (ps : List Passag
 rises_of : (es : List LeafEdge) (at : Level) (p : Passage) → IsPassageOf es at p → Rises es p.number
 rises_of es at p h = subst (λ (z : ℤ). pos 0 <ℤ z) h.rise p.rises
 
-module _ (es : List LeafEdge) (at : Level) (p q : Passage) (hp : Rises es p.number) (hq : Rises es q.number) where
-  all_aligned : AreAligned at (edge_at es p.number) (edge_at es q.number) → (ks : List ℕ)
-      → AllByRecursion (Rises es) ks → AllByRecursion (λ j. AreAligned at (edge_at es q.number) (edge_at es j)) ks
-      → AllByRecursion (λ j. AreAligned at (edge_at es p.number) (edge_at es j)) ks
-  all_aligned a [] r h = tt
-  all_aligned a (j ∷ ks) r h = (
-    aligned_chain at (edge_at es p.number) (edge_at es q.number) (edge_at es j) hp hq r.0 a
-        h.0,
-    all_aligned a ks r.1 h.1,
-  )
-
-  all_later : p.number ≤ q.number → (ks : List ℕ) → AllByRecursion (λ j. q.number ≤ j) ks
-      → AllByRecursion (λ j. p.number ≤ j) ks
-  all_later o [] h = tt
-  all_later o (j ∷ ks) h = let h0 = h.0 in (omega arith, all_later o ks h.1)
-
-  precede_aligned : AreAligned at (edge_at es p.number) (edge_at es q.number) → (ks : List ℕ) (bs : List (List ℕ))
-      → AllByRecursion (HeadRises es) bs → AllByRecursion (Precedes es at (q.number ∷ ks)) bs
-      → AllByRecursion (Precedes es at (p.number ∷ (q.number ∷ ks))) bs
-  precede_aligned a ks [] r h = tt
-  precede_aligned a ks ([] ∷ bs) r h = absurd r.0
-  precede_aligned a ks ((j ∷ js) ∷ bs) r h = (
-    aligned_before at (edge_at es p.number) (edge_at es q.number)
-        (edge_at es j) hp hq r.0 a h.0,
-    precede_aligned a ks bs r.1 h.1,
-  )
-
-  precede_before : IsBefore at (edge_at es p.number) (edge_at es q.number) → (ks : List ℕ) (bs : List (List ℕ))
-      → AllByRecursion (HeadRises es) bs → AllByRecursion (Precedes es at (q.number ∷ ks)) bs
-      → AllByRecursion (Precedes es at (p.number ∷ [])) bs
-  precede_before a ks [] r h = tt
-  precede_before a ks ([] ∷ bs) r h = absurd r.0
-  precede_before a ks ((j ∷ js) ∷ bs) r h = (
-    before_chain at (edge_at es p.number) (edge_at es q.number) (edge_at es j)
-        hp hq r.0 a h.0,
-    precede_before a ks bs r.1 h.1,
-  )
-
 not_aligned : (p q : Passage) → p.x *ℤ q.rise ≡ q.x *ℤ p.rise → p.run *ℤ q.rise ≡ q.run *ℤ p.rise
     → is_aligned p q ≡ false → ⊥
 not_aligned p q h k e = let a = (signed_Decides (p.x *ℤ q.rise) (q.x *ℤ p.rise)).1 h in let b = (signed_Decides (p.run *ℤ q.rise) (q.run *ℤ p.rise)).1 k in true≢false (sym (rw (a, b) refl) ∙ e)
@@ -166,10 +129,10 @@ bundled es at p (q ∷ ps) h s =
           are = rw (e, r.are) refl;
           ranked = (
             (
-              ((n.2, all_later es at p q hp hq n.2 r.ks r.ranked.0.0.0), r.ranked.0.0),
-              (a, all_aligned es at p q hp hq a r.ks r.rise_ks r.ranked.0.1),
+              ((n.2, all_later p.number q.number n.2 r.ks r.ranked.0.0.0), r.ranked.0.0),
+              (a, all_aligned es at p.number q.number hp hq a r.ks r.rise_ks r.ranked.0.1),
             ),
-            precede_aligned es at p q hp hq a r.ks
+            precede_aligned es at p.number q.number hp hq a r.ks
                 r.bs r.rise_bs r.ranked.1,
             r.ranked.2,
           );
@@ -182,7 +145,11 @@ bundled es at p (q ∷ ps) h s =
           ks = [];
           bs = (q.number ∷ r.ks) ∷ r.bs;
           are = rw (e, r.are) refl;
-          ranked = (((tt, tt), tt), (a, precede_before es at p q hp hq a r.ks r.bs r.rise_bs r.ranked.1), r.ranked);
+          ranked = (
+            ((tt, tt), tt),
+            (a, precede_before es at p.number q.number hp hq a r.ks r.bs r.rise_bs r.ranked.1),
+            r.ranked,
+          );
           rise_ks = tt;
           rise_bs = (hq, r.rise_bs);
         }
@@ -200,10 +167,6 @@ concat-bundles [] = refl
 concat-bundles (p ∷ []) = refl
 concat-bundles (p ∷ (q ∷ ps)) = by_test (is_aligned p q) (concat-bundles (q ∷ ps))
   where
-    concat-joined : (k : ℕ) (bs : List (List ℕ)) → concat (joined k bs) ≡ k ∷ concat bs
-    concat-joined k [] = refl
-    concat-joined k (b ∷ bs) = refl
-
     by_test : (t : Bool) → concat (bundles_of (q ∷ ps)) ≡ numbers_of (q ∷ ps)
         → concat (if t then joined p.number (bundles_of (q ∷ ps)) else (p.number ∷ []) ∷ bundles_of (q ∷ ps))
         ≡ p.number ∷ numbers_of (q ∷ ps)

@@ -6,6 +6,7 @@ use Rattle.scad_geom.specs.declared.level.LeafEdge.{LeafEdge}
 use Rattle.slice_slab.specs.declared.passage.Passage.{Passage}
 use Rattle.slice_bundles.specs.Bundles.{edge_at, reaches, reaching}
 use Rattle.slice_bundles.specs.Joined.{joined, prefixed}
+use Rattle.slice_bundles.proofs.Joined.{prefixed-nil, prefixed-joined}
 use Rattle.slice_slab.specs.Passages.{is_aligned, bundles_of, ends_bundle}
 
 reaching_at : (k : ℕ) (es : List LeafEdge) (i : ℕ) (l u : Level) → i < length es
@@ -37,14 +38,6 @@ next_ends [] i d e h = absurd (omega arith)
 next_ends (x ∷ []) i d e h = absurd (omega arith)
 next_ends (x ∷ (y ∷ ps)) zero d e h = refl
 next_ends (x ∷ (y ∷ ps)) (suc i) d e h = next_ends (y ∷ ps) i d e (omega arith)
-
-prefixed-nil : (bs : List (List ℕ)) → prefixed [] bs ≡ bs
-prefixed-nil [] = refl
-prefixed-nil (b ∷ bs) = refl
-
-prefixed-joined : (ks : List ℕ) (k : ℕ) (b : List ℕ) (bs : List (List ℕ)) → prefixed ks (joined k (b ∷ bs))
-    ≡ prefixed (ks ++ (k ∷ [])) (b ∷ bs)
-prefixed-joined ks k b bs = ap (λ (xs : List ℕ). xs ∷ bs) (sym (append_assoc ks (k ∷ []) b))
 
 has_first : (p : Passage) (ps : List Passage)
     → (b : List ℕ) × (bs : List (List ℕ)) × (bundles_of (p ∷ ps) ≡ b ∷ bs)

@@ -11,10 +11,11 @@ use Rattle.std.proofs.lemmas.List.Sorted.{All-permutation, IsPermutation-map}
 use Rattle.scad_geom.specs.declared.level.Level.{Level}
 use Rattle.scad_geom.specs.declared.level.LeafEdge.{LeafEdge}
 use Rattle.scad_geom.specs.EdgeOrder.{IsBefore, AreAligned}
-use Rattle.slice_bundles.specs.Bundles.{edge_at, Precedes, AreRanked}
+use Rattle.slice_bundles.specs.Bundles.{edge_at, AreRanked}
 use Rattle.slice_bundles.specs.KeptOrder.{IsSamePlaceAt, AllStand}
 use Rattle.slice_bundles.specs.Joined.{joined}
-use Rattle.slice_bundles.proofs.Bundling.{aligned_chain, aligned_before, before_chain, Rises, HeadRises}
+use Rattle.slice_bundles.proofs.Bundling.{Rises, HeadRises, all_later, all_aligned, precede_aligned, precede_before}
+use Rattle.slice_bundles.proofs.Joined.{concat-joined}
 use Rattle.slice_sweep.specs.declared.ray.Ray.{Ray}
 use Rattle.slice_sweep.specs.Rays.{IsRayOf, numbers_of, is_parallel, bundles_of, AreSorted}
 use Rattle.slice_sweep.proofs.Lists.{weaker}
@@ -40,41 +41,6 @@ record Bundled (es : List LeafEdge) (at : Level) (p : Ray) (rs : List Ray) : Typ
   ranked : AreRanked es at ((p.number ∷ ks) ∷ bs)
   rise_ks : AllByRecursion (Rises es) ks
   rise_bs : AllByRecursion (HeadRises es) bs
-
-module _ (es : List LeafEdge) (at : Level) (p q : Ray) (hp : Rises es p.number) (hq : Rises es q.number) where
-  all_aligned : AreAligned at (edge_at es p.number) (edge_at es q.number) → (ks : List ℕ)
-      → AllByRecursion (Rises es) ks → AllByRecursion (λ j. AreAligned at (edge_at es q.number) (edge_at es j)) ks
-      → AllByRecursion (λ j. AreAligned at (edge_at es p.number) (edge_at es j)) ks
-  all_aligned a [] r h = tt
-  all_aligned a (j ∷ ks) r h = (
-    aligned_chain at (edge_at es p.number) (edge_at es q.number) (edge_at es j) hp hq r.0 a h.0,
-    all_aligned a ks r.1 h.1,
-  )
-
-  all_later : p.number ≤ q.number → (ks : List ℕ) → AllByRecursion (λ j. q.number ≤ j) ks
-      → AllByRecursion (λ j. p.number ≤ j) ks
-  all_later o [] h = tt
-  all_later o (j ∷ ks) h = let h0 = h.0 in (omega arith, all_later o ks h.1)
-
-  precede_aligned : AreAligned at (edge_at es p.number) (edge_at es q.number) → (ks : List ℕ) (bs : List (List ℕ))
-      → AllByRecursion (HeadRises es) bs → AllByRecursion (Precedes es at (q.number ∷ ks)) bs
-      → AllByRecursion (Precedes es at (p.number ∷ (q.number ∷ ks))) bs
-  precede_aligned a ks [] r h = tt
-  precede_aligned a ks ([] ∷ bs) r h = absurd r.0
-  precede_aligned a ks ((j ∷ js) ∷ bs) r h = (
-    aligned_before at (edge_at es p.number) (edge_at es q.number) (edge_at es j) hp hq r.0 a h.0,
-    precede_aligned a ks bs r.1 h.1,
-  )
-
-  precede_before : IsBefore at (edge_at es p.number) (edge_at es q.number) → (ks : List ℕ) (bs : List (List ℕ))
-      → AllByRecursion (HeadRises es) bs → AllByRecursion (Precedes es at (q.number ∷ ks)) bs
-      → AllByRecursion (Precedes es at (p.number ∷ [])) bs
-  precede_before a ks [] r h = tt
-  precede_before a ks ([] ∷ bs) r h = absurd r.0
-  precede_before a ks ((j ∷ js) ∷ bs) r h = (
-    before_chain at (edge_at es p.number) (edge_at es q.number) (edge_at es j) hp hq r.0 a h.0,
-    precede_before a ks bs r.1 h.1,
-  )
 
 -- each of these rays at one place with those behind it
 abbrev AreTogether : List LeafEdge → Level → List Ray → Type 0
@@ -109,10 +75,10 @@ bundled es at p (q ∷ rs) h t s =
           are = rw (e, r.are) refl;
           ranked = (
             (
-              ((n.1, all_later es at p q hp hq n.1 r.ks r.ranked.0.0.0), r.ranked.0.0),
-              (a, all_aligned es at p q hp hq a r.ks r.rise_ks r.ranked.0.1),
+              ((n.1, all_later p.number q.number n.1 r.ks r.ranked.0.0.0), r.ranked.0.0),
+              (a, all_aligned es at p.number q.number hp hq a r.ks r.rise_ks r.ranked.0.1),
             ),
-            precede_aligned es at p q hp hq a r.ks r.bs r.rise_bs r.ranked.1,
+            precede_aligned es at p.number q.number hp hq a r.ks r.bs r.rise_bs r.ranked.1,
             r.ranked.2,
           );
           rise_ks = (hq, r.rise_ks);
@@ -124,7 +90,11 @@ bundled es at p (q ∷ rs) h t s =
           ks = [];
           bs = (q.number ∷ r.ks) ∷ r.bs;
           are = rw (e, r.are) refl;
-          ranked = (((tt, tt), tt), (a, precede_before es at p q hp hq a r.ks r.bs r.rise_bs r.ranked.1), r.ranked);
+          ranked = (
+            ((tt, tt), tt),
+            (a, precede_before es at p.number q.number hp hq a r.ks r.bs r.rise_bs r.ranked.1),
+            r.ranked,
+          );
           rise_ks = tt;
           rise_bs = (hq, r.rise_bs);
         }
@@ -144,10 +114,6 @@ concat-bundles [] = refl
 concat-bundles (p ∷ []) = refl
 concat-bundles (p ∷ (q ∷ rs)) = by_test (is_parallel p q) (concat-bundles (q ∷ rs))
   where
-    concat-joined : (k : ℕ) (bs : List (List ℕ)) → concat (joined k bs) ≡ k ∷ concat bs
-    concat-joined k [] = refl
-    concat-joined k (b ∷ bs) = refl
-
     by_test : (t : Bool) → concat (bundles_of (q ∷ rs)) ≡ numbers_of (q ∷ rs)
         → concat (if t then joined p.number (bundles_of (q ∷ rs)) else (p.number ∷ []) ∷ bundles_of (q ∷ rs))
         ≡ p.number ∷ numbers_of (q ∷ rs)

@@ -2,6 +2,7 @@
 use Rattle.std.proofs.Common.{◌≡◌, ℕ, zero, suc, ◌+◌, ◌<◌, Bool, true, false, not, List, [], ◌∷◌, ◌++◌, length, get_or, drop, refl, sym, ap, ◌∙◌, arith, add-one, append_assoc}
 use Rattle.std.specs.Prelude.{if◌then◌else◌}
 use Rattle.slice_bundles.specs.Joined.{joined, prefixed}
+use Rattle.slice_bundles.proofs.Joined.{prefixed-nil, prefixed-joined}
 use Rattle.slice_sweep.specs.declared.ray.Ray.{Ray}
 use Rattle.slice_sweep.specs.Rays.{is_parallel, bundles_of, ends_bundle}
 
@@ -17,14 +18,6 @@ next_ends [] i d e h = absurd (omega arith)
 next_ends (x ∷ []) i d e h = absurd (omega arith)
 next_ends (x ∷ (y ∷ rs)) zero d e h = refl
 next_ends (x ∷ (y ∷ rs)) (suc i) d e h = next_ends (y ∷ rs) i d e (omega arith)
-
-prefixed-nil : (bs : List (List ℕ)) → prefixed [] bs ≡ bs
-prefixed-nil [] = refl
-prefixed-nil (b ∷ bs) = refl
-
-prefixed-joined : (ks : List ℕ) (k : ℕ) (b : List ℕ) (bs : List (List ℕ)) → prefixed ks (joined k (b ∷ bs))
-    ≡ prefixed (ks ++ (k ∷ [])) (b ∷ bs)
-prefixed-joined ks k b bs = ap (λ (xs : List ℕ). xs ∷ bs) (sym (append_assoc ks (k ∷ []) b))
 
 has_first : (r : Ray) (rs : List Ray)
     → (b : List ℕ) × (bs : List (List ℕ)) × (bundles_of (r ∷ rs) ≡ b ∷ bs)
