@@ -1,10 +1,11 @@
 -- Which edges have begun at a height, by the starts of all.
-use Rattle.std.proofs.Common.{◌≡◌, ℕ, zero, suc, ◌<◌, Bool, true, false, List, [], ◌∷◌, ◌++◌, length, drop, refl, sym, ap, ◌∙◌, arith}
+use Rattle.std.proofs.Common.{◌≡◌, ℕ, zero, suc, ◌<◌, Bool, true, false, cond, List, [], ◌∷◌, ◌++◌, length, drop, refl, sym, ap, ◌∙◌, arith}
 use lib.IntN.{ℤ, pos, ◌*ℤ◌}
 use lib.Signed.{◌<ℤ◌, ◌≤ℤ◌}
-use Rattle.std.specs.Prelude.{int_le, if◌then◌else◌}
+use Rattle.std.specs.Prelude.{int_le, int_lt, if◌then◌else◌}
 use Rattle.std.specs.List.{AllByRecursion}
 use Rattle.std.proofs.lemmas.Int.{ints}
+use Rattle.scad_geom.specs.declared.point.Edge.{Edge}
 use Rattle.scad_geom.specs.declared.level.Level.{Level}
 use Rattle.scad_geom.specs.declared.level.LeafEdge.{LeafEdge}
 use Rattle.scad_geom.specs.Line.{low}
@@ -13,6 +14,15 @@ use Rattle.scad_geom.proofs.Heights.{lower_then_at_most}
 use Rattle.slice_bundles.specs.declared.start.Start.{Start}
 use Rattle.slice_bundles.specs.Bundles.{edge_at}
 use Rattle.slice_bundles.specs.Starts.{numbers_of, IsStartOf, AreRising, is_begun, begun_at, pending_at}
+
+-- what is true of the heights of both ends is true of that of the lower one
+pub of_lower : (P : Level → Type 0) (e : Edge) → P (level_of e.a.y) → P (level_of e.b.y) → P (level_of (low e).y)
+unfolding low
+of_lower P e a b = by_test (int_lt e.b.y e.a.y)
+  where
+    by_test : (t : Bool) → P (level_of (cond t e.b e.a).y)
+    by_test true = b
+    by_test false = a
 
 -- ---- starts that rise
 rising_rest : (s : Start) (ss : List Start) → AreRising (s ∷ ss) → AreRising ss

@@ -1,14 +1,11 @@
 -- Below all levels.
-use Rattle.std.proofs.Common.{◌≡◌, ℕ, inl, inr, Bool, true, false, cond, List, [], ◌∷◌, get_or, take, drop, refl, sym, subst}
+use Rattle.std.proofs.Common.{◌≡◌, ℕ, inl, inr, List, [], ◌∷◌, get_or, take, drop, refl, sym, subst}
 use lib.IntN.{ℤ, pos}
 use lib.Signed.{◌<ℤ◌}
-use Rattle.std.specs.Prelude.{int_lt}
 use Rattle.std.specs.List.{AllByRecursion}
-use Rattle.scad_geom.specs.declared.point.Edge.{Edge}
 use Rattle.scad_geom.specs.declared.level.Level.{Level}
 use Rattle.scad_geom.specs.declared.level.LeafEdge.{LeafEdge}
 use Rattle.scad_geom.specs.declared.shape.Shape.{Shape}
-use Rattle.scad_geom.specs.Line.{low}
 use Rattle.scad_geom.specs.Level.{level_of, IsLower, IsAtMost}
 use Rattle.scad_geom.specs.Heights.{heights}
 use Rattle.scad_geom.proofs.Heights.{at_most_chain, lower_weak, same_at_least, heights_positive}
@@ -20,6 +17,7 @@ use Rattle.slice_outlines.specs.declared.flat.Flat.{Flat}
 use Rattle.slice_outlines.specs.Flats.{IsFlatOf}
 use Rattle.slice_outlines.specs.Sweep.{IsReadyForFirst, IsFrontBelow, ArePassedBelowFirst}
 use Rattle.slice_bundles.specs.Bundles.{no_edge}
+use Rattle.slice_bundles.proofs.Beginning.{of_lower}
 
 -- ---- the first level is the lowest height
 at_or_above : (l : Level) (ls : List Level) (h : Level) → AllByRecursion (λ (u : Level). pos 0 <ℤ u.d) (l ∷ ls)
@@ -35,14 +33,6 @@ pub all_above_first : (l : Level) (ls hs : List Level) → AllByRecursion (λ (u
 all_above_first l ls [] p r d k = tt
 all_above_first l ls (h ∷ hs) p r d k =
     (at_or_above l ls h p d.0 r k.0, all_above_first l ls hs p r d.1 k.1)
-
-of_lower : (P : Level → Type 0) (e : Edge) → P (level_of e.a.y) → P (level_of e.b.y) → P (level_of (low e).y)
-unfolding low
-of_lower P e a b = by_test (int_lt e.b.y e.a.y)
-  where
-    by_test : (t : Bool) → P (level_of (cond t e.b e.a).y)
-    by_test true = b
-    by_test false = a
 
 pub start_from : (es : List LeafEdge) (l : Level) (ls : List Level) → AreLevels es (l ∷ ls) → StartFrom l es
 start_from es l ls a k d o =

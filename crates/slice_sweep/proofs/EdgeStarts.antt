@@ -1,14 +1,13 @@
 -- Edges that start at a height, and those that start below it.
-use Rattle.std.proofs.Common.{◌≡◌, ℕ, ◌<◌, ◌≤◌, ◌⊎◌, inl, inr, Bool, true, false, not, cond, List, [], ◌∷◌, ◌++◌, length, get_or, take, drop, refl, sym, ap, ap₂, ◌∙◌, subst, arith, true≢false, All}
+use Rattle.std.proofs.Common.{◌≡◌, ℕ, ◌<◌, ◌≤◌, ◌⊎◌, inl, inr, Bool, true, false, not, List, [], ◌∷◌, ◌++◌, length, get_or, take, drop, refl, sym, ap, ap₂, ◌∙◌, subst, arith, true≢false, All}
 use lib.IntN.{ℤ, ◌*ℤ◌}
-use Rattle.std.specs.Prelude.{int_le, int_lt}
+use Rattle.std.specs.Prelude.{int_le}
 use Rattle.std.specs.Cmp.{signed_Decides}
 use Rattle.std.specs.List.{AllByRecursion}
 use Rattle.std.proofs.lemmas.Int.{ints}
 use Rattle.std.proofs.lemmas.List.{take-append-drop}
 use Rattle.std.proofs.lemmas.List.Elements.{filter-append, All-from_recursion, recursion_from_All}
 use Rattle.scad_base.proofs.Lists.{AllByRecursion-append}
-use Rattle.scad_geom.specs.declared.point.Edge.{Edge}
 use Rattle.scad_geom.specs.declared.level.Level.{Level}
 use Rattle.scad_geom.specs.declared.level.LeafEdge.{LeafEdge}
 use Rattle.scad_geom.specs.Line.{low}
@@ -19,7 +18,7 @@ use Rattle.scad_geom.proofs.Order.{front, back, all_ends}
 use Rattle.slice_bundles.specs.declared.start.Start.{Start}
 use Rattle.slice_bundles.specs.Bundles.{no_edge, edge_at, IsBundle}
 use Rattle.slice_bundles.specs.Starts.{AreStarts, AreRising, IsStartOf, numbers_of, is_begun, begun_at, pending_at}
-use Rattle.slice_bundles.proofs.Beginning.{begun_too, pending_too, all_begun, all_pending}
+use Rattle.slice_bundles.proofs.Beginning.{of_lower, begun_too, pending_too, all_begun, all_pending}
 use Rattle.slice_bundles.proofs.Live.{reaches_is}
 use Rattle.slice_sweep.specs.declared.strand.Strand.{Strand}
 use Rattle.slice_sweep.specs.Strands.{bundles_of, numbers_in, IsReaching, IsHeld, weakened, fresh}
@@ -115,15 +114,6 @@ module _ (es : List LeafEdge) (l : Level) where
             subst (λ (z : ℤ). z *ℤ l.d ≡ l.n) y at,
             each ss a.1 b.1 c.1,
           )
-
--- what is true of the heights of both ends is true of that of the lower one
-of_lower : (P : Level → Type 0) (e : Edge) → P (level_of e.a.y) → P (level_of e.b.y) → P (level_of (low e).y)
-unfolding low
-of_lower P e a b = by_test (int_lt e.b.y e.a.y)
-  where
-    by_test : (t : Bool) → P (level_of (cond t e.b e.a).y)
-    by_test true = b
-    by_test false = a
 
 module _ (es : List LeafEdge) (l u : Level) (n : AreNeighbours es l u) where
   -- a height of an end that isn't at or below the lower one isn't below the upper one
