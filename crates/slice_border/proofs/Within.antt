@@ -47,7 +47,7 @@ weights_add y h n d = ring (y ∷ h ∷ n ∷ d ∷ []) ((v1 ⊗ v3 ⊖ v2) ⊕ 
     refl
 
 -- the limit times a weight
-weighed : (limit : ℕ) (x w : ℤ) → unsigned_abs x ≤ limit → unsigned_abs (x *ℤ w) ≤ limit * unsigned_abs w
+pub weighed : (limit : ℕ) (x w : ℤ) → unsigned_abs x ≤ limit → unsigned_abs (x *ℤ w) ≤ limit * unsigned_abs w
 weighed limit x w h = rw (unsigned_abs-mul x w) (mul-le (unsigned_abs x) (unsigned_abs w) limit (unsigned_abs w) h
     (omega arith))
 
@@ -66,7 +66,7 @@ both_weighed limit x g v w hx hg pv pw =
     let q = weighed limit g w hg in
     rw (sum_abs v w pv pw) (omega (arith, s, p, q))
 
-x_within : (limit : ℕ) (e : Edge) (l : Level) → IsEdgeWithin limit e → ((low e).y *ℤ l.d) ≤ℤ l.n
+pub x_within : (limit : ℕ) (e : Edge) (l : Level) → IsEdgeWithin limit e → ((low e).y *ℤ l.d) ≤ℤ l.n
     → l.n ≤ℤ ((high e).y *ℤ l.d)
     → unsigned_abs (x_at e l.n l.d) ≤ limit * (unsigned_abs (rise e) * unsigned_abs l.d)
 unfolding x_at run offset rise
@@ -82,7 +82,7 @@ x_within limit e l w h k =
     (high_within limit e w).x
     (gap_of_at_most l.n (q.y *ℤ l.d) k) (gap_of_at_most (p.y *ℤ l.d) l.n h))
 
-rise_within : (limit : ℕ) (e : Edge) → IsEdgeWithin limit e → unsigned_abs (rise e) ≤ 2 * limit
+pub rise_within : (limit : ℕ) (e : Edge) → IsEdgeWithin limit e → unsigned_abs (rise e) ≤ 2 * limit
 unfolding rise
 rise_within limit e w =
     let h = (low_within limit e w).y in

@@ -1,15 +1,13 @@
 -- Where an edge passes a height is within the limit, and at an end of the edge it rounds to that end.
-use Rattle.std.proofs.Common.{◌≡◌, ℕ, ◌+◌, ◌*◌, ◌<◌, ◌≤◌, Bool, true, List, [], ◌∷◌, length, inl, inr, refl, sym, ap, ap₂, ◌∙◌, arith, subst}
+use Rattle.std.proofs.Common.{◌≡◌, ℕ, ◌<◌, Bool, true, List, [], ◌∷◌, length, inl, inr, refl, sym, ap, ap₂, ◌∙◌, arith, subst}
 use lib.IntN.{ℤ, pos, ◌+ℤ◌, ◌-ℤ◌, ◌*ℤ◌}
-use lib.Signed.{◌<ℤ◌, ◌≤ℤ◌}
+use lib.Signed.{◌<ℤ◌}
 use Rattle.std.specs.Prelude.{unsigned_abs}
 use Rattle.std.specs.Ordering.{int_eq}
 use Rattle.std.specs.Cmp.{signed_Decides}
-use Rattle.std.proofs.lemmas.Int.{ints, unsigned_abs-mul}
-use Rattle.std.proofs.lemmas.Nat.{mul-le}
+use Rattle.std.proofs.lemmas.Int.{ints}
 use Rattle.std.proofs.lemmas.Bool.{and_from, cases_lt}
 use Rattle.std.proofs.lemmas.List.{get_or_past}
-use Rattle.scad_base.proofs.Integers.{gap_of_at_most}
 use Rattle.scad_geom.specs.declared.point.Pt.{Pt}
 use Rattle.scad_geom.specs.declared.point.Edge.{Edge}
 use Rattle.scad_geom.specs.declared.level.Level.{Level}
@@ -20,7 +18,6 @@ use Rattle.scad_geom.specs.Level.{IsLevelWithin}
 use Rattle.scad_geom.specs.Line.{low, high, rise, run, offset, x_at}
 use Rattle.scad_geom.specs.Rounding.{half_down, IsNearest}
 use Rattle.scad_geom.proofs.Balance.{same_whole, same_place-is}
-use Rattle.scad_geom.proofs.Bounds.{low_within, high_within}
 use Rattle.scad_geom.proofs.Nearest.{IsNearest-half_down}
 use Rattle.scad_geom.proofs.Ring.{ring, num, ◌⊕◌, ◌⊖◌, ◌⊗◌, v0, v1, v2, v3, v4}
 use Rattle.scad_base.proofs.Products.{positive_product}
@@ -32,51 +29,9 @@ use Rattle.slice_pieces.specs.Spots.{point_of, IsSpotWithin}
 use Rattle.slice_pieces.proofs.SameSpots.{to_eq}
 use Rattle.slice_border.specs.Pieces.{spot_on, passes_at}
 use Rattle.slice_border.proofs.Middle.{size_of}
-use Rattle.slice_border.proofs.Within.{by_weights, weights_add, size_above}
+use Rattle.slice_border.proofs.Within.{x_within, rise_within, size_above}
 
 -- ---- within the limit
-pub weighed : (limit : ℕ) (x w : ℤ) → unsigned_abs x ≤ limit → unsigned_abs (x *ℤ w) ≤ limit * unsigned_abs w
-weighed limit x w h = rw (unsigned_abs-mul x w) (mul-le (unsigned_abs x) (unsigned_abs w) limit (unsigned_abs w) h
-    (omega arith))
-
-abs_sum : (x y : ℤ) → unsigned_abs (x +ℤ y) ≤ unsigned_abs x + unsigned_abs y
-abs_sum x y = omega (arith, ints)
-
-sum_abs : (v w : ℤ) → pos 0 ≤ℤ v → pos 0 ≤ℤ w
-    → unsigned_abs (v +ℤ w) ≡ unsigned_abs v + unsigned_abs w
-sum_abs v w p q = omega (arith, ints)
-
-both_weighed : (limit : ℕ) (x g v w : ℤ) → unsigned_abs x ≤ limit → unsigned_abs g ≤ limit
-    → pos 0 ≤ℤ v → pos 0 ≤ℤ w → unsigned_abs (x *ℤ v +ℤ g *ℤ w) ≤ limit * unsigned_abs (v +ℤ w)
-both_weighed limit x g v w hx hg pv pw =
-    let s = abs_sum (x *ℤ v) (g *ℤ w) in
-    let p = weighed limit x v hx in
-    let q = weighed limit g w hg in
-    rw (sum_abs v w pv pw) (omega (arith, s, p, q))
-
-x_within : (limit : ℕ) (e : Edge) (l : Level) → IsEdgeWithin limit e → ((low e).y *ℤ l.d) ≤ℤ l.n
-    → l.n ≤ℤ ((high e).y *ℤ l.d)
-    → unsigned_abs (x_at e l.n l.d) ≤ limit * (unsigned_abs (rise e) * unsigned_abs l.d)
-unfolding x_at run offset rise
-x_within limit e l w h k =
-    let p = low e in
-    let q = high e in
-    rw (
-      ← (unsigned_abs-mul (q.y -ℤ p.y) l.d),
-      ← (weights_add p.y q.y l.n l.d),
-      by_weights p.x p.y q.x q.y l.n l.d,
-    )
-    (both_weighed limit p.x q.x (q.y *ℤ l.d -ℤ l.n) (l.n -ℤ p.y *ℤ l.d) (low_within limit e w).x
-    (high_within limit e w).x
-    (gap_of_at_most l.n (q.y *ℤ l.d) k) (gap_of_at_most (p.y *ℤ l.d) l.n h))
-
-rise_within : (limit : ℕ) (e : Edge) → IsEdgeWithin limit e → unsigned_abs (rise e) ≤ 2 * limit
-unfolding rise
-rise_within limit e w =
-    let h = (low_within limit e w).y in
-    let k = (high_within limit e w).y in
-    omega (arith, ints)
-
 pub passes_then_rises : (e : Edge) (l : Level) → passes_at e l ≡ true → pos 0 <ℤ rise e
 unfolding reaches
 passes_then_rises e l h = (reaches_is e l l h).rises

@@ -10,6 +10,7 @@ use Rattle.scad_geom.specs.declared.level.LeafEdge.{LeafEdge}
 use Rattle.scad_geom.specs.Limits.{coordinate_limit}
 use Rattle.scad_geom.specs.Within.{IsEdgeWithin}
 use Rattle.scad_geom.specs.Level.{IsLevelWithin}
+use Rattle.scad_geom.proofs.Order.{front, back}
 use Rattle.slice_bundles.specs.Bundles.{no_edge, edge_at}
 use Rattle.slice_pieces.specs.declared.piece.Spot.{Spot}
 use Rattle.slice_pieces.specs.Spots.{IsSpotWithin}
@@ -19,6 +20,7 @@ use Rattle.sweep_laws.specs.Ways.{pieces_of}
 use Rattle.sweep_laws.specs.Crossing.{all_closed}
 use Rattle.slice_border.specs.Pieces.{spot_on, whole_spot, passes_at, HasSpot}
 use Rattle.slice_border.proofs.Winding.{of_stops}
+use Rattle.slice_border.proofs.Within.{weighed}
 use Rattle.slice_outlines.specs.declared.course.Course.{Course}
 use Rattle.slice_outlines.specs.declared.cursors.Cursors.{Cursors}
 use Rattle.slice_outlines.specs.declared.mark.Mark.{Mark}
@@ -33,7 +35,7 @@ use Rattle.slice_outlines.specs.Cursors.{StandOn}
 use Rattle.slice_outlines.specs.Along.{HasComeOver}
 use Rattle.slice_outlines.specs.Heights.{Onwards, IsRunOf, marks_of}
 use Rattle.slice_outlines.specs.Stretch.{AreStopsAt, stretch_spots}
-use Rattle.slice_outlines.proofs.EndPoints.{weighed, passes_there, passing_within}
+use Rattle.slice_outlines.proofs.EndPoints.{passes_there, passing_within}
 use Rattle.slice_outlines.proofs.Placing.{all_append}
 use Rattle.slice_outlines.proofs.Waiting.{part_names}
 
@@ -110,14 +112,6 @@ stops_at h ms run fs ss pb pa a =
     withins (s ∷ ss) a = (a.0.within, withins ss a.1)
 
 -- ---- strands at stops
-all_back : {A : Type 0} (P : A → Type 0) (xs ys : List A) → AllByRecursion P (xs ++ ys) → AllByRecursion P ys
-all_back P [] ys h = h
-all_back P (x ∷ xs) ys h = all_back P xs ys h.1
-
-all_front : {A : Type 0} (P : A → Type 0) (xs ys : List A) → AllByRecursion P (xs ++ ys) → AllByRecursion P xs
-all_front P [] ys h = tt
-all_front P (x ∷ xs) ys h = (h.0, all_front P xs ys h.1)
-
 of_marks : (es : List LeafEdge) (l : Level) (P : Spot → Type 0) (ms : List Mark) → AllByRecursion P (mark_spots es l ms)
     → AllByRecursion (λ m. P (spot_at es l m)) ms
 of_marks es l P [] h = tt
@@ -132,11 +126,11 @@ strands_at h ms run fs ss a =
     let lows : List Mark = take (run.below_to - run.below) (drop run.below h.below.now) in
     let ups : List Mark = take (run.above_to - run.above) (drop run.above ms) in
     all_append (λ m. HasSpot ss (spot_at es l m)) lows ups
-    (of_marks es l (HasSpot ss) lows (all_front (HasSpot ss) (mark_spots es l lows) (mark_spots es l ups
+    (of_marks es l (HasSpot ss) lows (front (HasSpot ss) (mark_spots es l lows) (mark_spots es l ups
     ++ flat_spots l fs)
     a.complete))
-    (of_marks es l (HasSpot ss) ups (all_front (HasSpot ss) (mark_spots es l ups) (flat_spots l fs)
-    (all_back (HasSpot ss) (mark_spots es l lows) (mark_spots es l ups ++ flat_spots l fs) a.complete)))
+    (of_marks es l (HasSpot ss) ups (front (HasSpot ss) (mark_spots es l ups) (flat_spots l fs)
+    (back (HasSpot ss) (mark_spots es l lows) (mark_spots es l ups ++ flat_spots l fs) a.complete)))
 
 -- spots are told by names
 spots_by : (es : List LeafEdge) (l : Level) (ms ns : List Mark) → names_in ms ≡ names_in ns
