@@ -85,7 +85,7 @@ between_alone R false true s t name = (tt, tt)
 between_alone R false false s t name = tt
 
 -- ---- names between two levels
-not_before_itself : (l : Level) (e : Edge) → IsBefore l e e → ⊥
+pub not_before_itself : (l : Level) (e : Edge) → IsBefore l e e → ⊥
 not_before_itself l e (inl h) = omega (arith, ints)
 not_before_itself l e (inr h) = let k = h.1 in omega (arith, ints)
 

@@ -4,7 +4,7 @@ use lib.IntN.{ℤ, pos, ◌+ℤ◌, ◌-ℤ◌, ◌*ℤ◌}
 use lib.Signed.{◌<ℤ◌}
 use Rattle.std.specs.Prelude.{unsigned_abs}
 use Rattle.std.specs.List.{AllByRecursion, concat}
-use Rattle.std.proofs.lemmas.Int.{ints, by_lt_z}
+use Rattle.std.proofs.lemmas.Int.{ints}
 use Rattle.slice_pieces.specs.Pieces.{way_of, ways_of}
 use Rattle.scad_geom.proofs.Balance.{once, starts-cons, ends-cons}
 use Rattle.scad_geom.specs.declared.level.Level.{Level}
@@ -37,7 +37,7 @@ use Rattle.slice_border.proofs.Middle.{size_of, half_point, lower_scaled, scaled
 use Rattle.slice_pieces.proofs.Ways.{wind_pieces-append}
 use Rattle.slice_border.proofs.Winding.{stops_still, with_zero}
 use Rattle.slice_border.proofs.Walk.{pieces_wind}
-use Rattle.slice_border.proofs.BalanceTurns.{ahead, ahead_over, ahead_under, ahead_both, step_up, step_down}
+use Rattle.slice_border.proofs.BalanceTurns.{ahead, three_ways, ahead_over, ahead_under, ahead_both, step_up, step_down}
 use Rattle.slice_border.proofs.BalanceEdges.{IsAside, level_values}
 use Rattle.slice_border.proofs.BalanceStops.{aheads, aheads-append}
 use Rattle.slice_border.proofs.BalanceFlat.{flat_change, flat_over, flat_under}
@@ -183,9 +183,6 @@ module _ (es : List LeafEdge) (shape : Shape) (balanced : AreLeavesBalanced es) 
       (aheads right p pieces ≡ steps right p pieces +ℤ (counted (is_in_by false right es shape p) -ℤ counted
       (is_in_by true right es shape p)))
       ⊎ ((aheads right p pieces ≡ steps right p pieces +ℤ pos 0) × AllByRecursion (IsElsewhere p) ls)
-
-  three_ways : {P : Type 0} (a b : ℤ) → (a <ℤ b → P) → (a ≡ b → P) → (b <ℤ a → P) → P
-  three_ways a b lt eq gt = by_lt_z a b lt (λ h. by_lt_z b a gt (λ k. eq (omega (arith, ints))))
 
   by_levels : (ls : List Level) (pieces : List Piece) → AllByRecursion (λ (l : Level). pos 0 <ℤ l.d) ls
       → IsRising ls → AreLevelPieces es shape ls pieces → Reached ls pieces

@@ -33,6 +33,9 @@ abbrev pub ahead : Bool → Point → Point → ℤ
 ahead right p b = counted (is_level p b && is_right right p b)
 
 -- ---- tests
+pub three_ways : {P : Type 0} (a b : ℤ) → (a <ℤ b → P) → (a ≡ b → P) → (b <ℤ a → P) → P
+three_ways a b lt eq gt = by_lt_z a b lt (λ h. by_lt_z b a gt (λ k. eq (omega (arith, ints))))
+
 pub int_eq-less : (a b : ℤ) → a <ℤ b → int_eq a b ≡ false
 int_eq-less a b h = let p : int_lt a b ≡ true = sym (omega (arith, ints)) in rw p refl
 
@@ -178,9 +181,6 @@ module _ (right : Bool) (p a b : Point) (dp : pos 0 <ℤ p.d) (da : pos 0 <ℤ a
       (over_false true p b (lower_weak (level_at b) (level_at p) k)))
       (flat_by false false (over_false false p a h) (over_false false p b k))
       (ahead_under right p a h) (ahead_under right p b k) refl
-
-  three_ways : {P : Type 0} (a b : ℤ) → (a <ℤ b → P) → (a ≡ b → P) → (b <ℤ a → P) → P
-  three_ways a b lt eq gt = by_lt_z a b lt (λ h. by_lt_z b a gt (λ k. eq (omega (arith, ints))))
 
   pub step_up : turn true right p a b -ℤ turn false right p a b ≡ ahead right p a -ℤ ahead right p b
   unfolding Steps

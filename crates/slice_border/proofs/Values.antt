@@ -37,8 +37,8 @@ bundle_side es l u dl right p k (j ∷ js) lk ls a = (
       right p k js lk ls.1 a.1,
 )
 
--- a bundle's edges count where its first does
-counts : (es : List LeafEdge) (right : Bool) (p : Point) (leaf : ℕ) (b : Bool) (ks : List ℕ)
+-- edges that lie on one side count there or not at all: a bundle's where its first does
+pub counts : (es : List LeafEdge) (right : Bool) (p : Point) (leaf : ℕ) (b : Bool) (ks : List ℕ)
     → AllByRecursion (λ j. lies_left es right p j ≡ b) ks
     → sum_z (heading_beyond es right p leaf) ks ≡ (if b then sum_z (heading_for es leaf) ks else pos 0)
 counts es right p leaf true [] h = refl

@@ -43,7 +43,7 @@ use Rattle.slice_outlines.proofs.LevelAhead.{mark_spot}
 use Rattle.slice_outlines.proofs.GroupHeights.{HeadPasses}
 use Rattle.slice_outlines.proofs.Balancing.{balanced_by, IsFirstRight, right_part}
 use Rattle.slice_outlines.proofs.StrandSearch.{by_places, scaled_order}
-use Rattle.slice_outlines.proofs.WayCovers.{flat_rise, grouped, by_spot, past_spot}
+use Rattle.slice_outlines.proofs.WayCovers.{flat_rise, grouped, by_spot, past_spot, number_split}
 use Rattle.slice_outlines.proofs.Across.{IsClosed, left_not, weakly, by_then_left, closed_by, closed_right}
 use Rattle.slice_outlines.proofs.Apart.{IsPlaced, AreApart, at_group, in_group, all_under, all_over, of_bundles, below-append, above-append, bundle_spot}
 
@@ -239,14 +239,6 @@ pub found : (edges : List LeafEdge) (P : Flat → Type 0) (fs : List Flat) (k : 
 found edges P [] k h a b = absurd h
 found edges P (f ∷ fs) k (inl e) a b = (f, e, a.0, b.0)
 found edges P (f ∷ fs) k (inr e) a b = found edges P fs k e a.1 b.1
-
-pub number_split : (fs gs : List Flat) (k : ℕ) → HasNumber (fs ++ gs) k → HasNumber fs k ⊎ HasNumber gs k
-number_split [] gs k h = inr h
-number_split (f ∷ fs) gs k (inl q) = inl (inl q)
-number_split (f ∷ fs) gs k (inr q) = elim (number_split fs gs k q) [
-  | inl a ↦ inl (inr a)
-  | inr b ↦ inr b
-]
 
 module _ (h : Height) (fb fa : List Flat) (left right : List Group) (s : Spot) (c : IsCutAt h fb fa left right s)
     (flats : AreFlatsOn h.edges.now h.at.now (fb ++ fa)) where

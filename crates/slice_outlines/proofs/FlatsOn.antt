@@ -32,8 +32,8 @@ use Rattle.slice_outlines.proofs.Joining.{comes_before, flat_order}
 use Rattle.slice_outlines.proofs.Placing.{all_append}
 use Rattle.slice_outlines.proofs.Onward.{take_then}
 use Rattle.slice_outlines.proofs.StrandSearch.{by_places, scaled_order}
-use Rattle.slice_outlines.proofs.WayCovers.{all_take, all_drop}
-use Rattle.slice_outlines.proofs.Cuts.{number_split, found}
+use Rattle.slice_outlines.proofs.WayCovers.{number_split, all_take, all_drop}
+use Rattle.slice_outlines.proofs.Cuts.{found}
 
 -- ---- their order
 less_by : (a b : ℤ) → int_lt a b ≡ true → a <ℤ b

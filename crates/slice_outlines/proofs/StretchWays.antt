@@ -15,7 +15,7 @@ use Rattle.slice_bundles.specs.Bundles.{no_edge, edge_at}
 use Rattle.slice_pieces.specs.declared.piece.Spot.{Spot}
 use Rattle.slice_border.specs.Pieces.{whole_spot, is_flat_at, edge_spots, passes_at, spots_at, covers, IsLeft, GoRight, HasSpot, IsOneOf}
 use Rattle.slice_border.proofs.Winding.{IsSpotAt, of_stops}
-use Rattle.sweep_laws.proofs.Stops.{spots_are_there}
+use Rattle.sweep_laws.proofs.Stops.{in_front, in_back, spots_are_there}
 use Rattle.sweep_laws.proofs.Spots.{spot_at as edge_spot}
 use Rattle.slice_outlines.specs.declared.mark.Mark.{Mark}
 use Rattle.slice_outlines.specs.declared.run.Run.{Run}
@@ -33,9 +33,9 @@ use Rattle.slice_outlines.specs.Level.{HasNumber, GoByLeft, AreFlatsOn}
 use Rattle.slice_outlines.proofs.EndPoints.{passes_then_rises, passes_there}
 use Rattle.slice_outlines.proofs.Placing.{all_append}
 use Rattle.slice_outlines.proofs.WayCovers.GoOn.{none, more}
-use Rattle.slice_outlines.proofs.WayCovers.{GoOn, MayLead, lies_flat, covers_by, way_told}
+use Rattle.slice_outlines.proofs.WayCovers.{GoOn, MayLead, lies_flat, covers_by, number_split, way_told}
 use Rattle.slice_outlines.proofs.Across.{not_left, left_not, weakly, left_chain, by_then_left, by_chain, same_then_left, closed_by, closed_from}
-use Rattle.slice_outlines.proofs.Cuts.{whole_at, number_split, found}
+use Rattle.slice_outlines.proofs.Cuts.{whole_at, found}
 
 -- ---- between two ends
 pub record IsWithin (l : Level) (left right : ℤ) (s : Spot) : Type 0 where
@@ -108,15 +108,6 @@ all_inside h left right ms run fs r a b p q f =
     (part_inside h left right ms run.above run.above_to r.above b q) (flats_inside l left right fs f))
 
 -- ---- each is where an edge meets the height
-in_front : (xs ys : List Spot) (s : Spot) → IsOneOf xs s → IsOneOf (xs ++ ys) s
-in_front [] ys s h = absurd h
-in_front (x ∷ xs) ys s (inl e) = inl e
-in_front (x ∷ xs) ys s (inr h) = inr (in_front xs ys s h)
-
-in_back : (xs ys : List Spot) (s : Spot) → IsOneOf ys s → IsOneOf (xs ++ ys) s
-in_back [] ys s h = h
-in_back (x ∷ xs) ys s h = inr (in_back xs ys s h)
-
 flat_ends : (e : Edge) (l : Level) → is_flat_at e l ≡ true
     → edge_spots e l ≡ whole_spot e.a.x l ∷ (whole_spot e.b.x l ∷ [])
 flat_ends e l h = rw h refl

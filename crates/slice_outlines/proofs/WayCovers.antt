@@ -234,7 +234,7 @@ begins_not es s t (f ∷ fs) e d rs rt o m b k c (inl q) =
     (subst (λ (n : ℕ). covers s.spot t.spot (get_or es n no_edge) ≡ true) (sym q) c)).0 b.0
 begins_not es s t (f ∷ fs) e d rs rt o m b k c (inr q) = begins_not es s t fs e d rs rt o m.1 b.1 k c q
 
-number_split : (fs gs : List Flat) (k : ℕ) → HasNumber (fs ++ gs) k → HasNumber fs k ⊎ HasNumber gs k
+pub number_split : (fs gs : List Flat) (k : ℕ) → HasNumber (fs ++ gs) k → HasNumber fs k ⊎ HasNumber gs k
 number_split [] gs k h = inr h
 number_split (f ∷ fs) gs k (inl q) = inl (inl q)
 number_split (f ∷ fs) gs k (inr q) = elim (number_split fs gs k q) [

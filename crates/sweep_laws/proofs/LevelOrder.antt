@@ -22,12 +22,13 @@ use Rattle.sweep_laws.specs.Fronts.{Strand, value_before, ways_from}
 use Rattle.sweep_laws.specs.Crossing.{Place, all_above, flat_way, visits_at}
 use Rattle.sweep_laws.proofs.Spots.{spot_at, lower_away}
 use Rattle.sweep_laws.proofs.Strands.{FromHas, of_ways_from, AlongHas, of_flat_way, differ_front, names_from, IsRisingWay, with_flat, flat_names}
-use Rattle.sweep_laws.proofs.Levels.{IsHigher, LiesAt, IsLevel, each, next_level, rising_from, flat_ways}
+use Rattle.sweep_laws.proofs.Between.{all_weaker}
+use Rattle.sweep_laws.proofs.Levels.{IsHigher, LiesAt, IsLevel, next_level, rising_from, flat_ways}
 
 module _ (es : List LeafEdge) (l u : Level) where
   higher_spots : (s : Spot) (vs : List Visit) → IsSpotAt l s → AllByRecursion (λ v. IsHigher l v.at) vs
       → AllByRecursion (λ v. IsAway (point_of s) v.at) vs
-  higher_spots s vs h o = each (λ v. IsHigher l v.at) (λ v. IsAway (point_of s) v.at) vs
+  higher_spots s vs h o = all_weaker (λ v. IsHigher l v.at) (λ v. IsAway (point_of s) v.at) vs
       (λ v k. lower_away l k.level s v.at h k.at k.over) o
 
   places_away : (s : Spot) (ps : List Place) → AllByRecursion (λ q. IsAway (point_of s) q.at) ps
@@ -83,7 +84,7 @@ module _ (es : List LeafEdge) (l u : Level) where
         (differ_front p.above (all_above ps) h.heads_above))
         (flat_names es p.at p ps)
         (of_ways_from (IsRisingWay es) es l u (value_before (all_above ps) false) p.above
-        (each (λ s. RisesFirst es s.bundle) (λ s. FromHas (IsRisingWay es) es l u s.bundle) p.above
+        (all_weaker (λ s. RisesFirst es s.bundle) (λ s. FromHas (IsRisingWay es) es l u s.bundle) p.above
         (λ s r. rising_from es l u s.bundle r) rise)) (flat_ways es l u p.at p ps),
     level_order ps vs (next_level es l u p ps h) order o (back (λ s. EndsAtOne vs s.bundle) p.above (all_above ps) ends),
   )

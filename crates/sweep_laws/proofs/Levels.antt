@@ -32,6 +32,7 @@ use Rattle.sweep_laws.specs.Fronts.{value_before, ways_up}
 use Rattle.sweep_laws.specs.Crossing.{Place, spots_of, all_below, all_above, all_closed, flat_way, outs_from, visits_at, ArePassed, MeetsAt}
 use Rattle.sweep_laws.proofs.Spots.{spot_at, same_place, lower_away}
 use Rattle.sweep_laws.proofs.Order.{second_first, crossed_lists, turned_lists}
+use Rattle.sweep_laws.proofs.Between.{all_weaker, all_two}
 use Rattle.sweep_laws.proofs.Strands.{UpHas, of_ways_up, FromHas, AlongHas, of_flat_way, ups_append, HeadsDiffer, differ_front, differ_back, names_up, IsRisingWay, IsFlatWay, with_flat, flat_names}
 
 -- ---- walks over the same ways in another order
@@ -81,16 +82,6 @@ pub record IsLevel (es : List LeafEdge) (l u : Level) (places : List Place) : Ty
   pub rise_below : AllByRecursion (λ s. RisesFirst es s.bundle) (all_below places)
   pub rise_above : AllByRecursion (λ s. RisesFirst es s.bundle) (all_above places)
   pub climb : AllByRecursion (λ s. IsLower l u × (pos 0 <ℤ u.d)) (all_above places)
-
-pub each_two : {X : Type 0} (P Q R : X → Type 0) (xs : List X) → ((x : X) → P x → Q x → R x) → AllByRecursion P xs
-    → AllByRecursion Q xs → AllByRecursion R xs
-each_two P Q R [] f h k = tt
-each_two P Q R (x ∷ xs) f h k = (f x h.0 k.0, each_two P Q R xs f h.1 k.1)
-
-pub each : {X : Type 0} (P R : X → Type 0) (xs : List X) → ((x : X) → P x → R x) → AllByRecursion P xs
-    → AllByRecursion R xs
-each P R [] f h = tt
-each P R (x ∷ xs) f h = (f x h.0, each P R xs f h.1)
 
 not_above_zero : (z : ℤ) → is_zero z ≡ true → pos 0 <ℤ z → ⊥
 not_above_zero z h k = absurd (by_zero z h k)
@@ -153,7 +144,7 @@ module _ (es : List LeafEdge) (l u : Level) where
   later_away p [] a h = tt
   later_away p (q ∷ ps) a h =
       AllByRecursion-append (λ s. UpHas (λ w. IsAway (point_of p) w.far) es l s.start s.bundle) q.below (all_below ps)
-      (each_two (λ s. RisesFirst es s.bundle) (λ s. LiesAt es l q.at s.bundle)
+      (all_two (λ s. RisesFirst es s.bundle) (λ s. LiesAt es l q.at s.bundle)
       (λ s. UpHas (λ w. IsAway (point_of p) w.far) es l s.start s.bundle) q.below
       (λ s r o. strand_away p q.at s.start s.bundle h.divisor h.spots.0 a.0 r o)
       (front (λ s. RisesFirst es s.bundle) q.below (all_below ps) h.rise_below) h.below.0)
@@ -226,13 +217,14 @@ module _ (es : List LeafEdge) (l u : Level) where
     comes_here : AllByRecursion (λ w. IsAt (point_of p.at) w.far) (ins ++ flat)
     comes_here = AllByRecursion-append (λ w. IsAt (point_of p.at) w.far) ins flat
         (of_ways_up (λ w. IsAt (point_of p.at) w.far) es l (value_before (all_below ps) false) p.below
-        (each (λ s. LiesAt es l p.at s.bundle) (λ s. UpHas (λ w. IsAt (point_of p.at) w.far) es l s.start s.bundle)
+        (all_weaker (λ s. LiesAt es l p.at s.bundle)
+        (λ s. UpHas (λ w. IsAt (point_of p.at) w.far) es l s.start s.bundle)
         p.below (λ s k. strand_comes p.at s.start s.bundle k) h.below.0)) a.comes
 
     away_here : AllByRecursion (λ w. IsAway (point_of p.at) w.far) (later ++ up)
     away_here = AllByRecursion-append (λ w. IsAway (point_of p.at) w.far) later up
         (of_ways_up (λ w. IsAway (point_of p.at) w.far) es l false (all_below ps) (later_away p.at ps h.apart.0 rest))
-        (each (λ w. IsHigher l w.far) (λ w. IsAway (point_of p.at) w.far) up
+        (all_weaker (λ w. IsHigher l w.far) (λ w. IsAway (point_of p.at) w.far) up
         (λ w k. lower_away l k.level p.at w.far h.spots.0 k.at k.over) o)
 
     different_here : AreOfDifferentNames (ins ++ flat)
@@ -240,14 +232,14 @@ module _ (es : List LeafEdge) (l u : Level) where
         (names_up es l (value_before (all_below ps) false) p.below (differ_front p.below (all_below ps) h.heads_below))
         a.names
         (of_ways_up (IsRisingWay es) es l (value_before (all_below ps) false) p.below
-        (each (λ s. RisesFirst es s.bundle) (λ s. UpHas (IsRisingWay es) es l s.start s.bundle) p.below
+        (all_weaker (λ s. RisesFirst es s.bundle) (λ s. UpHas (IsRisingWay es) es l s.start s.bundle) p.below
         (λ s r. rising s.start l s.bundle r)
         (front (λ s. RisesFirst es s.bundle) p.below (all_below ps) h.rise_below))) a.flats
 
     higher_here : AllByRecursion (λ w. IsHigher l w.far) (news ++ up)
     higher_here = AllByRecursion-append (λ w. IsHigher l w.far) news up
         (of_ways_up (λ w. IsHigher l w.far) es u (value_before (all_above ps) false) p.above
-        (each_two (λ s. IsLower l u × (pos 0 <ℤ u.d)) (λ s. RisesFirst es s.bundle)
+        (all_two (λ s. IsLower l u × (pos 0 <ℤ u.d)) (λ s. RisesFirst es s.bundle)
         (λ s. UpHas (λ w. IsHigher l w.far) es u s.start s.bundle) p.above
         (λ s k r. strand_higher s.start s.bundle k.0 r)
         (front (λ s. IsLower l u × (pos 0 <ℤ u.d)) p.above (all_above ps) h.climb)

@@ -89,12 +89,12 @@ places_are_stops = record {
 }
 
 -- ---- where an edge meets the height is a spot
-in_front : (xs ys : List Spot) (s : Spot) → IsOneOf xs s → IsOneOf (xs ++ ys) s
+pub in_front : (xs ys : List Spot) (s : Spot) → IsOneOf xs s → IsOneOf (xs ++ ys) s
 in_front [] ys s h = absurd h
 in_front (x ∷ xs) ys s (inl e) = inl e
 in_front (x ∷ xs) ys s (inr h) = inr (in_front xs ys s h)
 
-in_back : (xs ys : List Spot) (s : Spot) → IsOneOf ys s → IsOneOf (xs ++ ys) s
+pub in_back : (xs ys : List Spot) (s : Spot) → IsOneOf ys s → IsOneOf (xs ++ ys) s
 in_back [] ys s h = h
 in_back (x ∷ xs) ys s h = inr (in_back xs ys s h)
 

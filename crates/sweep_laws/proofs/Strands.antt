@@ -1,16 +1,15 @@
 -- The ways of strands: what holds of each, and that they have different names.
-use Rattle.std.proofs.Common.{◌≡◌, ℕ, inl, inr, Bool, true, false, List, [], ◌∷◌, ◌++◌, refl, sym, ap, ◌∙◌, subst, arith, append_assoc}
+use Rattle.std.proofs.Common.{◌≡◌, ℕ, Bool, true, false, List, [], ◌∷◌, ◌++◌, refl, sym, ap, ◌∙◌, subst, append_assoc}
 use lib.IntN.{pos}
 use lib.Signed.{◌<ℤ◌}
 use Rattle.std.specs.Prelude.{Option, None, Some}
 use Rattle.std.specs.List.{AllByRecursion, position}
-use Rattle.std.proofs.lemmas.Int.{ints}
-use Rattle.scad_geom.specs.declared.point.Edge.{Edge}
 use Rattle.scad_geom.specs.declared.level.Level.{Level}
 use Rattle.scad_geom.specs.declared.level.LeafEdge.{LeafEdge}
 use Rattle.scad_geom.specs.Line.{rise}
 use Rattle.scad_geom.specs.EdgeOrder.{IsBefore}
 use Rattle.scad_geom.proofs.Order.{front}
+use Rattle.slice_border.proofs.Apart.{not_before_itself}
 use Rattle.slice_bundles.specs.Bundles.{edge_at, Precedes, AreRanked}
 use Rattle.slice_pieces.specs.declared.piece.Spot.{Spot}
 use Rattle.slice_border.specs.Pieces.{spot_on, covers}
@@ -129,10 +128,6 @@ HaveOtherHeads (k ∷ ks) (j ∷ js) = k ≡ j → ⊥
 abbrev pub HeadsDiffer : List Strand → Type 0
 HeadsDiffer [] = Unit {0}
 HeadsDiffer (s ∷ ss) = AllByRecursion (λ t. HaveOtherHeads s.bundle t.bundle) ss × HeadsDiffer ss
-
-not_before_itself : (l : Level) (e : Edge) → IsBefore l e e → ⊥
-not_before_itself l e (inl h) = omega (arith, ints)
-not_before_itself l e (inr h) = let k = h.1 in omega (arith, ints)
 
 other_heads : (es : List LeafEdge) (l : Level) (b c : List ℕ) → Precedes es l b c → HaveOtherHeads b c
 other_heads es l [] c h = tt

@@ -16,16 +16,7 @@ use Rattle.slice_border.specs.Tally.{headings}
 use Rattle.slice_border.proofs.Reaching.{heading_for, lies_left, wind_reaching}
 use Rattle.slice_border.proofs.Passing.{IsLive, live_bundles, same_side, passing, HeadPasses, Around}
 use Rattle.slice_border.proofs.BundleValues.{headings_are}
-use Rattle.slice_border.proofs.Values.{heading_beyond, all_pass}
-
--- edges that lie on one side count there or not at all
-on_side : (es : List LeafEdge) (right : Bool) (p : Point) (leaf : ℕ) (b : Bool) (ks : List ℕ)
-    → AllByRecursion (λ j. lies_left es right p j ≡ b) ks
-    → sum_z (heading_beyond es right p leaf) ks ≡ (if b then sum_z (heading_for es leaf) ks else pos 0)
-on_side es right p leaf true [] h = refl
-on_side es right p leaf false [] h = refl
-on_side es right p leaf true (k ∷ ks) h = rw (h.0, on_side es right p leaf true ks h.1)
-on_side es right p leaf false (k ∷ ks) h = rw (h.0, on_side es right p leaf false ks h.1)
+use Rattle.slice_border.proofs.Values.{heading_beyond, counts, all_pass}
 
 module _ (es : List LeafEdge) (above right : Bool) (p : Point) (l u : Level) (a : Around es above right p l u) where
   with_first : (k : ℕ) (b : Bool) → IsLive es l u k → lies_left es right p k ≡ b → (ks : List ℕ)
@@ -41,7 +32,7 @@ module _ (es : List LeafEdge) (above right : Bool) (p : Point) (l u : Level) (a 
   one_bundle : (leaf k : ℕ) (ks : List ℕ) (b : Bool) → IsBundle es l (k ∷ ks) → AllByRecursion (IsLive es l u) (k ∷ ks)
       → lies_left es right p k ≡ b
       → sum_z (heading_beyond es right p leaf) (k ∷ ks) ≡ (if b then sum_z (heading_for es leaf) (k ∷ ks) else pos 0)
-  one_bundle leaf k ks b h ls e = on_side es right p leaf b (k ∷ ks) (e, with_first k b ls.0 e ks ls.1 h.1)
+  one_bundle leaf k ks b h ls e = counts es right p leaf b (k ∷ ks) (e, with_first k b ls.0 e ks ls.1 h.1)
 
   all_right : (leaf : ℕ) (bs : List (List ℕ)) → AreRanked es l bs → AllByRecursion (IsLive es l u) (concat bs)
       → AllByRecursion (HeadPasses es right p) bs
