@@ -1,5 +1,5 @@
 -- To a group and past it, by the spots on the way.
-use Rattle.std.proofs.Common.{◌≡◌, inl, inr, ℕ, suc, ◌+◌, ◌<◌, ◌≤◌, Bool, true, false, List, [], ◌∷◌, ◌++◌, map, length, take, drop, None, refl, sym, ap, ap₂, ◌∙◌, subst, arith, append_assoc, true≢false}
+use Rattle.std.proofs.Common.{◌≡◌, inl, inr, ℕ, suc, ◌+◌, ◌<◌, ◌≤◌, Bool, true, false, List, [], ◌∷◌, ◌++◌, map, length, take, drop, None, refl, sym, ap, ap₂, ◌∙◌, subst, arith, append_assoc}
 use Rattle.std.specs.Prelude.{nat_lt, if◌then◌else◌}
 use Rattle.std.specs.List.{AllByRecursion, AllZip, All}
 use Rattle.std.proofs.lemmas.List.Elements.{All-from_recursion, recursion_from_All}
@@ -29,7 +29,7 @@ use Rattle.slice_outlines.specs.Ahead.{between, HasComeTo, AreBalancedFrom}
 use Rattle.slice_outlines.proofs.Placing.{first_kept}
 use Rattle.slice_outlines.proofs.Onward.{kept_drop}
 use Rattle.slice_outlines.proofs.Grouping.{value_end, to_names, of_names}
-use Rattle.slice_outlines.proofs.Steady.{stay_passed}
+use Rattle.slice_outlines.proofs.Steady.{within, stay_passed}
 use Rattle.slice_outlines.proofs.ChangesAhead.{tail_of, head_of, there_of, first_equal}
 
 -- ---- another part, other marks
@@ -80,18 +80,6 @@ turned on passed spots run next n m ms ns given c e t s k valued come =
 left_here : (h : Height) (n m : ℕ) (ms : List Mark)
     → value_over h (between n m) ms m ≡ left_of_first (drop n h.below.now) false
 left_here h n m ms = value_end h (between n m) ms
-
-within : (h : Height) (run : Run) (ms : List Mark) (m : ℕ) → m < run.above_to
-    → value_over h run ms m ≡ (mark_at ms m).left
-within h run ms m o = by_test (nat_lt m run.above_to) (less m run.above_to o)
-  where
-    less : (i j : ℕ) → i < j → nat_lt i j ≡ true
-    less i j o = grind arith
-
-    by_test : (t : Bool) → t ≡ true
-        → (if t then (mark_at ms m).left else left_of_first (drop run.below_to h.below.now) false) ≡ (mark_at ms m).left
-    by_test true e = refl
-    by_test false e = absurd (true≢false (sym e))
 
 -- one strand that stays
 module _ (on : Onwards) (o : Open) (kept : AreKept false on.height.below.now on.below) where

@@ -10,6 +10,7 @@ mod Taking
 mod Valuing
 mod StrandSearch
 mod Placing
+mod Places
 mod Onward
 mod Covering
 mod Rounding

@@ -37,6 +37,7 @@ use Rattle.slice_outlines.specs.Places.{ins_in, outs_in}
 use Rattle.slice_outlines.specs.Heights.{Onwards, IsRunOf, MeetAcross}
 use Rattle.slice_outlines.specs.Along.{course_along, least, begun_at, value_over, LeadTo, BeginAt, AreAtPlace, HasComeOver, IsNameTo, RoundAlike}
 use Rattle.slice_outlines.proofs.Placing.{IsLike, EndsAt, RoundsTo, AreNamed, begun_ways, zip_append, all_append, first_kept, same_pass, PlacePasses, place_passes}
+use Rattle.slice_outlines.proofs.Places.{below-append, above-append, closed-append}
 
 -- ---- parts of a list
 part_then : {X : Type 0} (xs : List X) (i j : ℕ) → i ≤ j → take (j - i) (drop i xs) ++ drop j xs ≡ drop i xs
@@ -208,22 +209,6 @@ over_part h run i j ms a b c = elim (cases_lt i j) [
       ap (λ (k : ℕ). left_of_first (take k (drop i ms)) (value_over h run ms j)) none
       ∙ ap (λ (k : ℕ). value_over h run ms k) same
 ]
-
--- ---- lists of places
-below-append : (ps qs : List Place) → all_below (ps ++ qs) ≡ all_below ps ++ all_below qs
-below-append [] qs = refl
-below-append (p ∷ ps) qs = ap (λ (ss : List Strand). p.below ++ ss) (below-append ps qs)
-    ∙ sym (append_assoc p.below (all_below ps) (all_below qs))
-
-above-append : (ps qs : List Place) → all_above (ps ++ qs) ≡ all_above ps ++ all_above qs
-above-append [] qs = refl
-above-append (p ∷ ps) qs = ap (λ (ss : List Strand). p.above ++ ss) (above-append ps qs)
-    ∙ sym (append_assoc p.above (all_above ps) (all_above qs))
-
-closed-append : (ps qs : List Place) → all_closed (ps ++ qs) ≡ all_closed ps ++ all_closed qs
-closed-append [] qs = refl
-closed-append (p ∷ ps) qs = ap (λ (ws : List Way). p.closed ++ ws) (closed-append ps qs)
-    ∙ sym (append_assoc p.closed (all_closed ps) (all_closed qs))
 
 -- ---- the way along the height
 way_begun : (a b : Bool) (start s t : Spot) (o : Option ℕ)

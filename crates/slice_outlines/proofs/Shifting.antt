@@ -7,6 +7,8 @@ use Rattle.slice_sweep.specs.Changes.Tell.{none, stays, changes}
 use Rattle.slice_outlines.specs.declared.run.Run.{Run}
 use Rattle.slice_outlines.specs.Runs.{first, after}
 use Rattle.slice_outlines.specs.Cursor.{IsShifted, Fit}
+use Rattle.slice_outlines.proofs.Taking.{tell_from}
+use Rattle.slice_outlines.proofs.Counting.{Fits}
 
 -- ---- lists of groups
 below-append : (gs hs : List Group) → length (all_below (gs ++ hs)) ≡ length (all_below gs) + length (all_below hs)
@@ -22,12 +24,6 @@ above-append (g ∷ gs) hs =
     omega (arith, h, length-append g.above (all_above (gs ++ hs)), length-append g.above (all_above gs))
 
 -- ---- before a change
-tell_from : (n : ℕ) (c : Change) (cs : List Change) (gs : List Group) → Tell n (c ∷ cs) gs → n ≤ c.from
-tell_from n c cs gs (stays m ds b hs t) =
-    let h : n + 1 ≤ c.from = tell_from (n + 1) c cs hs t in
-    omega (arith, h)
-tell_from n c cs gs (changes d ds g hs e f t) = omega arith
-
 -- so many strands that stay
 stay_on : (n : ℕ) (cs : List Change) (gs : List Group) → Tell n cs gs → (a : ℕ) → a ≤ length (all_below gs)
     → ((c : Change) (later : List Change) → cs ≡ c ∷ later → (n + a ≤ c.from) × (n + a < c.from + c.gone))
@@ -219,9 +215,6 @@ shifted_by gs cs done at p next =
     }
 
 -- ---- sizes
-abbrev pub no_change : Change
-no_change = record { from = 0; gone = 0; come = 0 }
-
 pub none_next : (cs : List Change) (n : ℕ) → length cs ≤ n → (c : Change) (later : List Change)
     → drop n cs ≡ c ∷ later → ⊥
 none_next cs n h c later e =
@@ -233,10 +226,6 @@ pub is_next : (cs : List Change) (i : ℕ) (c d : Change) (later : List Change) 
 is_next cs i c d later l e h =
     let here : drop i cs ≡ get_or cs i c ∷ drop (i + 1) cs = drop_more cs i c l in
     cc
-
-pub record Fits (c : Change) (done : Run) : Type 0 where
-  pub later : done.above_to ≤ c.from
-  pub sizes : done.below_to + c.from + c.gone + c.come < 2 ^ 64
 
 pub change_fits : (gs : List Group) (cs : List Change) (i : ℕ) (c : Change) (done : Run) (at : ℕ) → i < length cs
     → c ≡ get_or cs i c → ArePassedBy gs (drop i cs) done at → length (all_below gs) < 2 ^ 32

@@ -27,6 +27,7 @@ use Rattle.slice_outlines.specs.Passing.{IsCourseOf}
 use Rattle.slice_outlines.specs.Heights.{Onwards}
 use Rattle.slice_outlines.specs.Along.{value_over, AreAtPlace, HasComeOver}
 use Rattle.slice_outlines.proofs.Placing.{all_append}
+use Rattle.slice_outlines.proofs.Places.{below-append, above-append, closed-append}
 
 -- ---- between places with one value on both sides nothing leads along the height
 none_along : (b : Bool) (s t : Spot) (o : Option ℕ) → way_along b b s t o ≡ []
@@ -85,21 +86,6 @@ next_taken {X} xs n x e =
     ∙ ap (λ (ys : List X). ys ++ drop n (take (n + 1) xs)) (sym (take-take n (n + 1) xs (omega arith)))
     ∙ take-append-drop n (take (n + 1) xs)
 
-below-append : (ps qs : List Place) → all_below (ps ++ qs) ≡ all_below ps ++ all_below qs
-below-append [] qs = refl
-below-append (p ∷ ps) qs = ap (λ (ss : List Strand). p.below ++ ss) (below-append ps qs)
-    ∙ sym (append_assoc p.below (all_below ps) (all_below qs))
-
-above-append : (ps qs : List Place) → all_above (ps ++ qs) ≡ all_above ps ++ all_above qs
-above-append [] qs = refl
-above-append (p ∷ ps) qs = ap (λ (ss : List Strand). p.above ++ ss) (above-append ps qs)
-    ∙ sym (append_assoc p.above (all_above ps) (all_above qs))
-
-closed-append : (ps qs : List Place) → all_closed (ps ++ qs) ≡ all_closed ps ++ all_closed qs
-closed-append [] qs = refl
-closed-append (p ∷ ps) qs = ap (λ (ws : List Way). p.closed ++ ws) (closed-append ps qs)
-    ∙ sym (append_assoc p.closed (all_closed ps) (all_closed qs))
-
 kept_next : (v w : Bool) (ms : List Mark) (ss : List Strand) (m : Mark) (t : Strand) → v ≡ t.left → AreKept v ms ss
     → IsKept w m t → AreKept w (ms ++ (m ∷ [])) (ss ++ (t ∷ []))
 kept_next v w [] [] m t e k h = (h, tt)
@@ -109,7 +95,7 @@ kept_next v w (n ∷ ms) (s ∷ []) m t e k h =
     (subst (λ (b : Bool). IsKept b n s) e k.0, kept_next v w ms [] m t e k.1 h)
 kept_next v w (n ∷ ms) (s ∷ (r ∷ ss)) m t e k h = (k.0, kept_next v w ms (r ∷ ss) m t e k.1 h)
 
-within : (h : Height) (run : Run) (ms : List Mark) (m : ℕ) → m < run.above_to
+pub within : (h : Height) (run : Run) (ms : List Mark) (m : ℕ) → m < run.above_to
     → value_over h run ms m ≡ (mark_at ms m).left
 within h run ms m o = by_test (nat_lt m run.above_to) (less m run.above_to o)
   where

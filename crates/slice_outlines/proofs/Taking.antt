@@ -28,7 +28,7 @@ one_new bs from i old now m o there e is =
 abbrev pub no_change : Change
 no_change = record { from = 0; gone = 0; come = 0 }
 
-tell_from : (n : ℕ) (c : Change) (cs : List Change) (gs : List Group) → Tell n (c ∷ cs) gs → n ≤ c.from
+pub tell_from : (n : ℕ) (c : Change) (cs : List Change) (gs : List Group) → Tell n (c ∷ cs) gs → n ≤ c.from
 tell_from n c cs gs (stays m ds b hs t) =
     let h : n + 1 ≤ c.from = tell_from (n + 1) c cs hs t in
     omega (arith, h)

@@ -4,7 +4,8 @@ use Rattle.std.proofs.lemmas.List.{get_or_default}
 use Rattle.slice_sweep.specs.declared.change.Change.{Change}
 use Rattle.slice_outlines.specs.declared.run.Run.{Run}
 use Rattle.slice_outlines.specs.Runs.{after}
-use Rattle.slice_outlines.proofs.Shifting.{no_change, ArePassedBy, none_passed, one_passed, shifted_by, none_next, is_next, change_fits, fit_within, above_within}
+use Rattle.slice_outlines.proofs.Taking.{no_change}
+use Rattle.slice_outlines.proofs.Shifting.{ArePassedBy, none_passed, one_passed, shifted_by, none_next, is_next, change_fits, fit_within, above_within}
 use Rattle.slice_outlines.proofs.cursor.run_before.Goals as goal
 
 pub changes-init : goal.changes-init
