@@ -42,6 +42,7 @@ use Rattle.sweep_laws.specs.Stops.{AreMet}
 use Rattle.sweep_laws.specs.Values.{AreValuedBefore, AreNewValued}
 use Rattle.sweep_laws.proofs.Balance.{CountsBeside, counts_below, counts_above, counts_first, headings_beside, all_aside}
 use Rattle.sweep_laws.proofs.Edges.{ways_give_edges}
+use Rattle.sweep_laws.proofs.LevelPieces.{later_valued}
 use Rattle.sweep_laws.proofs.Steps.{steps_lift}
 use Rattle.sweep_laws.proofs.HeightByHeight.{sweeps_go_on}
 use Rattle.slice_sweep.specs.declared.front.Front.{Front}
@@ -401,17 +402,12 @@ valued_before edges shape (t ∷ xs) ys v = (
   valued_before edges shape xs ys v.1,
 )
 
-valued_after : (edges : List LeafEdge) (shape : Shape) (xs ys : List Strand) → AreValued edges shape (xs ++ ys)
-    → AreValued edges shape ys
-valued_after edges shape [] ys v = v
-valued_after edges shape (t ∷ xs) ys v = valued_after edges shape xs ys v.1
-
 news_valued : (edges : List LeafEdge) (shape : Shape) (ps : List Place) → AreValued edges shape (placed_above ps)
     → AreNewValued edges shape ps
 news_valued edges shape [] v = tt
 news_valued edges shape (p ∷ ps) v = (
   inr (valued_before edges shape p.above (placed_above ps) v),
-  news_valued edges shape ps (valued_after edges shape p.above (placed_above ps) v),
+  news_valued edges shape ps (later_valued edges shape p.above (placed_above ps) v),
 )
 
 mets_below : (edges : List LeafEdge) (l : Level) (ps : List Place) → AllByRecursion (AreAtPlace edges l) ps

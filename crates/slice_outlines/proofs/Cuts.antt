@@ -15,6 +15,7 @@ use Rattle.scad_geom.specs.declared.level.LeafEdge.{LeafEdge}
 use Rattle.scad_geom.specs.Line.{rise}
 use Rattle.scad_geom.specs.Sign.{is_zero}
 use Rattle.scad_geom.specs.Point.{Point}
+use Rattle.scad_geom.proofs.Integers.{mul_assoc}
 use Rattle.scad_geom.proofs.Order.{front, back}
 use Rattle.winding_laws.proofs.Sameness.{cancel_mul}
 use Rattle.slice_bundles.specs.Bundles.{no_edge, edge_at}
@@ -43,7 +44,7 @@ use Rattle.slice_outlines.proofs.LevelAhead.{mark_spot}
 use Rattle.slice_outlines.proofs.GroupHeights.{HeadPasses}
 use Rattle.slice_outlines.proofs.Balancing.{balanced_by, IsFirstRight, right_part}
 use Rattle.slice_outlines.proofs.StrandSearch.{by_places, scaled_order}
-use Rattle.slice_outlines.proofs.WayCovers.{flat_rise, grouped, by_spot, past_spot, number_split}
+use Rattle.slice_outlines.proofs.WayCovers.{flat_rise, by_spot, past_spot, number_split}
 use Rattle.slice_outlines.proofs.Across.{IsClosed, left_not, weakly, by_then_left, closed_by, closed_right}
 use Rattle.slice_outlines.proofs.Apart.{IsPlaced, AreApart, at_group, in_group, all_under, all_over, of_bundles, below-append, above-append, bundle_spot}
 
@@ -253,7 +254,7 @@ module _ (h : Height) (fb fa : List Flat) (left right : List Group) (s : Spot) (
   is_flat e f y =
       let r : ℤ = pos s.run in
       let on : e.edge.a.y *ℤ s.at.d ≡ s.at.n = cancel_mul (e.edge.a.y *ℤ s.at.d) s.at.n r c.at.runs
-      (grouped e.edge.a.y s.at.d r ∙ y) in
+      (mul_assoc e.edge.a.y s.at.d r ∙ y) in
       and_from (is_zero (rise e.edge)) (int_eq (e.edge.a.y *ℤ h.at.now.d) h.at.now.n) (ap is_zero (flat_rise e.edge f))
       ((signed_Decides (e.edge.a.y *ℤ h.at.now.d) h.at.now.n).1 (subst (λ (m : Level). e.edge.a.y *ℤ m.d
       ≡ m.n) c.at.at on))

@@ -17,6 +17,7 @@ use Rattle.scad_geom.specs.Within.{IsEdgeWithin}
 use Rattle.scad_geom.specs.Level.{IsLevelWithin}
 use Rattle.scad_geom.specs.Line.{low, high, rise, run, offset, x_at}
 use Rattle.scad_geom.specs.Rounding.{half_down, IsNearest}
+use Rattle.scad_geom.proofs.Integers.{mul_assoc}
 use Rattle.scad_geom.proofs.Balance.{same_whole, same_place-is}
 use Rattle.scad_geom.proofs.Nearest.{IsNearest-half_down}
 use Rattle.scad_geom.proofs.Ring.{ring, num, ◌⊕◌, ◌⊖◌, ◌⊗◌, v0, v1, v2, v3, v4}
@@ -91,9 +92,6 @@ high_across a b g h d = ring (a ∷ b ∷ g ∷ h ∷ d ∷ [])
 times_one : (z : ℤ) → z *ℤ pos 1 ≡ z
 times_one z = ring (z ∷ []) (v0 ⊗ num (pos 1)) v0 refl
 
-up_height : (y d r : ℤ) → (y *ℤ d) *ℤ r ≡ y *ℤ (d *ℤ r)
-up_height y d r = ring (y ∷ d ∷ r ∷ []) (v0 ⊗ v1 ⊗ v2) (v0 ⊗ (v1 ⊗ v2)) refl
-
 -- a whole point whose multiples a spot's numbers are
 is_whole : (q : Point) (p : Pt) → q.x ≡ p.x *ℤ q.d → q.y ≡ p.y *ℤ q.d → is_same_point q (whole p) ≡ true
 is_whole q p x y = and_from (int_eq (q.y *ℤ pos 1) (p.y *ℤ q.d)) (int_eq (q.x *ℤ pos 1) (p.x *ℤ q.d))
@@ -118,7 +116,7 @@ module _ (e : Edge) (l : Level) (dl : pos 0 <ℤ l.d) (r : pos 0 <ℤ rise e) wh
       (ap (λ (n : ℤ). x_at e n l.d) (sym h) ∙ low_across p.x p.y q.x q.y l.d
       ∙ ap (λ (z : ℤ). p.x *ℤ (l.d *ℤ z)) (sym (size_of (rise e) r)))
       (ap (λ (n : ℤ). n *ℤ pos (unsigned_abs (rise e))) (sym h)
-      ∙ up_height p.y l.d (pos (unsigned_abs (rise e)))))
+      ∙ mul_assoc p.y l.d (pos (unsigned_abs (rise e)))))
 
   pub high_rounds : (high e).y *ℤ l.d ≡ l.n → high e ≡ rounded (point_of (spot_on e l))
   unfolding x_at run offset rise
@@ -129,4 +127,4 @@ module _ (e : Edge) (l : Level) (dl : pos 0 <ℤ l.d) (r : pos 0 <ℤ rise e) wh
       (ap (λ (n : ℤ). x_at e n l.d) (sym h) ∙ high_across p.x p.y q.x q.y l.d
       ∙ ap (λ (z : ℤ). q.x *ℤ (l.d *ℤ z)) (sym (size_of (rise e) r)))
       (ap (λ (n : ℤ). n *ℤ pos (unsigned_abs (rise e))) (sym h)
-      ∙ up_height q.y l.d (pos (unsigned_abs (rise e)))))
+      ∙ mul_assoc q.y l.d (pos (unsigned_abs (rise e)))))

@@ -11,6 +11,7 @@ use Rattle.std.proofs.lemmas.List.{append-nil, drop_all, take_all, drop_more}
 use Rattle.scad_geom.specs.declared.level.Level.{Level}
 use Rattle.scad_geom.specs.declared.level.LeafEdge.{LeafEdge}
 use Rattle.scad_geom.specs.Limits.{coordinate_limit}
+use Rattle.scad_geom.proofs.Integers.{mul_assoc}
 use Rattle.slice_bundles.specs.Bundles.{no_edge, edge_at}
 use Rattle.slice_pieces.specs.declared.piece.Spot.{Spot}
 use Rattle.slice_pieces.specs.Spots.{IsSpotWithin}
@@ -38,7 +39,7 @@ use Rattle.slice_outlines.proofs.Joining.{whole_cast}
 use Rattle.slice_outlines.proofs.EndPoints.{passing_within, passes_there}
 use Rattle.slice_outlines.proofs.GroupHeights.{HeadPasses}
 use Rattle.slice_outlines.proofs.GroupPassing.{all_named}
-use Rattle.slice_outlines.proofs.WayCovers.{grouped, all_drop}
+use Rattle.slice_outlines.proofs.WayCovers.{all_drop}
 use Rattle.slice_outlines.proofs.Fitting.{named_size}
 use Rattle.slice_outlines.proofs.Apart.{IsPlaced, at_group, below-append, above-append, below_in_order, above_in_order}
 use Rattle.slice_outlines.proofs.Cuts.{IsCutAt, whole_at}
@@ -74,7 +75,7 @@ left_of l s d at w =
     let product : l.d *ℤ pos s.run ≡ pos u = as_product s.run (unsigned_abs l.d) l.d dd in
     let less : (negsuc coordinate_limit *ℤ pos u) <ℤ s.x = farther s.x u both size in
     let same : (negsuc coordinate_limit *ℤ l.d) *ℤ pos s.run ≡ negsuc coordinate_limit *ℤ pos u =
-    grouped (negsuc coordinate_limit) l.d (pos s.run) ∙ ap (λ (z : ℤ). negsuc coordinate_limit *ℤ z) product in
+    mul_assoc (negsuc coordinate_limit) l.d (pos s.run) ∙ ap (λ (z : ℤ). negsuc coordinate_limit *ℤ z) product in
     omega (arith, ints, less, same)
 
 pub flat_left : (l : Level) (x : ℤ) → pos 0 <ℤ l.d → unsigned_abs x ≤ coordinate_limit

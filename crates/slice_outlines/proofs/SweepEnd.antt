@@ -16,6 +16,7 @@ use Rattle.scad_geom.specs.Limits.{coordinate_limit}
 use Rattle.scad_geom.specs.Line.{rise, x_at}
 use Rattle.scad_geom.specs.Level.{level_of, IsLower, IsAtMost}
 use Rattle.scad_geom.specs.Heights.{heights}
+use Rattle.scad_geom.proofs.Integers.{mul_assoc}
 use Rattle.scad_geom.proofs.Heights.{at_most_chain, lower_weak, same_at_most, heights_positive}
 use Rattle.scad_geom.proofs.Order.{back, all_ends}
 use Rattle.slice_events.specs.Levels.{IsRising, HasHeight, AreLevels}
@@ -69,7 +70,7 @@ use Rattle.slice_outlines.proofs.Cuts.{whole_at}
 use Rattle.slice_outlines.proofs.StretchWays.{IsWithin, all_sound, ends_among, tell_ways}
 use Rattle.slice_outlines.proofs.Stretching.{without_course, whole_left}
 use Rattle.slice_outlines.proofs.LevelEnds.{left_of, flat_left, product_positive, as_product}
-use Rattle.slice_outlines.proofs.WayCovers.{grouped, all_drop}
+use Rattle.slice_outlines.proofs.WayCovers.{all_drop}
 use Rattle.slice_outlines.proofs.FlatsOn.{flats_on}
 use Rattle.slice_outlines.proofs.Advancing.{all_pass, front_heads, first_most, IsOver, over_by}
 
@@ -133,7 +134,7 @@ right_of l s d at w =
     let product : l.d *ℤ pos s.run ≡ pos u = as_product s.run (unsigned_abs l.d) l.d dd in
     let less : s.x <ℤ (far_right *ℤ pos u) = nearer s.x u both size in
     let same : (far_right *ℤ l.d) *ℤ pos s.run ≡ far_right *ℤ pos u =
-    grouped far_right l.d (pos s.run) ∙ ap (λ (z : ℤ). far_right *ℤ z) product in
+    mul_assoc far_right l.d (pos s.run) ∙ ap (λ (z : ℤ). far_right *ℤ z) product in
     omega (arith, ints, less, same)
 
 flat_right : (l : Level) (x : ℤ) → pos 0 <ℤ l.d → unsigned_abs x ≤ coordinate_limit

@@ -16,8 +16,9 @@ use Rattle.scad_geom.specs.declared.level.LeafEdge.{LeafEdge}
 use Rattle.scad_geom.specs.Line.{low, high, rise}
 use Rattle.scad_geom.specs.Sign.{is_zero}
 use Rattle.scad_geom.specs.Level.{IsAtMost}
+use Rattle.scad_geom.proofs.Integers.{mul_assoc}
 use Rattle.scad_geom.proofs.Heights.{lower_then_at_most}
-use Rattle.scad_geom.proofs.Ring.{ring, num, ◌⊗◌, v0, v1, v2}
+use Rattle.scad_geom.proofs.Ring.{ring, num, ◌⊗◌, v0}
 use Rattle.slice_bundles.specs.Bundles.{no_edge, edge_at}
 use Rattle.slice_pieces.specs.declared.piece.Spot.{Spot}
 use Rattle.slice_border.specs.Pieces.{across, whole_spot, is_flat_at, covers, IsLeft}
@@ -47,9 +48,6 @@ lies_flat es f l h on = and_from (is_zero (rise (edge_at es f.number))) (int_eq 
     ((signed_Decides ((edge_at es f.number).a.y *ℤ l.d) l.n).1 (ap (λ (y : ℤ). y *ℤ l.d) h.height ∙ on))
 
 -- ---- places of whole numbers
-pub grouped : (x d r : ℤ) → (x *ℤ d) *ℤ r ≡ x *ℤ (d *ℤ r)
-grouped x d r = ring (x ∷ d ∷ r ∷ []) (v0 ⊗ v1 ⊗ v2) (v0 ⊗ (v1 ⊗ v2)) refl
-
 by_one : (z : ℤ) → z *ℤ pos 1 ≡ z
 by_one z = ring (z ∷ []) (v0 ⊗ num (pos 1)) v0 refl
 
@@ -67,27 +65,27 @@ less_not a b h k = omega (arith, ints)
 
 -- a whole number doesn't lie to the right of a spot, or to its left
 pub by_spot : (s : Spot) (x : ℤ) → (IsLeft s (whole_spot x s.at) → ⊥) → (x *ℤ (s.at.d *ℤ pos s.run)) ≤ℤ s.x
-by_spot s x h = subst (λ (z : ℤ). z ≤ℤ s.x) (grouped x s.at.d (pos s.run))
+by_spot s x h = subst (λ (z : ℤ). z ≤ℤ s.x) (mul_assoc x s.at.d (pos s.run))
     (subst (λ (z : ℤ). ((x *ℤ s.at.d) *ℤ pos s.run) ≤ℤ z) (by_one s.x)
     (not_less (s.x *ℤ pos 1) ((x *ℤ s.at.d) *ℤ pos s.run) h))
 
 pub past_spot : (s : Spot) (x : ℤ) → IsLeft s (whole_spot x s.at) → s.x <ℤ (x *ℤ (s.at.d *ℤ pos s.run))
-past_spot s x h = subst (λ (z : ℤ). s.x <ℤ z) (grouped x s.at.d (pos s.run))
+past_spot s x h = subst (λ (z : ℤ). s.x <ℤ z) (mul_assoc x s.at.d (pos s.run))
     (subst (λ (z : ℤ). z <ℤ ((x *ℤ s.at.d) *ℤ pos s.run)) (by_one s.x) h)
 
 spot_by : (s : Spot) (x : ℤ) → (x *ℤ (s.at.d *ℤ pos s.run)) ≤ℤ s.x → IsLeft s (whole_spot x s.at) → ⊥
 spot_by s x h = less_not (s.x *ℤ pos 1) ((x *ℤ s.at.d) *ℤ pos s.run)
-    (subst (λ (z : ℤ). z ≤ℤ (s.x *ℤ pos 1)) (sym (grouped x s.at.d (pos s.run)))
+    (subst (λ (z : ℤ). z ≤ℤ (s.x *ℤ pos 1)) (sym (mul_assoc x s.at.d (pos s.run)))
     (subst (λ (z : ℤ). (x *ℤ (s.at.d *ℤ pos s.run)) ≤ℤ z) (sym (by_one s.x)) h))
 
 from_spot : (t : Spot) (x : ℤ) → (IsLeft (whole_spot x t.at) t → ⊥) → t.x ≤ℤ (x *ℤ (t.at.d *ℤ pos t.run))
-from_spot t x h = subst (λ (z : ℤ). t.x ≤ℤ z) (grouped x t.at.d (pos t.run))
+from_spot t x h = subst (λ (z : ℤ). t.x ≤ℤ z) (mul_assoc x t.at.d (pos t.run))
     (subst (λ (z : ℤ). z ≤ℤ ((x *ℤ t.at.d) *ℤ pos t.run)) (by_one t.x)
     (not_less ((x *ℤ t.at.d) *ℤ pos t.run) (t.x *ℤ pos 1) h))
 
 spot_from : (t : Spot) (x : ℤ) → t.x ≤ℤ (x *ℤ (t.at.d *ℤ pos t.run)) → IsLeft (whole_spot x t.at) t → ⊥
 spot_from t x h = less_not ((x *ℤ t.at.d) *ℤ pos t.run) (t.x *ℤ pos 1)
-    (subst (λ (z : ℤ). (t.x *ℤ pos 1) ≤ℤ z) (sym (grouped x t.at.d (pos t.run)))
+    (subst (λ (z : ℤ). (t.x *ℤ pos 1) ≤ℤ z) (sym (mul_assoc x t.at.d (pos t.run)))
     (subst (λ (z : ℤ). z ≤ℤ (x *ℤ (t.at.d *ℤ pos t.run))) (sym (by_one t.x)) h))
 
 -- ---- what covers the way from a stop to the next
