@@ -18,7 +18,7 @@ use Rattle.scad_geom.specs.EdgeOrder.{IsBefore, AreAligned}
 use Rattle.slice_slab.specs.declared.passage.Passage.{Passage}
 use Rattle.slice_bundles.specs.Bundles.{edge_at, AreRanked, reaching, AreBundles}
 use Rattle.slice_bundles.specs.Joined.{joined}
-use Rattle.slice_bundles.proofs.Bundling.{Rises, HeadRises, all_later, all_aligned, precede_aligned, precede_before}
+use Rattle.slice_bundles.proofs.Bundling.{Rises, Bundled, ranked_from, alone, joins_first, comes_before}
 use Rattle.slice_bundles.proofs.Joined.{concat-joined}
 use Rattle.slice_slab.specs.Passages.{is_left, leans_left, comes_first, IsPassageOf, numbers_of, is_aligned, bundles_of, AreSorted}
 use Rattle.std.specs.Cmp.{signed_Decides}
@@ -83,14 +83,6 @@ pub sorted_from : (ps : List Passage) → IsSortedBy comes_first ps → AreSorte
 sorted_from ps h = sorted_by ps (λ k d b. let t : comes_first (get_or ps (k + 1) d) (get_or ps k d) ≡ false = h k d (omega arith) (omega arith) in rw add-one at t)
 
 -- ---- bundles of sorted passages
-record Bundled (es : List LeafEdge) (at : Level) (p : Passage) (ps : List Passage) : Type 0 where
-  ks : List ℕ
-  bs : List (List ℕ)
-  are : bundles_of (p ∷ ps) ≡ (p.number ∷ ks) ∷ bs
-  ranked : AreRanked es at ((p.number ∷ ks) ∷ bs)
-  rise_ks : AllByRecursion (Rises es) ks
-  rise_bs : AllByRecursion (HeadRises es) bs
-
 rises_of : (es : List LeafEdge) (at : Level) (p : Passage) → IsPassageOf es at p → Rises es p.number
 rises_of es at p h = subst (λ (z : ℤ). pos 0 <ℤ z) h.rise p.rises
 
@@ -99,68 +91,32 @@ not_aligned : (p q : Passage) → p.x *ℤ q.rise ≡ q.x *ℤ p.rise → p.run 
 not_aligned p q h k e = let a = (signed_Decides (p.x *ℤ q.rise) (q.x *ℤ p.rise)).1 h in let b = (signed_Decides (p.run *ℤ q.rise) (q.run *ℤ p.rise)).1 k in true≢false (sym (rw (a, b) refl) ∙ e)
 
 bundled : (es : List LeafEdge) (at : Level) (p : Passage) (ps : List Passage) → AllByRecursion (IsPassageOf es at)
-    (p ∷ ps) → AreSorted (p ∷ ps) → Bundled es at p ps
-bundled es at p [] h s = record {
-  ks = [];
-  bs = [];
-  are = refl;
-  ranked = (((tt, tt), tt), tt, tt);
-  rise_ks =
-      tt;
-  rise_bs = tt;
-}
+    (p ∷ ps) → AreSorted (p ∷ ps) → Bundled es at p.number (bundles_of (p ∷ ps))
+bundled es at p [] h s = alone es at p.number
 bundled es at p (q ∷ ps) h s =
-    let r = bundled es at q ps h.1 s.1 in
-    let hp = rises_of es at p h.0 in
-    let hq = rises_of es at q h.1.0 in
-    by_test (is_aligned p q) refl r (neighbours p q s.0) hp hq
+    by_test (is_aligned p q) refl (neighbours p q s.0) (rises_of es at p h.0) (rises_of es at q h.1.0)
+    (bundled es at q ps h.1 s.1)
   where
-    by_test : (t : Bool) → is_aligned p q ≡ t → (r : Bundled es at q ps)
+    by_test : (t : Bool) → is_aligned p q ≡ t
         → (((p.x *ℤ q.rise) <ℤ (q.x *ℤ p.rise)) ⊎ ((p.x *ℤ q.rise ≡ q.x *ℤ p.rise)
         × ((p.run *ℤ q.rise) <ℤ (q.run *ℤ p.rise))))
         ⊎ ((p.x *ℤ q.rise ≡ q.x *ℤ p.rise) × (p.run *ℤ q.rise ≡ q.run *ℤ p.rise)
         × (p.number ≤ q.number))
-        → Rises es p.number → Rises es q.number → Bundled es at p (q ∷ ps)
-    by_test true e r (inr n) hp hq =
-        let a = same_edge es at p q h.0 h.1.0 n.0 n.1 in
-        record {
-          ks = q.number ∷ r.ks;
-          bs = r.bs;
-          are = rw (e, r.are) refl;
-          ranked = (
-            (
-              ((n.2, all_later p.number q.number n.2 r.ks r.ranked.0.0.0), r.ranked.0.0),
-              (a, all_aligned es at p.number q.number hp hq a r.ks r.rise_ks r.ranked.0.1),
-            ),
-            precede_aligned es at p.number q.number hp hq a r.ks
-                r.bs r.rise_bs r.ranked.1,
-            r.ranked.2,
-          );
-          rise_ks = (hq, r.rise_ks);
-          rise_bs = r.rise_bs;
-        }
-    by_test false e r (inl n) hp hq =
-        let a = before_edge es at p q h.0 h.1.0 n in
-        record {
-          ks = [];
-          bs = (q.number ∷ r.ks) ∷ r.bs;
-          are = rw (e, r.are) refl;
-          ranked = (
-            ((tt, tt), tt),
-            (a, precede_before es at p.number q.number hp hq a r.ks r.bs r.rise_bs r.ranked.1),
-            r.ranked,
-          );
-          rise_ks = tt;
-          rise_bs = (hq, r.rise_bs);
-        }
-    by_test false e r (inr n) hp hq = absurd (not_aligned p q n.0 n.1 e)
-    by_test true e r (inl (inl n)) hp hq = let x = (signed_Decides (p.x *ℤ q.rise) (q.x *ℤ p.rise)).0 (and_parts (int_eq (p.x *ℤ q.rise) (q.x *ℤ p.rise)) (int_eq (p.run *ℤ q.rise) (q.run *ℤ p.rise)) e).0 in absurd (omega (arith, ints))
-    by_test true e r (inl (inr n)) hp hq = let n1 = n.1 in let x = (signed_Decides (p.run *ℤ q.rise) (q.run *ℤ p.rise)).0 (and_parts (int_eq (p.x *ℤ q.rise) (q.x *ℤ p.rise)) (int_eq (p.run *ℤ q.rise) (q.run *ℤ p.rise)) e).1 in absurd (omega (arith, ints))
+        → Rises es p.number → Rises es q.number → Bundled es at q.number (bundles_of (q ∷ ps))
+        → Bundled es at p.number
+        (if t then joined p.number (bundles_of (q ∷ ps)) else (p.number ∷ []) ∷ bundles_of (q ∷ ps))
+    by_test true e (inr n) hp hq r = joins_first es at p.number q.number hp hq
+        (same_edge es at p q h.0 h.1.0 n.0 n.1) n.2 (bundles_of (q ∷ ps)) r
+    by_test false e (inl n) hp hq r = comes_before es at p.number q.number hp hq (before_edge es at p q h.0 h.1.0 n)
+        (bundles_of (q ∷ ps)) r
+    by_test false e (inr n) hp hq r = absurd (not_aligned p q n.0 n.1 e)
+    by_test true e (inl (inl n)) hp hq r = let x = (signed_Decides (p.x *ℤ q.rise) (q.x *ℤ p.rise)).0 (and_parts (int_eq (p.x *ℤ q.rise) (q.x *ℤ p.rise)) (int_eq (p.run *ℤ q.rise) (q.run *ℤ p.rise)) e).0 in absurd (omega (arith, ints))
+    by_test true e (inl (inr n)) hp hq r = let n1 = n.1 in let x = (signed_Decides (p.run *ℤ q.rise) (q.run *ℤ p.rise)).0 (and_parts (int_eq (p.x *ℤ q.rise) (q.x *ℤ p.rise)) (int_eq (p.run *ℤ q.rise) (q.run *ℤ p.rise)) e).1 in absurd (omega (arith, ints))
 
 pub ranked_bundles : (es : List LeafEdge) (at : Level) (ps : List Passage) → AllByRecursion (IsPassageOf es at) ps
     → AreSorted ps → AreRanked es at (bundles_of ps)
 ranked_bundles es at [] h s = tt
-ranked_bundles es at (p ∷ ps) h s = let b = bundled es at p ps h s in subst (AreRanked es at) (sym b.are) b.ranked
+ranked_bundles es at (p ∷ ps) h s = ranked_from es at p.number (bundles_of (p ∷ ps)) (bundled es at p ps h s)
 
 pub concat-bundles : (ps : List Passage) → concat (bundles_of ps) ≡ numbers_of ps
 concat-bundles [] = refl

@@ -14,7 +14,7 @@ use Rattle.scad_geom.specs.EdgeOrder.{IsBefore, AreAligned}
 use Rattle.slice_bundles.specs.Bundles.{edge_at, AreRanked}
 use Rattle.slice_bundles.specs.KeptOrder.{IsSamePlaceAt, AllStand}
 use Rattle.slice_bundles.specs.Joined.{joined}
-use Rattle.slice_bundles.proofs.Bundling.{Rises, HeadRises, all_later, all_aligned, precede_aligned, precede_before}
+use Rattle.slice_bundles.proofs.Bundling.{Rises, Bundled, ranked_from, alone, joins_first, comes_before}
 use Rattle.slice_bundles.proofs.Joined.{concat-joined}
 use Rattle.slice_sweep.specs.declared.ray.Ray.{Ray}
 use Rattle.slice_sweep.specs.Rays.{IsRayOf, numbers_of, is_parallel, bundles_of, AreSorted}
@@ -34,14 +34,6 @@ rises_of : (es : List LeafEdge) (p : Ray) → IsRayOf es p → Rises es p.number
 rises_of es p h = subst (λ (z : ℤ). pos 0 <ℤ z) h.rise p.rises
 
 -- ---- bundles of sorted rays
-record Bundled (es : List LeafEdge) (at : Level) (p : Ray) (rs : List Ray) : Type 0 where
-  ks : List ℕ
-  bs : List (List ℕ)
-  are : bundles_of (p ∷ rs) ≡ (p.number ∷ ks) ∷ bs
-  ranked : AreRanked es at ((p.number ∷ ks) ∷ bs)
-  rise_ks : AllByRecursion (Rises es) ks
-  rise_bs : AllByRecursion (HeadRises es) bs
-
 -- each of these rays at one place with those behind it
 abbrev AreTogether : List LeafEdge → Level → List Ray → Type 0
 AreTogether es at [] = Unit {0}
@@ -49,65 +41,30 @@ AreTogether es at (p ∷ rs) =
     AllByRecursion (λ r. IsSamePlaceAt at (edge_at es p.number) (edge_at es r.number)) rs × AreTogether es at rs
 
 bundled : (es : List LeafEdge) (at : Level) (p : Ray) (rs : List Ray) → AllByRecursion (IsRayOf es) (p ∷ rs)
-    → AreTogether es at (p ∷ rs) → AreSorted (p ∷ rs) → Bundled es at p rs
-bundled es at p [] h t s = record {
-  ks = [];
-  bs = [];
-  are = refl;
-  ranked = (((tt, tt), tt), tt, tt);
-  rise_ks = tt;
-  rise_bs = tt;
-}
+    → AreTogether es at (p ∷ rs) → AreSorted (p ∷ rs) → Bundled es at p.number (bundles_of (p ∷ rs))
+bundled es at p [] h t s = alone es at p.number
 bundled es at p (q ∷ rs) h t s =
-    let r = bundled es at q rs h.1 t.1 s.1 in
-    let hp = rises_of es p h.0 in
-    let hq = rises_of es q h.1.0 in
-    by_test (is_parallel p q) refl r (neighbours p q s.0) hp hq
+    by_test (is_parallel p q) refl (neighbours p q s.0) (rises_of es p h.0) (rises_of es q h.1.0)
+    (bundled es at q rs h.1 t.1 s.1)
   where
-    by_test : (v : Bool) → is_parallel p q ≡ v → (r : Bundled es at q rs)
+    by_test : (v : Bool) → is_parallel p q ≡ v
         → ((p.run *ℤ q.rise) <ℤ (q.run *ℤ p.rise)) ⊎ ((p.run *ℤ q.rise ≡ q.run *ℤ p.rise) × (p.number ≤ q.number))
-        → Rises es p.number → Rises es q.number → Bundled es at p (q ∷ rs)
-    by_test true e r (inr n) hp hq =
-        let a = aligned_edges es at p q h.0 h.1.0 t.0.0 n.0 in
-        record {
-          ks = q.number ∷ r.ks;
-          bs = r.bs;
-          are = rw (e, r.are) refl;
-          ranked = (
-            (
-              ((n.1, all_later p.number q.number n.1 r.ks r.ranked.0.0.0), r.ranked.0.0),
-              (a, all_aligned es at p.number q.number hp hq a r.ks r.rise_ks r.ranked.0.1),
-            ),
-            precede_aligned es at p.number q.number hp hq a r.ks r.bs r.rise_bs r.ranked.1,
-            r.ranked.2,
-          );
-          rise_ks = (hq, r.rise_ks);
-          rise_bs = r.rise_bs;
-        }
-    by_test false e r (inl n) hp hq =
-        let a = before_edges es at p q h.0 h.1.0 t.0.0 n in
-        record {
-          ks = [];
-          bs = (q.number ∷ r.ks) ∷ r.bs;
-          are = rw (e, r.are) refl;
-          ranked = (
-            ((tt, tt), tt),
-            (a, precede_before es at p.number q.number hp hq a r.ks r.bs r.rise_bs r.ranked.1),
-            r.ranked,
-          );
-          rise_ks = tt;
-          rise_bs = (hq, r.rise_bs);
-        }
-    by_test false e r (inr n) hp hq =
+        → Rises es p.number → Rises es q.number → Bundled es at q.number (bundles_of (q ∷ rs))
+        → Bundled es at p.number
+        (if v then joined p.number (bundles_of (q ∷ rs)) else (p.number ∷ []) ∷ bundles_of (q ∷ rs))
+    by_test true e (inr n) hp hq r = joins_first es at p.number q.number hp hq
+        (aligned_edges es at p q h.0 h.1.0 t.0.0 n.0) n.1 (bundles_of (q ∷ rs)) r
+    by_test false e (inl n) hp hq r = comes_before es at p.number q.number hp hq
+        (before_edges es at p q h.0 h.1.0 t.0.0 n) (bundles_of (q ∷ rs)) r
+    by_test false e (inr n) hp hq r =
         absurd (true≢false (sym ((signed_Decides (p.run *ℤ q.rise) (q.run *ℤ p.rise)).1 n.0) ∙ e))
-    by_test true e r (inl n) hp hq =
+    by_test true e (inl n) hp hq r =
         let x = (signed_Decides (p.run *ℤ q.rise) (q.run *ℤ p.rise)).0 e in absurd (omega (arith, ints))
 
 ranked_bundles : (es : List LeafEdge) (at : Level) (rs : List Ray) → AllByRecursion (IsRayOf es) rs
     → AreTogether es at rs → AreSorted rs → AreRanked es at (bundles_of rs)
 ranked_bundles es at [] h t s = tt
-ranked_bundles es at (p ∷ rs) h t s =
-    let b = bundled es at p rs h t s in subst (AreRanked es at) (sym b.are) b.ranked
+ranked_bundles es at (p ∷ rs) h t s = ranked_from es at p.number (bundles_of (p ∷ rs)) (bundled es at p rs h t s)
 
 concat-bundles : (rs : List Ray) → concat (bundles_of rs) ≡ numbers_of rs
 concat-bundles [] = refl
