@@ -9,7 +9,9 @@ use scad_geom::{Edge, Pt};
 /// The least and the greatest coordinate across lines; where there is none the greatest lies below the least.
 #[derive(Clone, Copy)]
 pub struct Extent {
+    /// The least, in micrometres.
     pub low: i32,
+    /// The greatest, in micrometres.
     pub high: i32,
 }
 
