@@ -28,7 +28,7 @@ pub fn first_at(bytes: &[u8], mark: u8) -> usize
     bytes.len()
 }
 
-/// Whether each byte is a digit from `0` to `9`, which no byte at all is too.
+/// Whether each byte is a digit from `0` to `9`; of an empty text it is true.
 pub fn all_digits(text: &[u8]) -> bool
     ensures { result ≡ list_all is_ascii_digit text.now }
 {
