@@ -1,8 +1,10 @@
 -- The edges of an operation are those of its parts, one part after another, and so are the numbers of its leaves.
-use Rattle.std.proofs.Common.{◌≡◌, ◌+◌, ◌++◌, ap, sym, ◌∙◌}
+use Rattle.std.proofs.Common.{◌≡◌, ◌+◌, ◌++◌, refl, ap, sym, ◌∙◌, arith}
+use Rattle.std.proofs.lemmas.List.{append-nil}
+use Rattle.std.proofs.lemmas.Result.{IfOk-weaker}
 use Rattle.scad_tree.specs.Order.{surfaces, all_surfaces, leaves, all_leaves}
 use Rattle.scad_tree.specs.Solid.{members}
-use Rattle.scad_tree.specs.Sections.{sections_from}
+use Rattle.scad_tree.specs.Sections.{leaf_section, sections_from}
 use Rattle.scad_tree.specs.View.{solid_of, solids}
 use Rattle.scad_tree.proofs.LeafSections.{sections_append, cut_more, cut_end}
 use Rattle.scad_tree.proofs.Lines.{pieces, behind, numbered_more, numbered_end}
@@ -106,3 +108,41 @@ push_node-returns-in_ok-after-in-Inter-clause-balanced t c = c.in_ok-after-in-In
 pub push_node-returns-in_ok-after-in-Diff-clause-balanced : goal.push_node-returns-in_ok-after-in-Diff-clause-balanced
 push_node-returns-in_ok-after-in-Diff-clause-balanced t c = λ so_far.
     c.in_ok-after-in-Diff.ensures.balanced (c.in_ok-leaf-in-Diff.ensures.balanced so_far)
+
+pub push_node-returns-in-Empty-clause-edges : goal.push_node-returns-in-Empty-clause-edges
+push_node-returns-in-Empty-clause-edges t c =
+    let a = c.args in
+    sym (append-nil a.out.now.items)
+    ∙ ap (λ n. a.out.now.items ++ sections_from a.at.number a.at.height a.leaf (surfaces (solid_of n)))
+    (sym c.in-Empty.is)
+
+pub push_node-returns-in-Empty-clause-next : goal.push_node-returns-in-Empty-clause-next
+push_node-returns-in-Empty-clause-next t c =
+    omega (arith, ap (λ n. leaves (solid_of n)) c.in-Empty.is)
+
+pub push_node-returns-in_ok-push_leaf-in-Leaf-clause-edges : goal.push_node-returns-in_ok-push_leaf-in-Leaf-clause-edges
+push_node-returns-in_ok-push_leaf-in-Leaf-clause-edges t c =
+    let a = c.args in
+    IfOk-weaker c.next.result (λ n. n ≡ a.leaf + 1) _
+    (λ n after. c.in_ok-push_leaf-in-Leaf.ensures.edges
+    ∙ ap (λ es. a.out.now.items ++ es)
+    (sym (append-nil (leaf_section a.at.number a.at.height a.leaf c.in-Leaf.triangles)))
+    ∙ ap (λ n. a.out.now.items ++ sections_from a.at.number a.at.height a.leaf (surfaces (solid_of n)))
+    (sym c.in-Leaf.is)) c.next.ensures
+
+pub push_node-returns-in-Empty-clause-balanced : goal.push_node-returns-in-Empty-clause-balanced
+push_node-returns-in-Empty-clause-balanced t c = λ so_far. so_far
+
+pub push_node-returns-in_ok-push_leaf-in-Leaf-clause-balanced :
+    goal.push_node-returns-in_ok-push_leaf-in-Leaf-clause-balanced
+push_node-returns-in_ok-push_leaf-in-Leaf-clause-balanced t c =
+    IfOk-weaker c.next.result (λ n. n ≡ c.args.leaf + 1) _ (λ n after. c.in_ok-push_leaf-in-Leaf.ensures.balanced)
+    c.next.ensures
+
+pub push_node-returns-in_ok-push_leaf-in-Leaf-clause-next : goal.push_node-returns-in_ok-push_leaf-in-Leaf-clause-next
+push_node-returns-in_ok-push_leaf-in-Leaf-clause-next t c =
+    IfOk-weaker c.next.result (λ n. n ≡ c.args.leaf + 1) _
+    (λ n after. after ∙ ap (λ n. c.args.leaf + leaves (solid_of n)) (sym c.in-Leaf.is)) c.next.ensures
+
+pub push_members-loop-node-init : goal.push_members-loop-node-init
+push_members-loop-node-init t c = record { cut = refl; balanced = λ so_far. so_far; numbered = refl }
