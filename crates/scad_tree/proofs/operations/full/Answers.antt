@@ -1,5 +1,5 @@
 -- An empty member is skipped, another is kept, and at the end all members were seen.
-use Rattle.std.proofs.Common.{◌≡◌, ◌∙◌, ◌&&◌, true, false, List, [], ◌∷◌, ◌++◌, ap, ap₂, sym}
+use Rattle.std.proofs.Common.{◌≡◌, ◌∙◌, ◌&&◌, Bool, true, false, List, [], ◌∷◌, ◌++◌, ap, ap₂, sym}
 use Rattle.std.proofs.lemmas.List.{map-id}
 use Rattle.std.proofs.lemmas.List.Folds.{list_all-append}
 use Rattle.std.specs.List.{list_all}
@@ -13,12 +13,44 @@ use Rattle.scad_tree.proofs.NormalForm.{normal_kept, not_empty_skips, not_empty_
 use Rattle.scad_tree.proofs.Rows.{both}
 use Rattle.scad_tree.proofs.operations.full.Goals as goal
 
+-- an empty member
+skipped : (nodes : List Solid) (seen : List Node) (member node : Node) (empty : Bool) → node ≡ member
+    → empty ≡ is_nothing (solid_of node) → empty ≡ true
+    → (nodes ≡ not_empty (solids seen)) × (list_all is_kept nodes ≡ true)
+    → (nodes ≡ not_empty (solids (seen ++ member ∷ []))) × (list_all is_kept nodes ≡ true)
+skipped nodes seen member node empty same is said so_far = (
+  so_far.0 ∙ sym (not_empty_skips seen member (ap (λ n. is_nothing (solid_of n)) (sym same) ∙ sym is ∙ said)),
+  so_far.1,
+)
+
+pub loop-member-init : goal.loop-member-init
+loop-member-init c =
+    let none = c.new-nodes.ensures.items in (ap solids none, ap (λ ns. list_all is_kept (solids ns)) none)
+
 pub loop-member-preserved : goal.loop-member-preserved
 loop-member-preserved c =
-    let empty : is_nothing (solid_of c.in-Some.member) ≡ true = cc in (
-      c.loop-member.invariant.0 ∙ sym (not_empty_skips c.loop-member.yielded c.in-Some.member empty),
-      c.loop-member.invariant.1,
-    )
+    skipped (solids c.loop-member.nodes.items) c.loop-member.yielded c.in-Some.member c.into_node-node.result
+    c.is_empty.result c.into_node-node.ensures.same c.is_empty.ensures c.if-not-is_empty.false c.loop-member.invariant
+
+pub loop-member-preserved-else-not-is_empty : goal.loop-member-preserved-else-not-is_empty
+loop-member-preserved-else-not-is_empty c =
+    skipped (solids c.loop-member.nodes.items) c.loop-member.yielded c.in-Some.member c.into_node-node.result
+    c.is_empty.result c.into_node-node.ensures.same c.is_empty.ensures c.if-not-is_empty.false c.loop-member.invariant
+
+pub loop-member-preserved-else-not-is_empty-2 : goal.loop-member-preserved-else-not-is_empty-2
+loop-member-preserved-else-not-is_empty-2 c =
+    skipped (solids c.loop-member.nodes.items) c.loop-member.yielded c.in-Some.member c.into_node-node.result
+    c.is_empty.result c.into_node-node.ensures.same c.is_empty.ensures c.if-not-is_empty.false c.loop-member.invariant
+
+pub loop-member-preserved-else-not-is_empty-3 : goal.loop-member-preserved-else-not-is_empty-3
+loop-member-preserved-else-not-is_empty-3 c =
+    skipped (solids c.loop-member.nodes.items) c.loop-member.yielded c.in-Some.member c.into_node-node.result
+    c.is_empty.result c.into_node-node.ensures.same c.is_empty.ensures c.if-not-is_empty.false c.loop-member.invariant
+
+pub loop-member-preserved-else-not-is_empty-4 : goal.loop-member-preserved-else-not-is_empty-4
+loop-member-preserved-else-not-is_empty-4 c =
+    skipped (solids c.loop-member.nodes.items) c.loop-member.yielded c.in-Some.member c.into_node-node.result
+    c.is_empty.result c.into_node-node.ensures.same c.is_empty.ensures c.if-not-is_empty.false c.loop-member.invariant
 
 pub returns : goal.returns
 returns c =

@@ -1,10 +1,11 @@
--- The corners of one triangle more.
-use Rattle.std.proofs.Common.{◌∙◌, ap, get_or}
+-- The corners of one triangle more, and of all of them.
+use Rattle.std.proofs.Common.{◌∙◌, refl, ap, get_or}
 use Rattle.std.specs.List.{list_all}
 use Rattle.scad_geom.specs.PointRange.{is_in_range}
 use Rattle.scad_solid.specs.declared.triangle.Triangle.{Triangle}
 use Rattle.scad_tree.specs.Points.{corners_of}
-use Rattle.scad_tree.proofs.TreePoints.{corners-more, corners-range, range-both, triangle-at, three-pushed, no_triangle}
+use Rattle.scad_tree.proofs.TreePoints.{corners-more, corners-end}
+use Rattle.scad_tree.proofs.TreePoints.{corners-range, range-both, triangle-at, three-pushed, no_triangle}
 use Rattle.scad_tree.proofs.points.push_corners.Goals as goal
 
 pub triangles-preserved : goal.triangles-preserved
@@ -21,3 +22,13 @@ triangles-preserved c =
       range = ap (list_all is_in_range) all ∙ range-both old (corners_of t) c.triangles.invariant.range
           (corners-range t (triangle-at triangles i no_triangle c.requires.triangles c.triangles-test.true));
     }
+
+pub triangles-init : goal.triangles-init
+triangles-init c = record { reached = refl; range = c.requires.before }
+
+pub returns : goal.returns
+returns c = record {
+  all = corners-end c.args.triangles.now c.triangles.t-index c.triangles.out.items _ c.triangles-test.false
+      c.triangles.invariant.reached;
+  range = c.triangles.invariant.range;
+}

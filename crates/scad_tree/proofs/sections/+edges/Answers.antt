@@ -1,9 +1,12 @@
 -- The edges of an operation are those of its parts, one part after another, and so are the numbers of its leaves.
-use Rattle.std.proofs.Common.{◌≡◌, ◌+◌, ◌++◌, refl, ap, sym, ◌∙◌, arith}
+use Rattle.std.proofs.Common.{◌≡◌, ℕ, ◌+◌, List, ◌++◌, refl, ap, sym, ◌∙◌, arith}
 use Rattle.std.proofs.lemmas.List.{append-nil}
 use Rattle.std.proofs.lemmas.Result.{IfOk-weaker}
+use Rattle.scad_geom.specs.declared.level.LeafEdge.{LeafEdge}
+use Rattle.scad_solid.specs.declared.triangle.Triangle.{Triangle}
+use Rattle.scad_tree.specs.declared.node.Node.{Node, Empty}
 use Rattle.scad_tree.specs.Order.{surfaces, all_surfaces, leaves, all_leaves}
-use Rattle.scad_tree.specs.Solid.{members}
+use Rattle.scad_tree.specs.Solid.{members, surface}
 use Rattle.scad_tree.specs.Sections.{leaf_section, sections_from}
 use Rattle.scad_tree.specs.View.{solid_of, solids}
 use Rattle.scad_tree.proofs.LeafSections.{sections_append, cut_more, cut_end}
@@ -109,12 +112,21 @@ pub push_node-returns-in_ok-after-in-Diff-clause-balanced : goal.push_node-retur
 push_node-returns-in_ok-after-in-Diff-clause-balanced t c = λ so_far.
     c.in_ok-after-in-Diff.ensures.balanced (c.in_ok-leaf-in-Diff.ensures.balanced so_far)
 
+-- a node that is known to be empty or a leaf
+no_edges : (layer h leaf : ℕ) (out : List LeafEdge) (n : Node) → n ≡ Empty
+    → out ≡ out ++ sections_from layer h leaf (surfaces (solid_of n))
+no_edges layer h leaf out n is =
+    sym (append-nil out) ∙ ap (λ m. out ++ sections_from layer h leaf (surfaces (solid_of m))) (sym is)
+
+one_leaf : (layer h leaf : ℕ) (old new : List LeafEdge) (n : Node) (ts : List Triangle) → solid_of n ≡ surface ts
+    → new ≡ old ++ leaf_section layer h leaf ts → new ≡ old ++ sections_from layer h leaf (surfaces (solid_of n))
+one_leaf layer h leaf old new n ts is cut =
+    cut ∙ ap (λ es. old ++ es) (sym (append-nil (leaf_section layer h leaf ts)))
+    ∙ ap (λ s. old ++ sections_from layer h leaf (surfaces s)) (sym is)
+
 pub push_node-returns-in-Empty-clause-edges : goal.push_node-returns-in-Empty-clause-edges
 push_node-returns-in-Empty-clause-edges t c =
-    let a = c.args in
-    sym (append-nil a.out.now.items)
-    ∙ ap (λ n. a.out.now.items ++ sections_from a.at.number a.at.height a.leaf (surfaces (solid_of n)))
-    (sym c.in-Empty.is)
+    no_edges c.args.at.number c.args.at.height c.args.leaf c.args.out.now.items c.args.node.now c.in-Empty.is
 
 pub push_node-returns-in-Empty-clause-next : goal.push_node-returns-in-Empty-clause-next
 push_node-returns-in-Empty-clause-next t c =
@@ -124,11 +136,8 @@ pub push_node-returns-in_ok-push_leaf-in-Leaf-clause-edges : goal.push_node-retu
 push_node-returns-in_ok-push_leaf-in-Leaf-clause-edges t c =
     let a = c.args in
     IfOk-weaker c.next.result (λ n. n ≡ a.leaf + 1) _
-    (λ n after. c.in_ok-push_leaf-in-Leaf.ensures.edges
-    ∙ ap (λ es. a.out.now.items ++ es)
-    (sym (append-nil (leaf_section a.at.number a.at.height a.leaf c.in-Leaf.triangles)))
-    ∙ ap (λ n. a.out.now.items ++ sections_from a.at.number a.at.height a.leaf (surfaces (solid_of n)))
-    (sym c.in-Leaf.is)) c.next.ensures
+    (λ n after. one_leaf a.at.number a.at.height a.leaf a.out.now.items c.push_leaf.new.out.items a.node.now
+    c.in-Leaf.triangles (ap solid_of c.in-Leaf.is) c.in_ok-push_leaf-in-Leaf.ensures.edges) c.next.ensures
 
 pub push_node-returns-in-Empty-clause-balanced : goal.push_node-returns-in-Empty-clause-balanced
 push_node-returns-in-Empty-clause-balanced t c = λ so_far. so_far
