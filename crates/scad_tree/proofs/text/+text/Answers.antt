@@ -1,7 +1,5 @@
 -- The lines of an operation stand below its own, and its leaves are those of its parts.
-use Rattle.std.proofs.Common.{◌≡◌, ℕ, ◌+◌, List, ◌++◌, refl, ap, ap₂, sym, ◌∙◌, arith}
-use Rattle.std.proofs.lemmas.Result.{IfOk-weaker}
-use Rattle.scad_tree.specs.declared.node.Node.{Node}
+use Rattle.std.proofs.Common.{◌≡◌, ◌+◌, ◌++◌, ap, ap₂, sym, ◌∙◌}
 use Rattle.scad_tree.specs.Order.{leaves, all_leaves}
 use Rattle.scad_tree.specs.Solid.{members, difference}
 use Rattle.scad_tree.specs.Text.{line, lines, all_lines, union_name, intersection_name, difference_name}
@@ -89,33 +87,3 @@ push_members-returns-clause-text t c = written_end c.args.level c.loop-node.leaf
 pub push_members-returns-clause-next : goal.push_members-returns-clause-next
 push_members-returns-clause-next t c = numbered_end c.loop-node.leaf _ c.args.nodes.now c.loop-node.node-index
     c.loop-node-test.false c.loop-node.invariant.numbered
-
--- a node that is known to be one of no parts
-one_line : (level leaf : ℕ) (old new : List ℕ) (n known : Node) → n ≡ known
-    → new ≡ old ++ lines level leaf (solid_of known) → new ≡ old ++ lines level leaf (solid_of n)
-one_line level leaf old new n known is written = written ∙ ap (λ m. old ++ lines level leaf (solid_of m)) (sym is)
-
-pub push_node-returns-in_ok-push_empty-in-Empty-clause-text :
-    goal.push_node-returns-in_ok-push_empty-in-Empty-clause-text
-push_node-returns-in_ok-push_empty-in-Empty-clause-text t c =
-    one_line c.args.level c.args.leaf c.args.out.now.items _ c.args.node.now _ c.in-Empty.is
-    c.in_ok-push_empty-in-Empty.ensures
-
-pub push_node-returns-in_ok-push_empty-in-Empty-clause-next :
-    goal.push_node-returns-in_ok-push_empty-in-Empty-clause-next
-push_node-returns-in_ok-push_empty-in-Empty-clause-next t c =
-    omega (arith, ap (λ n. leaves (solid_of n)) c.in-Empty.is)
-
-pub push_node-returns-in_ok-push_leaf-in-Leaf-clause-text : goal.push_node-returns-in_ok-push_leaf-in-Leaf-clause-text
-push_node-returns-in_ok-push_leaf-in-Leaf-clause-text t c =
-    IfOk-weaker c.next.result (λ n. n ≡ c.args.leaf + 1) _
-    (λ n after. one_line c.args.level c.args.leaf c.args.out.now.items _ c.args.node.now _ c.in-Leaf.is
-    c.in_ok-push_leaf-in-Leaf.ensures) c.next.ensures
-
-pub push_node-returns-in_ok-push_leaf-in-Leaf-clause-next : goal.push_node-returns-in_ok-push_leaf-in-Leaf-clause-next
-push_node-returns-in_ok-push_leaf-in-Leaf-clause-next t c =
-    IfOk-weaker c.next.result (λ n. n ≡ c.args.leaf + 1) _
-    (λ n after. after ∙ ap (λ n. c.args.leaf + leaves (solid_of n)) (sym c.in-Leaf.is)) c.next.ensures
-
-pub push_members-loop-node-init : goal.push_members-loop-node-init
-push_members-loop-node-init t c = record { written = refl; numbered = refl }
