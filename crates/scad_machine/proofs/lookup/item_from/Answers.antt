@@ -1,5 +1,5 @@
 -- The item is that of the frame, or else the one that the frame round it means.
-use Rattle.std.proofs.Common.{◌≡◌, None, Some, ◌<◌, ◌≤◌, length, option_map, sym, ap, ◌∙◌, arith}
+use Rattle.std.proofs.Common.{◌≡◌, None, Some, ◌<◌, ◌≤◌, length, option_map, refl, sym, ap, ◌∙◌, arith}
 use Rattle.scad_ast.specs.Scope.{item_of}
 use Rattle.scad_scope.specs.Definitions.{item_in, word_of_kind}
 use Rattle.scad_scope.specs.FrameStore.{stored_at}
@@ -81,3 +81,26 @@ outwards-preserved c =
           (omega arith))
           ∙ c.outwards.invariant.1,
     )
+
+pub returns-in-Some-clause-there : goal.returns-in-Some-clause-there
+returns-in-Some-clause-there c =
+    let many = ap length c.outwards.invariant.0 in
+    omega (arith, c.len.ensures, many)
+
+pub outwards-init : goal.outwards-init
+outwards-init c = (refl, refl)
+
+pub returns-then-len-at-clause-same : goal.returns-then-len-at-clause-same
+returns-then-len-at-clause-same c = c.outwards.invariant.0
+
+pub returns-in_err-item-clause-same : goal.returns-in_err-item-clause-same
+returns-in_err-item-clause-same c = c.item.ensures.same ∙ c.outwards.invariant.0
+
+pub returns-in-Some-clause-same : goal.returns-in-Some-clause-same
+returns-in-Some-clause-same c = c.item.ensures.same ∙ c.outwards.invariant.0
+
+pub returns-then-at-parent-clause-same : goal.returns-then-at-parent-clause-same
+returns-then-at-parent-clause-same c = c.item.ensures.same ∙ c.outwards.invariant.0
+
+pub returns-in-None-parent-clause-same : goal.returns-in-None-parent-clause-same
+returns-in-None-parent-clause-same c = c.item.ensures.same ∙ c.outwards.invariant.0

@@ -1,11 +1,11 @@
-use Rattle.std.proofs.Common.{◌+◌, drop, ap, sym, ◌∙◌, arith}
+use Rattle.std.proofs.Common.{◌+◌, drop, ap, ap₂, sym, ◌∙◌, arith}
 use Rattle.std.specs.Vec.Iter.{into_iter_items}
 use Rattle.scad_ast.specs.View.{arguments}
 use Rattle.scad_machine.specs.View.{values_in}
-use Rattle.scad_machine.specs.Arguments.{given_from}
+use Rattle.scad_machine.specs.Arguments.{given, given_from}
 use Rattle.scad_machine.specs.Parameters.{parameter_names, unnamed_before_next, with_argument}
 use Rattle.scad_value.specs.View.{datum_of, data_of}
-use Rattle.scad_machine.proofs.Giving.{given-end, given-next, nothing-left, one-more_at_most}
+use Rattle.scad_machine.proofs.Giving.{given-end, given-next, given-past, nothing-left, one-more_at_most}
 use Rattle.scad_machine.proofs.parameters.given.Goals as goal
 
 pub returns : goal.returns
@@ -37,3 +37,19 @@ values-preserved c =
       omega (arith, c.if-at-args.false),
       c.values.invariant.3,
     )
+
+pub values-init : goal.values-init
+unfolding given
+values-init c = (
+  ap₂ (given_from (parameter_names c.args.params.now) 0 (arguments c.args.args.now))
+      (ap data_of c.into_iter-value-iterator.ensures.into_iter_gives.0) c.new-got.ensures,
+  omega arith,
+  omega arith,
+  c.in_ok-names.ensures,
+)
+
+pub returns-then-at-args : goal.returns-then-at-args
+returns-then-at-args c =
+    sym (given-past (parameter_names c.args.params.now) c.values.unnamed c.args.args.now c.values.at
+    (data_of (into_iter_items c.values.value-iterator)) (values_in c.values.got) c.if-at-args.true)
+    ∙ c.values.invariant.0

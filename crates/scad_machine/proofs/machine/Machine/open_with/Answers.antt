@@ -10,7 +10,7 @@ use Rattle.scad_machine.proofs.OpenFrames.{inner-env, inner-along, left-outer, s
 use Rattle.scad_machine.proofs.machine.Machine.open_with.Goals as goal
 
 module _ (name : List ℕ) (d : Datum) (h n o : Held) (inner : IsInner h) (none : bound_in h ≡ empty)
-  (was : outer h ≡ o) (made : n ≡ set_in_last name d h) where
+    (was : outer h ≡ o) (made : n ≡ set_in_last name d h) where
   lone-env : env_in n ≡ within (env_in o) (set_name name d empty).names
   lone-env = inner-env n (set-inner name d h n inner made)
       ∙ ap₂ (λ p b. within (env_in p) b.names) (set-outer name d h n inner made ∙ was)
