@@ -1,7 +1,10 @@
-use Rattle.std.proofs.Common.{[], ◌∷◌, ◌++◌, map, refl, ap, ap₂, ◌∙◌, arith}
+-- A name that is there is set anew, and any other one goes behind those before it; where there is no memory all stays.
+use Rattle.std.proofs.Common.{[], ◌∷◌, ◌++◌, map, refl, sym, ap, ap₂, ◌∙◌, arith}
+use Rattle.std.proofs.lemmas.Result.{err_from_is_err_and}
 use Rattle.scad_value.specs.View.{datum_of}
 use Rattle.scad_scope.specs.Names.{with_name}
 use Rattle.scad_scope.specs.FrameNames.{named}
+use Rattle.scad_bindings.specs.NamePlaces.{place_in}
 use Rattle.scad_bindings.proofs.NamePlaces.{word_in, place-told, place-untold, place-set, places-more}
 use Rattle.scad_scope.proofs.Few.{word_of, further-set, further-push}
 use Rattle.scad_scope.proofs.further_names.FurtherNames.set.Goals as goal
@@ -45,3 +48,35 @@ returns-clause-named c =
     ∙ further-push c.args.name.now c.args.value es (place-untold word_of c.args.name.now es
     (c.in_default.ensures.value ∙ c.self.invariant c.args.name.now))
     ∙ ap (λ l. with_name c.args.name.now (datum_of c.args.value) (map named l)) c.self.view_is
+
+pub invariant_of-self-in_err-reserve : goal.invariant_of-self-in_err-reserve
+invariant_of-self-in_err-reserve c =
+    λ name. c.self.invariant name ∙ ap (place_in word_of name) (sym c.in_err-reserve.ensures.items)
+
+pub returns-in_err-reserve-clause-refused : goal.returns-in_err-reserve-clause-refused
+returns-in_err-reserve-clause-refused c =
+    let p = err_from_is_err_and c.from_residual.result c.from_residual.ensures.1 in
+    rw p.1 (c.in_err-reserve.ensures.items ∙ c.self.view_is)
+
+pub invariant_of-self-in_err-key : goal.invariant_of-self-in_err-key
+invariant_of-self-in_err-key c =
+    λ name. c.self.invariant name ∙ ap (place_in word_of name) (sym c.in_ok-reserve.ensures.items)
+
+pub returns-in_err-key-clause-refused : goal.returns-in_err-key-clause-refused
+returns-in_err-key-clause-refused c =
+    let p = err_from_is_err_and c.from_residual-in_err-key.result c.from_residual-in_err-key.ensures.1 in
+    rw p.1 (c.in_ok-reserve.ensures.items ∙ c.self.view_is)
+
+pub invariant_of-self-in_err-word : goal.invariant_of-self-in_err-word
+invariant_of-self-in_err-word c =
+    λ name. c.self.invariant name ∙ ap (place_in word_of name) (sym c.in_ok-reserve.ensures.items)
+
+pub returns-in_err-word-clause-refused : goal.returns-in_err-word-clause-refused
+returns-in_err-word-clause-refused c =
+    let p = err_from_is_err_and c.from_residual-in_err-word.result c.from_residual-in_err-word.ensures.1 in
+    rw p.1 (c.in_ok-reserve.ensures.items ∙ c.self.view_is)
+
+pub returns-in_err-insert-clause-refused : goal.returns-in_err-insert-clause-refused
+returns-in_err-insert-clause-refused c =
+    let p = err_from_is_err_and c.from_residual-in_err-insert.result c.from_residual-in_err-insert.ensures.1 in
+    rw p.1 (c.in_ok-reserve.ensures.items ∙ c.self.view_is)

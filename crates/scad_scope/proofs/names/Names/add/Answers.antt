@@ -1,4 +1,6 @@
+-- A name that isn't listed goes behind those before it; where there is no memory all stays.
 use Rattle.std.proofs.Common.{[], ◌∷◌, ◌++◌, is_some, sym, ap, ◌∙◌}
+use Rattle.std.proofs.lemmas.Result.{err_from_is_err_and}
 use Rattle.scad_scope.specs.Listing.{with_listed}
 use Rattle.scad_bindings.specs.NamePlaces.{before, place_in}
 use Rattle.scad_bindings.proofs.NamePlaces.{word_in, place-unfound, places-more}
@@ -33,3 +35,35 @@ returns-clause-listed c =
     ∙ ap (λ n. is_some (place_in word_in n ws)) (sym c.in_ok-word.ensures.items))
     ∙ ap (λ n. with_listed n (words ws)) c.in_ok-word.ensures.items
     ∙ ap (with_listed c.args.name.now) c.self.view_is
+
+pub invariant_of-self : goal.invariant_of-self
+invariant_of-self c =
+    λ name. c.self.invariant name ∙ ap (place_in word_in name) (sym c.in_err-reserve.ensures.items)
+
+pub returns-in_err-reserve-clause-refused : goal.returns-in_err-reserve-clause-refused
+returns-in_err-reserve-clause-refused c =
+    let p = err_from_is_err_and c.from_residual.result c.from_residual.ensures.1 in
+    rw p.1 (ap words c.in_err-reserve.ensures.items ∙ c.self.view_is)
+
+pub invariant_of-self-in_err-word : goal.invariant_of-self-in_err-word
+invariant_of-self-in_err-word c =
+    λ name. c.self.invariant name ∙ ap (place_in word_in name) (sym c.in_ok-reserve.ensures.items)
+
+pub returns-in_err-word-clause-refused : goal.returns-in_err-word-clause-refused
+returns-in_err-word-clause-refused c =
+    let p = err_from_is_err_and c.from_residual-in_err-word.result c.from_residual-in_err-word.ensures.1 in
+    rw p.1 (ap words c.in_ok-reserve.ensures.items ∙ c.self.view_is)
+
+pub invariant_of-self-in_err-key : goal.invariant_of-self-in_err-key
+invariant_of-self-in_err-key c =
+    λ name. c.self.invariant name ∙ ap (place_in word_in name) (sym c.in_ok-reserve.ensures.items)
+
+pub returns-in_err-key-clause-refused : goal.returns-in_err-key-clause-refused
+returns-in_err-key-clause-refused c =
+    let p = err_from_is_err_and c.from_residual-in_err-key.result c.from_residual-in_err-key.ensures.1 in
+    rw p.1 (ap words c.in_ok-reserve.ensures.items ∙ c.self.view_is)
+
+pub returns-in_err-insert-clause-refused : goal.returns-in_err-insert-clause-refused
+returns-in_err-insert-clause-refused c =
+    let p = err_from_is_err_and c.from_residual-in_err-insert.result c.from_residual-in_err-insert.ensures.1 in
+    rw p.1 (ap words c.in_ok-reserve.ensures.items ∙ c.self.view_is)
