@@ -1,5 +1,6 @@
 -- The cross product by the lengths of the vectors, one number after another.
-use Rattle.std.proofs.Common.{◌≡◌, ℕ, ℤ, List, Result, Ok, Err, length, ap, ap₂, sym, ◌∙◌}
+use Rattle.std.proofs.Common.{◌≡◌, ℕ, ℤ, false, List, Result, Ok, Err, length, ◌⊎◌, inl, inr, ap, ap₂, sym, ◌∙◌}
+use Rattle.std.proofs.lemmas.Bool.{and_parts, eqb-true, false_from_ne_true}
 use Rattle.std.specs.Prelude.{◌==◌, ◌&&◌, if◌then◌else◌}
 use Rattle.scad_value.specs.Datum.{Datum, number}
 use Rattle.scad_builtin.specs.declared.fault.BuiltinFault.{BuiltinFault}
@@ -28,6 +29,24 @@ of_two a b m n = ap₂ (by_lengths (number_in (cross_entry a b 0 1)) (all_three 
 
 pub of_three : (a b : List ℤ) → length a ≡ 3 → length b ≡ 3 → cross_of a b ≡ all_three a b (cross_entry a b 1 2)
 of_three a b m n = ap₂ (by_lengths (number_in (cross_entry a b 0 1)) (all_three a b (cross_entry a b 1 2))) m n
+
+-- two lengths that aren't both this one
+unlike : (m n k : ℕ) → ((m ≡ k) × (n ≡ k → ⊥)) ⊎ (m ≡ k → ⊥) → (m == k && n == k) ≡ false
+unlike m n k either =
+    false_from_ne_true (m == k && n == k) (λ both. by either (eqb-true m k (and_parts (m == k) (n == k) both).0)
+    (eqb-true n k (and_parts (m == k) (n == k) both).1))
+  where
+    by : ((m ≡ k) × (n ≡ k → ⊥)) ⊎ (m ≡ k → ⊥) → m ≡ k → n ≡ k → ⊥
+    by (inl one) is same = one.1 same
+    by (inr other) is same = other is
+
+pub of_other : (a b : List ℤ) (m n : ℕ) → length a ≡ m → length b ≡ n → ((m ≡ 2) × (n ≡ 2 → ⊥)) ⊎ (m ≡ 2 → ⊥)
+    → ((m ≡ 3) × (n ≡ 3 → ⊥)) ⊎ (m ≡ 3 → ⊥) → cross_of a b ≡ Err BadArgument
+of_other a b m n is same two three =
+    ap₂ (by_lengths (number_in (cross_entry a b 0 1)) (all_three a b (cross_entry a b 1 2))) is same
+    ∙ ap (λ t. if t then number_in (cross_entry a b 0 1) else (if m == 3 && n == 3 then all_three a b
+    (cross_entry a b 1 2) else Err BadArgument)) (unlike m n 2 two)
+    ∙ ap (λ t. if t then all_three a b (cross_entry a b 1 2) else Err BadArgument) (unlike m n 3 three)
 
 pub with_x : (a b : List ℤ) (x : ℤ) → length a ≡ 3 → length b ≡ 3 → Ok x ≡ cross_entry a b 1 2
     → cross_of a b ≡ behind_x a b x (cross_entry a b 2 0)

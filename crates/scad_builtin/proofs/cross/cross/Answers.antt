@@ -1,11 +1,12 @@
 -- The product of two vectors of two or three numbers, up to the first fault.
 use Rattle.std.proofs.Common.{◌≡◌, ℤ, List, Ok, ap, sym, ◌∙◌, arith}
-use Rattle.std.proofs.lemmas.Result.{err_from_is_err_and, IfOk-weaker}
+use Rattle.std.proofs.lemmas.Result.{err_from_is_err_and, IfOk-weaker, IfErr-weaker}
 use Rattle.scad_value.specs.View.{elements}
 use Rattle.scad_builtin.specs.Arguments.{numbers}
 use Rattle.scad_builtin.specs.Vectors.{cross_of, triple}
 use Rattle.scad_builtin.proofs.Rows.{length_numbers}
-use Rattle.scad_builtin.proofs.Crosses.{number_in, behind_y, behind_x, all_three, of_two, of_three, with_x, with_y, with_z}
+use Rattle.scad_builtin.proofs.Crosses.{number_in, behind_y, behind_x, all_three, of_two, of_three, of_other, with_x}
+use Rattle.scad_builtin.proofs.Crosses.{with_y, with_z}
 use Rattle.scad_builtin.proofs.cross.cross.Goals as goal
 
 pub returns-in_err-cross_entry-clause-err : goal.returns-in_err-cross_entry-clause-err
@@ -59,3 +60,12 @@ returns-then-b-eq3-clause-ok c =
     (length_numbers c.args.a.now ∙ omega arith) (length_numbers c.args.b.now ∙ omega arith)
     c.in_ok-x.ensures c.in_ok-y.ensures c.in_ok-z.ensures in
     IfOk-weaker c.triple.result _ _ (λ v same. all ∙ ap Ok (sym same)) c.triple.ensures.ok
+
+pub returns-then-b-eq3-clause-err : goal.returns-then-b-eq3-clause-err
+returns-then-b-eq3-clause-err c =
+    IfErr-weaker c.triple.result _ _ (λ e memory some. absurd (some memory)) c.triple.ensures.err
+
+pub returns-clause-err : goal.returns-clause-err
+returns-clause-err c =
+    λ some. of_other (numbers (elements c.args.a.now)) (numbers (elements c.args.b.now)) _ _
+    (length_numbers c.args.a.now) (length_numbers c.args.b.now) c.else-a-eq2.either c.else-a-eq3.either
