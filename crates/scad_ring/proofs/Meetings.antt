@@ -4,14 +4,14 @@ use lib.Signed.{◌≤ℤ◌}
 use Rattle.std.specs.Prelude.{if◌then◌else◌, ◌||◌, int_le}
 use Rattle.std.proofs.lemmas.Int.{ints}
 use Rattle.std.proofs.lemmas.Bool.{and_parts}
-use Rattle.scad_base.proofs.Tests.{int_le-at_most}
+use Rattle.scad_base.proofs.Tests.{int_le-true, int_le-at_most}
 use Rattle.scad_base.proofs.Products.{positive_product}
-use Rattle.scad_geom.proofs.Signs.{at_least_mul, minus_times, square_at_least}
+use Rattle.scad_geom.proofs.Signs.{at_least_mul, square_at_least}
 use Rattle.scad_geom.proofs.Rising.{order}
-use Rattle.scad_geom.proofs.Ring.{ring, num, ◌⊕◌, ◌⊖◌, ◌⊗◌, v0, v1}
+use Rattle.scad_geom.proofs.Ring.{ring, num, ◌⊕◌, ◌⊖◌, ◌⊗◌, v0, v1, v2, v3}
 use Rattle.scad_ring.specs.Tests.{overlaps, is_size, breadth, passes}
 use Rattle.scad_ring.proofs.Convex.{Lies, cross, found, Test, gap_times}
-use Rattle.scad_ring.proofs.Octants.{End, Ends, Approach, IsSize, approach, approach_point, ends, right_line, steep_right_line, steep_left_line, left_line, right_corner, steep_right_corner, steep_left_corner, left_corner}
+use Rattle.scad_ring.proofs.Octants.{End, Ends, Approach, IsSize, approach, approach_point, ends, right_line, steep_right_line, steep_left_line, left_line, right_corner, steep_right_corner, steep_left_corner, left_corner, right_is, left_is, over_is, below_is, over_right_is, below_right_is, over_left_is, below_left_is, right_between, left_between, over_between, below_between, over_right_between, below_right_between, over_left_between, below_left_between}
 
 -- ---- tests as facts
 or_parts : (a b : Bool) → (a || b) ≡ true → (a ≡ true) ⊎ (b ≡ true)
@@ -62,6 +62,32 @@ end_least n m w ax ay bx by a b e f (inl h) = one_of (int_le (neg_ℤ w) a) (int
 end_least n m w ax ay bx by a b e f (inr h) = one_of (int_le (neg_ℤ w) a) (int_le (neg_ℤ w) b)
     (inr (int_le-at_most (neg_ℤ w) b (omega (arith, ints, h, f))))
 
+size_if : (c k : ℤ) → int_le (neg_ℤ c) k ≡ true → int_le k c ≡ true → IsSize c k
+size_if c k l m = record { least = omega (arith, ints, l); most = omega (arith, ints, m) }
+
+from_back : (c k : ℤ) → (pos 0 -ℤ c) ≤ℤ k → neg_ℤ c ≤ℤ k
+from_back c k h = omega (arith, ints)
+
+-- what the tests of an octant say
+at_most_if_not : (a b : ℤ) → int_le a b ≡ false → b ≤ℤ a
+at_most_if_not a b h = omega (arith, ints, h)
+
+back_if : (x y : ℤ) → int_le (x +ℤ y) (pos 0) ≡ true → y ≤ℤ (pos 0 -ℤ x)
+back_if x y h = omega (arith, ints, h)
+
+back_if_not : (x y : ℤ) → int_le (x +ℤ y) (pos 0) ≡ false → (pos 0 -ℤ x) ≤ℤ y
+back_if_not x y h = omega (arith, ints, h)
+
+-- how far the corners of an octant reach, as the code finds it
+right_reach : (S T x y : ℤ) → cross T (pos 0 -ℤ S) x y ≡ S *ℤ x +ℤ T *ℤ y
+right_reach S T x y = ring (S ∷ T ∷ x ∷ y ∷ []) (v1 ⊗ v3 ⊖ (num (pos 0) ⊖ v0) ⊗ v2) (v0 ⊗ v2 ⊕ v1 ⊗ v3) refl
+
+steep_reach : (S T x y : ℤ) → cross S (pos 0 -ℤ T) x y ≡ S *ℤ y +ℤ T *ℤ x
+steep_reach S T x y = ring (S ∷ T ∷ x ∷ y ∷ []) (v0 ⊗ v3 ⊖ (num (pos 0) ⊖ v1) ⊗ v2) (v0 ⊗ v3 ⊕ v1 ⊗ v2) refl
+
+reached : {c d k : ℤ} → d ≡ c → IsSize c k → IsSize d k
+reached {k = k} e h = subst (λ (z : ℤ). IsSize z k) (sym e) h
+
 module _ (S U ax ay bx by : ℤ) where
   pub facts : passes S U ax ay bx by ≡ true
       → Ends S U ax ay bx by × IsSize (breadth S (U -ℤ S) (bx -ℤ ax) (by -ℤ ay)) (cross ax ay bx by)
@@ -78,20 +104,20 @@ module _ (S U ax ay bx by : ℤ) where
       (int_le (neg_ℤ (breadth S (U -ℤ S) (bx -ℤ ax) (by -ℤ ay))) (cross ax ay bx by))
       h (λ p q r s t u v w m l. (
         record {
-          right = most_end (pos 1) (pos 0) S ax ay bx by ax bx (omega (arith, ints)) (omega (arith, ints)) p;
-          left = least_end (neg_ℤ (pos 1)) (pos 0) S ax ay bx by ax bx (omega (arith, ints)) (omega (arith, ints)) q;
-          over = most_end (pos 0) (pos 1) S ax ay bx by ay by (omega (arith, ints)) (omega (arith, ints)) r;
-          below = least_end (pos 0) (neg_ℤ (pos 1)) S ax ay bx by ay by (omega (arith, ints)) (omega (arith, ints)) s;
-          over_right = most_end (pos 1) (pos 1) U ax ay bx by (ax +ℤ ay) (bx +ℤ by) (omega (arith, ints))
-              (omega (arith, ints)) t;
+          right = most_end (pos 1) (pos 0) S ax ay bx by ax bx (right_is ax ay) (right_is bx by) p;
+          left = least_end (neg_ℤ (pos 1)) (pos 0) S ax ay bx by ax bx (left_is ax ay) (left_is bx by) q;
+          over = most_end (pos 0) (pos 1) S ax ay bx by ay by (over_is ax ay) (over_is bx by) r;
+          below = least_end (pos 0) (neg_ℤ (pos 1)) S ax ay bx by ay by (below_is ax ay) (below_is bx by) s;
+          over_right = most_end (pos 1) (pos 1) U ax ay bx by (ax +ℤ ay) (bx +ℤ by)
+              (over_right_is ax ay) (over_right_is bx by) t;
           below_left = least_end (neg_ℤ (pos 1)) (neg_ℤ (pos 1)) U ax ay bx by (ax +ℤ ay) (bx +ℤ by)
-              (omega (arith, ints)) (omega (arith, ints)) u;
-          below_right = most_end (pos 1) (neg_ℤ (pos 1)) U ax ay bx by (ax -ℤ ay) (bx -ℤ by) (omega (arith, ints))
-              (omega (arith, ints)) v;
-          over_left = least_end (neg_ℤ (pos 1)) (pos 1) U ax ay bx by (ax -ℤ ay) (bx -ℤ by) (omega (arith, ints))
-              (omega (arith, ints)) w;
+              (below_left_is ax ay) (below_left_is bx by) u;
+          below_right = most_end (pos 1) (neg_ℤ (pos 1)) U ax ay bx by (ax -ℤ ay) (bx -ℤ by)
+              (below_right_is ax ay) (below_right_is bx by) v;
+          over_left = least_end (neg_ℤ (pos 1)) (pos 1) U ax ay bx by (ax -ℤ ay) (bx -ℤ by)
+              (over_left_is ax ay) (over_left_is bx by) w;
         },
-        record { least = omega (arith, ints, l); most = omega (arith, ints, m) },
+        size_if (breadth S (U -ℤ S) (bx -ℤ ax) (by -ℤ ay)) (cross ax ay bx by) l m,
       ))
     where
       by_parts : {P : Type 0} (a b c d e f g h i j : Bool)
@@ -114,33 +140,22 @@ module _ (S U ax ay bx by : ℤ) where
       → passes S U ax ay bx by ≡ true
   unfolding overlaps is_size
   tests e l =
-      let m = l.most in
-      let n = l.least in
       rw (
-        end_most (pos 1) (pos 0) S ax ay bx by ax bx (omega (arith, ints)) (omega (arith, ints)) e.right,
-        end_least (neg_ℤ (pos 1)) (pos 0) S ax ay bx by ax bx (omega (arith, ints)) (omega (arith, ints)) e.left,
-        end_most (pos 0) (pos 1) S ax ay bx by ay by (omega (arith, ints)) (omega (arith, ints)) e.over,
-        end_least (pos 0) (neg_ℤ (pos 1)) S ax ay bx by ay by (omega (arith, ints)) (omega (arith, ints)) e.below,
-        end_most (pos 1) (pos 1) U ax ay bx by (ax +ℤ ay) (bx +ℤ by) (omega (arith, ints)) (omega (arith, ints))
+        end_most (pos 1) (pos 0) S ax ay bx by ax bx (right_is ax ay) (right_is bx by) e.right,
+        end_least (neg_ℤ (pos 1)) (pos 0) S ax ay bx by ax bx (left_is ax ay) (left_is bx by) e.left,
+        end_most (pos 0) (pos 1) S ax ay bx by ay by (over_is ax ay) (over_is bx by) e.over,
+        end_least (pos 0) (neg_ℤ (pos 1)) S ax ay bx by ay by (below_is ax ay) (below_is bx by) e.below,
+        end_most (pos 1) (pos 1) U ax ay bx by (ax +ℤ ay) (bx +ℤ by) (over_right_is ax ay) (over_right_is bx by)
             e.over_right,
-        end_least (neg_ℤ (pos 1)) (neg_ℤ (pos 1)) U ax ay bx by (ax +ℤ ay) (bx +ℤ by) (omega (arith, ints))
-            (omega (arith, ints)) e.below_left,
-        end_most (pos 1) (neg_ℤ (pos 1)) U ax ay bx by (ax -ℤ ay) (bx -ℤ by) (omega (arith, ints)) (omega (
-          arith,
-          ints,
-        ))
-            e.below_right,
-        end_least (neg_ℤ (pos 1)) (pos 1) U ax ay bx by (ax -ℤ ay) (bx -ℤ by) (omega (arith, ints)) (omega (
-          arith,
-          ints,
-        ))
-            e.over_left,
-        int_le-at_most (cross ax ay bx by) (breadth S (U -ℤ S) (bx -ℤ ax) (by -ℤ ay)) m,
-        int_le-at_most (neg_ℤ (breadth S (U -ℤ S) (bx -ℤ ax) (by -ℤ ay))) (cross ax ay bx by) (omega (
-          arith,
-          ints,
-          n,
-        )),
+        end_least (neg_ℤ (pos 1)) (neg_ℤ (pos 1)) U ax ay bx by (ax +ℤ ay) (bx +ℤ by) (below_left_is ax ay)
+            (below_left_is bx by) e.below_left,
+        end_most (pos 1) (neg_ℤ (pos 1)) U ax ay bx by (ax -ℤ ay) (bx -ℤ by) (below_right_is ax ay)
+            (below_right_is bx by) e.below_right,
+        end_least (neg_ℤ (pos 1)) (pos 1) U ax ay bx by (ax -ℤ ay) (bx -ℤ by) (over_left_is ax ay)
+            (over_left_is bx by) e.over_left,
+        int_le-at_most (cross ax ay bx by) (breadth S (U -ℤ S) (bx -ℤ ax) (by -ℤ ay)) l.most,
+        int_le-at_most (neg_ℤ (breadth S (U -ℤ S) (bx -ℤ ax) (by -ℤ ay))) (cross ax ay bx by)
+            (from_back (breadth S (U -ℤ S) (bx -ℤ ax) (by -ℤ ay)) (cross ax ay bx by) l.least),
       ) refl
 
 -- ---- the tests decide
@@ -214,6 +229,15 @@ origin_found S U ax ay bx by none slim level long e =
           omega (arith, ints, p, q);
     }
 
+first_positive : (a b : ℤ) → pos 0 <ℤ a → pos 0 ≤ℤ b → pos 0 <ℤ (a +ℤ b)
+first_positive a b h i = omega (arith, ints)
+
+last_positive : (a b : ℤ) → pos 0 ≤ℤ a → pos 0 <ℤ b → pos 0 <ℤ (a +ℤ b)
+last_positive a b h i = omega (arith, ints)
+
+same_place : (a b : ℤ) → (b -ℤ a) ≤ℤ pos 0 → pos 0 ≤ℤ (b -ℤ a) → a ≡ b
+same_place a b h i = omega (arith, ints)
+
 module _ (S U ax ay bx by : ℤ) (some : pos 0 ≤ℤ S) (wide : S ≤ℤ U) (narrow : U ≤ℤ (pos 2 *ℤ S))
     (up : pos 0 ≤ℤ (by -ℤ ay)) where
   sum_is : U ≡ S +ℤ (U -ℤ S)
@@ -225,70 +249,58 @@ module _ (S U ax ay bx by : ℤ) (some : pos 0 ≤ℤ S) (wide : S ≤ℤ U) (na
   slant_most : (U -ℤ S) ≤ℤ S
   slant_most = omega (arith, ints)
 
-  by_octant : pos 0 <ℤ S → Ends S U ax ay bx by → (t u v : Bool) → int_le (by -ℤ ay) (bx -ℤ ax) ≡ t
+  by_octant : pos 0 <ℤ S → (t u v : Bool) → int_le (by -ℤ ay) (bx -ℤ ax) ≡ t
       → int_le ((bx -ℤ ax) +ℤ (by -ℤ ay)) (pos 0) ≡ u → int_le (pos 0) (bx -ℤ ax) ≡ v
       → IsSize (if t then S *ℤ (bx -ℤ ax) +ℤ (U -ℤ S) *ℤ (by -ℤ ay)
       else (if u then (U -ℤ S) *ℤ (by -ℤ ay) -ℤ S *ℤ (bx -ℤ ax)
       else (if v then S *ℤ (by -ℤ ay) +ℤ (U -ℤ S) *ℤ (bx -ℤ ax)
       else S *ℤ (by -ℤ ay) -ℤ (U -ℤ S) *ℤ (bx -ℤ ax)))) (cross ax ay bx by)
-      → Approach S U ax ay bx by
-  by_octant pos_s e true u v p q r l =
-      let m = l.most in
-      let n = l.least in
-      let k = minus_times S (bx -ℤ ax) in
-      elim (order (bx -ℤ ax) (pos 0)) [
-        | inl h ↦ approach_point S U ax ay bx by (omega (arith, ints, p, up, h)) (omega (arith, ints, p, up, h)) e
-        | inr h ↦ approach S U ax ay bx by (U -ℤ S) (pos 0 -ℤ S)
-            (right_corner S (U -ℤ S) U sum_is pos_s slant_some slant_most ax ay bx by h up (record {
-              least = omega (arith, ints, n, k);
-              most = omega (arith, ints, m, k);
-            })) e
-      ]
-  by_octant pos_s e false true v p q r l =
+      → Ends S U ax ay bx by → Approach S U ax ay bx by
+  by_octant pos_s true u v p q r l = elim (order (bx -ℤ ax) (pos 0)) [
+    | inl h ↦ approach_point S U ax ay bx by (omega (arith, ints, p, up, h)) (omega (arith, ints, p, up, h))
+    | inr h ↦ approach S U ax ay bx by (U -ℤ S) (pos 0 -ℤ S)
+        (right_corner S (U -ℤ S) U sum_is pos_s slant_some slant_most ax ay bx by h up
+        (reached (right_reach S (U -ℤ S) (bx -ℤ ax) (by -ℤ ay)) l))
+  ]
+  by_octant pos_s false true v p q r l =
       approach S U ax ay bx by (U -ℤ S) S (left_corner S (U -ℤ S) U sum_is pos_s slant_some slant_most
-      ax ay bx by (omega (arith, ints, p, q, up)) up l) e
-  by_octant pos_s e false false true p q r l =
-      let m = l.most in
-      let n = l.least in
-      let k = minus_times (U -ℤ S) (bx -ℤ ax) in
+      ax ay bx by (omega (arith, ints, p, q, up)) up l)
+  by_octant pos_s false false true p q r l =
       approach S U ax ay bx by S (pos 0 -ℤ (U -ℤ S)) (steep_right_corner S (U -ℤ S) U sum_is pos_s slant_some
-      slant_most ax ay bx by (omega (arith, ints, r)) (omega (arith, ints, p, r)) (record {
-        least = omega (arith, ints, n, k);
-        most = omega (arith, ints, m, k);
-      })) e
-  by_octant pos_s e false false false p q r l =
+      slant_most ax ay bx by (int_le-true (pos 0) (bx -ℤ ax) r) (omega (arith, ints, p, r))
+      (reached (steep_reach S (U -ℤ S) (bx -ℤ ax) (by -ℤ ay)) l))
+  by_octant pos_s false false false p q r l =
       approach S U ax ay bx by S (U -ℤ S) (steep_left_corner S (U -ℤ S) U sum_is pos_s slant_some
-      slant_most ax ay bx by (omega (arith, ints, r)) (omega (arith, ints, q, r)) l) e
+      slant_most ax ay bx by (at_most_if_not (pos 0) (bx -ℤ ax) r) (omega (arith, ints, q, r)) l)
 
   -- an octagon of no width is the origin
+  no_slant : S ≡ pos 0 → U -ℤ S ≡ pos 0
+  no_slant none = omega (arith, ints)
+
+  no_sum : S ≡ pos 0 → U ≡ pos 0
+  no_sum none = omega (arith, ints)
+
   at_origin : S ≡ pos 0 → Ends S U ax ay bx by
       → IsSize (breadth S (U -ℤ S) (bx -ℤ ax) (by -ℤ ay)) (cross ax ay bx by) → Approach S U ax ay bx by
   at_origin none e l = by_way (order (by -ℤ ay) (pos 0)) (order (bx -ℤ ax) (pos 0)) (order (pos 0) (bx -ℤ ax))
     where
       level : cross ax ay bx by ≡ pos 0
-      level = on_line S U (bx -ℤ ax) (by -ℤ ay) (cross ax ay bx by) none (omega (arith, ints)) l
+      level = on_line S U (bx -ℤ ax) (by -ℤ ay) (cross ax ay bx by) none (no_slant none) l
 
       by_square : pos 0 <ℤ ((by -ℤ ay) *ℤ (by -ℤ ay) +ℤ (bx -ℤ ax) *ℤ (bx -ℤ ax))
           → Approach S U ax ay bx by
-      by_square p = origin_found S U ax ay bx by none (omega (arith, ints)) level p e
+      by_square p = origin_found S U ax ay bx by none (no_sum none) level p e
 
       by_way : ((by -ℤ ay) ≤ℤ pos 0) ⊎ (pos 0 <ℤ (by -ℤ ay))
           → ((bx -ℤ ax) ≤ℤ pos 0) ⊎ (pos 0 <ℤ (bx -ℤ ax))
           → (pos 0 ≤ℤ (bx -ℤ ax)) ⊎ ((bx -ℤ ax) <ℤ pos 0) → Approach S U ax ay bx by
-      by_way (inr h) k i =
-          let p = positive_product (by -ℤ ay) (by -ℤ ay) h h in
-          let q = square_at_least (bx -ℤ ax) in
-          by_square (omega (arith, ints, p, q))
-      by_way (inl h) (inr k) i =
-          let p = positive_product (bx -ℤ ax) (bx -ℤ ax) k k in
-          let q = square_at_least (by -ℤ ay) in
-          by_square (omega (arith, ints, p, q))
-      by_way (inl h) (inl k) (inr i) =
-          let p = square_positive (bx -ℤ ax) i in
-          let q = square_at_least (by -ℤ ay) in
-          by_square (omega (arith, ints, p, q))
-      by_way (inl h) (inl k) (inl i) = approach_point S U ax ay bx by (omega (arith, ints, k, i))
-          (omega (arith, ints, h, up)) e
+      by_way (inr h) k i = by_square (first_positive _ _ (positive_product (by -ℤ ay) (by -ℤ ay) h h)
+          (square_at_least (bx -ℤ ax)))
+      by_way (inl h) (inr k) i = by_square (last_positive _ _ (square_at_least (by -ℤ ay))
+          (positive_product (bx -ℤ ax) (bx -ℤ ax) k k))
+      by_way (inl h) (inl k) (inr i) = by_square (last_positive _ _ (square_at_least (by -ℤ ay))
+          (square_positive (bx -ℤ ax) i))
+      by_way (inl h) (inl k) (inl i) = approach_point S U ax ay bx by (same_place ax bx k i) (same_place ay by h up) e
 
   pub approach_if_passes : passes S U ax ay bx by ≡ true → Approach S U ax ay bx by
   unfolding breadth
@@ -296,9 +308,9 @@ module _ (S U ax ay bx by : ℤ) (some : pos 0 ≤ℤ S) (wide : S ≤ℤ U) (na
       let f = facts S U ax ay bx by h in
       elim (order S (pos 0)) [
         | inl k ↦ at_origin (omega (arith, ints, k, some)) f.0 f.1
-        | inr k ↦ by_octant k f.0 (int_le (by -ℤ ay) (bx -ℤ ax)) (int_le ((bx -ℤ ax) +ℤ (by -ℤ ay)) (pos 0))
+        | inr k ↦ by_octant k (int_le (by -ℤ ay) (bx -ℤ ax)) (int_le ((bx -ℤ ax) +ℤ (by -ℤ ay)) (pos 0))
             (int_le (pos 0)
-            (bx -ℤ ax)) refl refl refl f.1
+            (bx -ℤ ax)) refl refl refl f.1 f.0
       ]
 
   line_if : Approach S U ax ay bx by → (t u v : Bool) → int_le (by -ℤ ay) (bx -ℤ ax) ≡ t
@@ -307,21 +319,15 @@ module _ (S U ax ay bx by : ℤ) (some : pos 0 ≤ℤ S) (wide : S ≤ℤ U) (na
       else (if u then (U -ℤ S) *ℤ (by -ℤ ay) -ℤ S *ℤ (bx -ℤ ax)
       else (if v then S *ℤ (by -ℤ ay) +ℤ (U -ℤ S) *ℤ (bx -ℤ ax)
       else S *ℤ (by -ℤ ay) -ℤ (U -ℤ S) *ℤ (bx -ℤ ax)))) (cross ax ay bx by)
-  line_if a true u v p q r =
-      let l = right_line S (U -ℤ S) U sum_is ax ay bx by a up (omega (arith, ints, p)) in
-      let m = l.most in
-      let n = l.least in
-      let k = minus_times S (bx -ℤ ax) in
-      record { least = omega (arith, ints, n, k); most = omega (arith, ints, m, k) }
-  line_if a false true v p q r = left_line S (U -ℤ S) U sum_is ax ay bx by a up (omega (arith, ints, q))
-  line_if a false false true p q r =
-      let l = steep_right_line S (U -ℤ S) U sum_is ax ay bx by a (omega (arith, ints, r)) (omega (arith, ints, p)) in
-      let m = l.most in
-      let n = l.least in
-      let k = minus_times (U -ℤ S) (bx -ℤ ax) in
-      record { least = omega (arith, ints, n, k); most = omega (arith, ints, m, k) }
-  line_if a false false false p q r = steep_left_line S (U -ℤ S) U sum_is ax ay bx by a (omega (arith, ints, r))
-      (omega (arith, ints, q))
+  line_if a true u v p q r = reached (sym (right_reach S (U -ℤ S) (bx -ℤ ax) (by -ℤ ay)))
+      (right_line S (U -ℤ S) U sum_is ax ay bx by a up (int_le-true (by -ℤ ay) (bx -ℤ ax) p))
+  line_if a false true v p q r =
+      left_line S (U -ℤ S) U sum_is ax ay bx by a up (back_if (bx -ℤ ax) (by -ℤ ay) q)
+  line_if a false false true p q r = reached (sym (steep_reach S (U -ℤ S) (bx -ℤ ax) (by -ℤ ay)))
+      (steep_right_line S (U -ℤ S) U sum_is ax ay bx by a (int_le-true (pos 0) (bx -ℤ ax) r)
+      (at_most_if_not (by -ℤ ay) (bx -ℤ ax) p))
+  line_if a false false false p q r = steep_left_line S (U -ℤ S) U sum_is ax ay bx by a
+      (at_most_if_not (pos 0) (bx -ℤ ax) r) (back_if_not (bx -ℤ ax) (by -ℤ ay) q)
 
   pub passes_if_approach : Approach S U ax ay bx by → passes S U ax ay bx by ≡ true
   unfolding breadth
@@ -350,36 +356,32 @@ module _ (S U K L ax ay bx by : ℤ) where
   pub narrow : (K ≡ S) ⊎ (K ≡ U) → (L ≡ U) ⊎ (L ≡ pos 2 *ℤ S) → Approach S U ax ay bx by
       → Approach K L ax ay bx by
   narrow h i a =
-      let right = a.right in
-      let left = a.left in
-      let over = a.over in
-      let below = a.below in
-      let over_right = a.over_right in
-      let below_right = a.below_right in
-      let over_left = a.over_left in
-      let below_left = a.below_left in
-      let e = twice_times S (a.s +ℤ a.t) in
+      let x = a.s *ℤ ax +ℤ a.t *ℤ bx in
+      let y = a.s *ℤ ay +ℤ a.t *ℤ by in
+      let w = a.s +ℤ a.t in
+      let e = twice_times S w in
       record {
         s = a.s;
         t = a.t;
         from = a.from;
         to = a.to;
         some = a.some;
-        right = pick (pos 1) (pos 0) S U K a.s a.t ax ay bx by h right
-            (omega (arith, ints, over_right, below_right));
-        left = pick (neg_ℤ (pos 1)) (pos 0) S U K a.s a.t ax ay bx by h left
-            (omega (arith, ints, over_left, below_left));
-        over = pick (pos 0) (pos 1) S U K a.s a.t ax ay bx by h over (omega (arith, ints, over_right, over_left));
-        below = pick (pos 0) (neg_ℤ (pos 1)) S U K a.s a.t ax ay bx by h below
-            (omega (arith, ints, below_right, below_left));
-        over_right = pick (pos 1) (pos 1) U (pos 2 *ℤ S) L a.s a.t ax ay bx by i over_right
-            (omega (arith, ints, over, right, e));
-        below_right = pick (pos 1) (neg_ℤ (pos 1)) U (pos 2 *ℤ S) L a.s a.t ax ay bx by i below_right
-            (omega (arith, ints, below, right, e));
-        over_left = pick (neg_ℤ (pos 1)) (pos 1) U (pos 2 *ℤ S) L a.s a.t ax ay bx by i over_left
-            (omega (arith, ints, over, left, e));
-        below_left = pick (neg_ℤ (pos 1)) (neg_ℤ (pos 1)) U (pos 2 *ℤ S) L a.s a.t ax ay bx by i below_left
-            (omega (arith, ints, below, left, e));
+        right = pick (pos 1) (pos 0) S U K a.s a.t ax ay bx by h a.right
+            (right_between x y (U *ℤ w) a.over_right a.below_right);
+        left = pick (neg_ℤ (pos 1)) (pos 0) S U K a.s a.t ax ay bx by h a.left
+            (left_between x y (U *ℤ w) a.over_left a.below_left);
+        over = pick (pos 0) (pos 1) S U K a.s a.t ax ay bx by h a.over
+            (over_between x y (U *ℤ w) a.over_right a.over_left);
+        below = pick (pos 0) (neg_ℤ (pos 1)) S U K a.s a.t ax ay bx by h a.below
+            (below_between x y (U *ℤ w) a.below_right a.below_left);
+        over_right = pick (pos 1) (pos 1) U (pos 2 *ℤ S) L a.s a.t ax ay bx by i a.over_right
+            (over_right_between x y (S *ℤ w) ((pos 2 *ℤ S) *ℤ w) e a.over a.right);
+        below_right = pick (pos 1) (neg_ℤ (pos 1)) U (pos 2 *ℤ S) L a.s a.t ax ay bx by i a.below_right
+            (below_right_between x y (S *ℤ w) ((pos 2 *ℤ S) *ℤ w) e a.below a.right);
+        over_left = pick (neg_ℤ (pos 1)) (pos 1) U (pos 2 *ℤ S) L a.s a.t ax ay bx by i a.over_left
+            (over_left_between x y (S *ℤ w) ((pos 2 *ℤ S) *ℤ w) e a.over a.left);
+        below_left = pick (neg_ℤ (pos 1)) (neg_ℤ (pos 1)) U (pos 2 *ℤ S) L a.s a.t ax ay bx by i a.below_left
+            (below_left_between x y (S *ℤ w) ((pos 2 *ℤ S) *ℤ w) e a.below a.left);
       }
 
   pub widen : K ≤ℤ S → L ≤ℤ U → Approach K L ax ay bx by → Approach S U ax ay bx by

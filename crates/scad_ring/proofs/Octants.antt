@@ -1,6 +1,6 @@
 -- Where a segment that doesn't fall meets the octagon of half width S and half sum U = S + T, in each of the four
 -- octants of its direction.
-use Rattle.std.proofs.Common.{◌≡◌, ◌⊎◌, inl, inr, [], ◌∷◌, refl, sym, subst, arith, ℤ, pos, neg_ℤ, ◌+ℤ◌, ◌-ℤ◌, ◌*ℤ◌, ◌<ℤ◌}
+use Rattle.std.proofs.Common.{◌≡◌, ◌⊎◌, inl, inr, [], ◌∷◌, refl, sym, subst, ◌∙◌, arith, ℤ, pos, neg_ℤ, ◌+ℤ◌, ◌-ℤ◌, ◌*ℤ◌, ◌<ℤ◌}
 use lib.Signed.{◌≤ℤ◌}
 use Rattle.std.proofs.lemmas.Int.{ints}
 use Rattle.scad_base.proofs.Products.{positive_product}
@@ -68,6 +68,75 @@ size_product r c x k h i =
     sum_is = ring (r ∷ c ∷ x ∷ k ∷ []) ((v1 ⊖ v3) ⊗ (v0 ⊕ v2) ⊕ (v1 ⊕ v3) ⊗ (v0 ⊖ v2))
         (num (pos 2) ⊗ (v1 ⊗ v0 ⊖ v2 ⊗ v3)) refl
 
+-- ---- the value of each half plane at a point
+pub right_is : (x y : ℤ) → pos 1 *ℤ x +ℤ pos 0 *ℤ y ≡ x
+right_is x y = omega (arith, ints)
+
+pub left_is : (x y : ℤ) → neg_ℤ (pos 1) *ℤ x +ℤ pos 0 *ℤ y ≡ pos 0 -ℤ x
+left_is x y = omega (arith, ints)
+
+pub over_is : (x y : ℤ) → pos 0 *ℤ x +ℤ pos 1 *ℤ y ≡ y
+over_is x y = omega (arith, ints)
+
+pub below_is : (x y : ℤ) → pos 0 *ℤ x +ℤ neg_ℤ (pos 1) *ℤ y ≡ pos 0 -ℤ y
+below_is x y = omega (arith, ints)
+
+pub over_right_is : (x y : ℤ) → pos 1 *ℤ x +ℤ pos 1 *ℤ y ≡ x +ℤ y
+over_right_is x y = omega (arith, ints)
+
+pub below_right_is : (x y : ℤ) → pos 1 *ℤ x +ℤ neg_ℤ (pos 1) *ℤ y ≡ x -ℤ y
+below_right_is x y = omega (arith, ints)
+
+pub over_left_is : (x y : ℤ) → neg_ℤ (pos 1) *ℤ x +ℤ pos 1 *ℤ y ≡ pos 0 -ℤ (x -ℤ y)
+over_left_is x y = omega (arith, ints)
+
+pub below_left_is : (x y : ℤ) → neg_ℤ (pos 1) *ℤ x +ℤ neg_ℤ (pos 1) *ℤ y ≡ pos 0 -ℤ (x +ℤ y)
+below_left_is x y = omega (arith, ints)
+
+-- a half plane along an axis holds what the two beside it hold
+pub right_between : (x y z : ℤ) → (pos 1 *ℤ x +ℤ pos 1 *ℤ y) ≤ℤ z → (pos 1 *ℤ x +ℤ neg_ℤ (pos 1) *ℤ y) ≤ℤ z
+    → (pos 1 *ℤ x +ℤ pos 0 *ℤ y) ≤ℤ z
+right_between x y z h i = omega (arith, ints)
+
+pub left_between : (x y z : ℤ) → (neg_ℤ (pos 1) *ℤ x +ℤ pos 1 *ℤ y) ≤ℤ z
+    → (neg_ℤ (pos 1) *ℤ x +ℤ neg_ℤ (pos 1) *ℤ y) ≤ℤ z → (neg_ℤ (pos 1) *ℤ x +ℤ pos 0 *ℤ y) ≤ℤ z
+left_between x y z h i = omega (arith, ints)
+
+pub over_between : (x y z : ℤ) → (pos 1 *ℤ x +ℤ pos 1 *ℤ y) ≤ℤ z → (neg_ℤ (pos 1) *ℤ x +ℤ pos 1 *ℤ y) ≤ℤ z
+    → (pos 0 *ℤ x +ℤ pos 1 *ℤ y) ≤ℤ z
+over_between x y z h i = omega (arith, ints)
+
+pub below_between : (x y z : ℤ) → (pos 1 *ℤ x +ℤ neg_ℤ (pos 1) *ℤ y) ≤ℤ z
+    → (neg_ℤ (pos 1) *ℤ x +ℤ neg_ℤ (pos 1) *ℤ y) ≤ℤ z → (pos 0 *ℤ x +ℤ neg_ℤ (pos 1) *ℤ y) ≤ℤ z
+below_between x y z h i = omega (arith, ints)
+
+-- and one beside two along the axes holds what these hold, at twice the distance
+pub over_right_between : (x y z w : ℤ) → w ≡ pos 2 *ℤ z → (pos 0 *ℤ x +ℤ pos 1 *ℤ y) ≤ℤ z
+    → (pos 1 *ℤ x +ℤ pos 0 *ℤ y) ≤ℤ z → (pos 1 *ℤ x +ℤ pos 1 *ℤ y) ≤ℤ w
+over_right_between x y z w e h i = omega (arith, ints)
+
+pub below_right_between : (x y z w : ℤ) → w ≡ pos 2 *ℤ z → (pos 0 *ℤ x +ℤ neg_ℤ (pos 1) *ℤ y) ≤ℤ z
+    → (pos 1 *ℤ x +ℤ pos 0 *ℤ y) ≤ℤ z → (pos 1 *ℤ x +ℤ neg_ℤ (pos 1) *ℤ y) ≤ℤ w
+below_right_between x y z w e h i = omega (arith, ints)
+
+pub over_left_between : (x y z w : ℤ) → w ≡ pos 2 *ℤ z → (pos 0 *ℤ x +ℤ pos 1 *ℤ y) ≤ℤ z
+    → (neg_ℤ (pos 1) *ℤ x +ℤ pos 0 *ℤ y) ≤ℤ z → (neg_ℤ (pos 1) *ℤ x +ℤ pos 1 *ℤ y) ≤ℤ w
+over_left_between x y z w e h i = omega (arith, ints)
+
+pub below_left_between : (x y z w : ℤ) → w ≡ pos 2 *ℤ z → (pos 0 *ℤ x +ℤ neg_ℤ (pos 1) *ℤ y) ≤ℤ z
+    → (neg_ℤ (pos 1) *ℤ x +ℤ pos 0 *ℤ y) ≤ℤ z → (neg_ℤ (pos 1) *ℤ x +ℤ neg_ℤ (pos 1) *ℤ y) ≤ℤ w
+below_left_between x y z w e h i = omega (arith, ints)
+
+-- the mirror image of a number has its size
+mirrored : (c k : ℤ) → IsSize c k → IsSize c (pos 0 -ℤ k)
+mirrored c k h =
+    let l = h.least in
+    let m = h.most in
+    record { least = omega (arith, ints); most = omega (arith, ints) }
+
+sized : (c k z : ℤ) → z ≡ k → IsSize c k → IsSize c z
+sized c k z e h = subst (IsSize c) (sym e) h
+
 module _ (S U ax ay bx by : ℤ) where
   test_of : (n m c vx vy : ℤ) → End n m c ax ay bx by
       → IsSize (cross vx vy (bx -ℤ ax) (by -ℤ ay)) (cross ax ay bx by) → IsSize c (n *ℤ vx +ℤ m *ℤ vy)
@@ -78,52 +147,28 @@ module _ (S U ax ay bx by : ℤ) where
   pub approach : (vx vy : ℤ) → Corner S U vx vy ax ay bx by → Ends S U ax ay bx by → Approach S U ax ay bx by
   approach vx vy k e =
       let f = found ax ay bx by vx vy k.broad in
-      let xl = k.across.least in
-      let xm = k.across.most in
-      let yl = k.upwards.least in
-      let ym = k.upwards.most in
-      let sl = k.sum.least in
-      let sm = k.sum.most in
-      let dl = k.difference.least in
-      let dm = k.difference.most in
       record {
         s = f.s;
         t = f.t;
         from = f.from;
         to = f.to;
         some = f.some;
-        right = f.holds _ _ _ (test_of (pos 1) (pos 0) S vx vy e.right k.line (record {
-          least = omega (arith, ints);
-          most = omega (arith, ints);
-        }));
-        left = f.holds _ _ _ (test_of (neg_ℤ (pos 1)) (pos 0) S vx vy e.left k.line (record {
-          least = omega (arith, ints);
-          most = omega (arith, ints);
-        }));
-        over = f.holds _ _ _ (test_of (pos 0) (pos 1) S vx vy e.over k.line (record {
-          least = omega (arith, ints);
-          most = omega (arith, ints);
-        }));
-        below = f.holds _ _ _ (test_of (pos 0) (neg_ℤ (pos 1)) S vx vy e.below k.line (record {
-          least = omega (arith, ints);
-          most = omega (arith, ints);
-        }));
-        over_right = f.holds _ _ _ (test_of (pos 1) (pos 1) U vx vy e.over_right k.line (record {
-          least = omega (arith, ints);
-          most = omega (arith, ints);
-        }));
-        below_right = f.holds _ _ _ (test_of (pos 1) (neg_ℤ (pos 1)) U vx vy e.below_right k.line (record {
-          least = omega (arith, ints);
-          most = omega (arith, ints);
-        }));
-        over_left = f.holds _ _ _ (test_of (neg_ℤ (pos 1)) (pos 1) U vx vy e.over_left k.line (record {
-          least = omega (arith, ints);
-          most = omega (arith, ints);
-        }));
-        below_left = f.holds _ _ _ (test_of (neg_ℤ (pos 1)) (neg_ℤ (pos 1)) U vx vy e.below_left k.line (record {
-          least = omega (arith, ints);
-          most = omega (arith, ints);
-        }));
+        right = f.holds _ _ _ (test_of (pos 1) (pos 0) S vx vy e.right k.line
+            (sized S vx _ (right_is vx vy) k.across));
+        left = f.holds _ _ _ (test_of (neg_ℤ (pos 1)) (pos 0) S vx vy e.left k.line
+            (sized S (pos 0 -ℤ vx) _ (left_is vx vy) (mirrored S vx k.across)));
+        over = f.holds _ _ _ (test_of (pos 0) (pos 1) S vx vy e.over k.line
+            (sized S vy _ (over_is vx vy) k.upwards));
+        below = f.holds _ _ _ (test_of (pos 0) (neg_ℤ (pos 1)) S vx vy e.below k.line
+            (sized S (pos 0 -ℤ vy) _ (below_is vx vy) (mirrored S vy k.upwards)));
+        over_right = f.holds _ _ _ (test_of (pos 1) (pos 1) U vx vy e.over_right k.line
+            (sized U (vx +ℤ vy) _ (over_right_is vx vy) k.sum));
+        below_right = f.holds _ _ _ (test_of (pos 1) (neg_ℤ (pos 1)) U vx vy e.below_right k.line
+            (sized U (vx -ℤ vy) _ (below_right_is vx vy) k.difference));
+        over_left = f.holds _ _ _ (test_of (neg_ℤ (pos 1)) (pos 1) U vx vy e.over_left k.line
+            (sized U (pos 0 -ℤ (vx -ℤ vy)) _ (over_left_is vx vy) (mirrored U (vx -ℤ vy) k.difference)));
+        below_left = f.holds _ _ _ (test_of (neg_ℤ (pos 1)) (neg_ℤ (pos 1)) U vx vy e.below_left k.line
+            (sized U (pos 0 -ℤ (vx +ℤ vy)) _ (below_left_is vx vy) (mirrored U (vx +ℤ vy) k.sum)));
       }
 
   -- of a point, its tests are those of its place
@@ -168,25 +213,64 @@ module _ (S U ax ay bx by : ℤ) where
 abbrev pub Passes : ℤ → ℤ → ℤ → ℤ → ℤ → ℤ → Type 0
 Passes vx vy ax ay bx by = IsSize (cross vx vy (bx -ℤ ax) (by -ℤ ay)) (cross ax ay bx by)
 
+-- ---- the parts of a way along two borders
+first_part : (f g : ℤ) → f *ℤ pos 1 +ℤ g *ℤ pos 0 ≡ f
+first_part f g = omega (arith, ints)
+
+last_part : (f g : ℤ) → f *ℤ pos 0 +ℤ g *ℤ pos 1 ≡ g
+last_part f g = omega (arith, ints)
+
+both_parts : (f g z : ℤ) → f +ℤ g ≡ z → f *ℤ pos 1 +ℤ g *ℤ pos 1 ≡ z
+both_parts f g z e = omega (arith, ints)
+
+first_part_back : (f g : ℤ) → f *ℤ neg_ℤ (pos 1) +ℤ g *ℤ pos 0 ≡ pos 0 -ℤ f
+first_part_back f g = omega (arith, ints)
+
+last_part_back : (f g : ℤ) → f *ℤ pos 0 +ℤ g *ℤ neg_ℤ (pos 1) ≡ pos 0 -ℤ g
+last_part_back f g = omega (arith, ints)
+
+both_parts_back : (f g z : ℤ) → f +ℤ g ≡ z → f *ℤ neg_ℤ (pos 1) +ℤ g *ℤ neg_ℤ (pos 1) ≡ pos 0 -ℤ z
+both_parts_back f g z e = omega (arith, ints)
+
+twice_back : (z : ℤ) → pos 0 -ℤ (pos 0 -ℤ z) ≡ z
+twice_back z = omega (arith, ints)
+
+gap_from : (a b : ℤ) → a ≤ℤ b → pos 0 ≤ℤ (b -ℤ a)
+gap_from a b h = omega (arith, ints)
+
+back_from : (a : ℤ) → a ≤ℤ pos 0 → pos 0 ≤ℤ (pos 0 -ℤ a)
+back_from a h = omega (arith, ints)
+
+less_and_back : (x y : ℤ) → (x -ℤ y) +ℤ y ≡ x
+less_and_back x y = omega (arith, ints)
+
+on_to : (x y : ℤ) → x +ℤ (y -ℤ x) ≡ y
+on_to x y = omega (arith, ints)
+
+on_and_back : (x y : ℤ) → (y +ℤ x) +ℤ (pos 0 -ℤ x) ≡ y
+on_and_back x y = omega (arith, ints)
+
+from_back : (x y : ℤ) → (pos 0 -ℤ x) ≤ℤ y → pos 0 ≤ℤ (y +ℤ x)
+from_back x y h = omega (arith, ints)
+
+-- a bound of a number and of its mirror image
+size_by : (r q k : ℤ) → q ≡ r → k ≤ℤ q → (pos 0 -ℤ k) ≤ℤ q → IsSize r k
+size_by r q k e m l = record { least = omega (arith, ints); most = omega (arith, ints) }
+
 module _ (S T U : ℤ) (sum : U ≡ S +ℤ T) (ax ay bx by : ℤ) (a : Approach S U ax ay bx by) where
   -- nearer to the right than upwards
   pub right_line : pos 0 ≤ℤ (by -ℤ ay) → (by -ℤ ay) ≤ℤ (bx -ℤ ax)
       → Passes T (pos 0 -ℤ S) ax ay bx by
   right_line up flat =
-      let m = beside a.s a.t a.from a.to a.some ax ay bx by (pos 0) (neg_ℤ (pos 1)) S (pos 1) (neg_ℤ (pos 1)) U
-      ((bx -ℤ ax) -ℤ (by -ℤ ay)) (by -ℤ ay) (omega (arith, ints)) up (omega (arith, ints)) (omega (
-        arith,
-        ints,
-      )) a.below
-      a.below_right in
-      let l = beside_back a.s a.t a.from a.to a.some ax ay bx by (pos 0) (pos 1) S (neg_ℤ (pos 1)) (pos 1) U
-      ((bx -ℤ ax) -ℤ (by -ℤ ay)) (by -ℤ ay) (omega (arith, ints)) up (omega (arith, ints)) (omega (
-        arith,
-        ints,
-      )) a.over
-      a.over_left in
-      let e = reach_is (bx -ℤ ax) (by -ℤ ay) in
-      record { least = omega (arith, ints, l, e); most = omega (arith, ints, m, e) }
+      let x = bx -ℤ ax in
+      let y = by -ℤ ay in
+      size_by _ _ _ (reach_is x y)
+      (beside a.s a.t a.from a.to a.some ax ay bx by (pos 0) (neg_ℤ (pos 1)) S (pos 1) (neg_ℤ (pos 1)) U
+      (x -ℤ y) y (gap_from y x flat) up (last_part (x -ℤ y) y)
+      (both_parts_back (x -ℤ y) y x (less_and_back x y)) a.below a.below_right)
+      (beside_back a.s a.t a.from a.to a.some ax ay bx by (pos 0) (pos 1) S (neg_ℤ (pos 1)) (pos 1) U
+      (x -ℤ y) y (gap_from y x flat) up (last_part_back (x -ℤ y) y)
+      (both_parts (x -ℤ y) y x (less_and_back x y)) a.over a.over_left)
     where
       reach_is : (x y : ℤ) → (x -ℤ y) *ℤ S +ℤ y *ℤ U ≡ cross T (pos 0 -ℤ S) x y
       reach_is x y = rw sum (ring (S ∷ T ∷ x ∷ y ∷ []) ((v2 ⊖ v3) ⊗ v0 ⊕ v3 ⊗ (v0 ⊕ v1))
@@ -196,16 +280,15 @@ module _ (S T U : ℤ) (sum : U ≡ S +ℤ T) (ax ay bx by : ℤ) (a : Approach 
   pub steep_right_line : pos 0 ≤ℤ (bx -ℤ ax) → (bx -ℤ ax) ≤ℤ (by -ℤ ay)
       → Passes S (pos 0 -ℤ T) ax ay bx by
   steep_right_line right steep =
-      let m = beside a.s a.t a.from a.to a.some ax ay bx by (pos 1) (neg_ℤ (pos 1)) U (pos 1) (pos 0) S
-      (bx -ℤ ax) ((by -ℤ ay) -ℤ (bx -ℤ ax)) right (omega (arith, ints)) (omega (arith, ints))
-      (omega (arith, ints))
-      a.below_right a.right in
-      let l = beside_back a.s a.t a.from a.to a.some ax ay bx by (neg_ℤ (pos 1)) (pos 1) U (neg_ℤ (pos 1)) (pos 0) S
-      (bx -ℤ ax) ((by -ℤ ay) -ℤ (bx -ℤ ax)) right (omega (arith, ints)) (omega (arith, ints))
-      (omega (arith, ints))
-      a.over_left a.left in
-      let e = reach_is (bx -ℤ ax) (by -ℤ ay) in
-      record { least = omega (arith, ints, l, e); most = omega (arith, ints, m, e) }
+      let x = bx -ℤ ax in
+      let y = by -ℤ ay in
+      size_by _ _ _ (reach_is x y)
+      (beside a.s a.t a.from a.to a.some ax ay bx by (pos 1) (neg_ℤ (pos 1)) U (pos 1) (pos 0) S
+      x (y -ℤ x) right (gap_from x y steep) (both_parts x (y -ℤ x) y (on_to x y))
+      (first_part_back x (y -ℤ x)) a.below_right a.right)
+      (beside_back a.s a.t a.from a.to a.some ax ay bx by (neg_ℤ (pos 1)) (pos 1) U (neg_ℤ (pos 1)) (pos 0) S
+      x (y -ℤ x) right (gap_from x y steep) (both_parts_back x (y -ℤ x) y (on_to x y))
+      (first_part x (y -ℤ x)) a.over_left a.left)
     where
       reach_is : (x y : ℤ) → x *ℤ U +ℤ (y -ℤ x) *ℤ S ≡ cross S (pos 0 -ℤ T) x y
       reach_is x y = rw sum (ring (S ∷ T ∷ x ∷ y ∷ []) (v2 ⊗ (v0 ⊕ v1) ⊕ (v3 ⊖ v2) ⊗ v0)
@@ -215,18 +298,16 @@ module _ (S T U : ℤ) (sum : U ≡ S +ℤ T) (ax ay bx by : ℤ) (a : Approach 
   pub steep_left_line : (bx -ℤ ax) ≤ℤ pos 0 → (pos 0 -ℤ (bx -ℤ ax)) ≤ℤ (by -ℤ ay)
       → Passes S T ax ay bx by
   steep_left_line left steep =
-      let m = beside a.s a.t a.from a.to a.some ax ay bx by (pos 1) (pos 0) S (pos 1) (pos 1) U
-      ((by -ℤ ay) +ℤ (bx -ℤ ax)) (pos 0 -ℤ (bx -ℤ ax)) (omega (arith, ints)) (omega (arith, ints)) (omega (
-        arith,
-        ints,
-      ))
-      (omega (arith, ints)) a.right a.over_right in
-      let l = beside_back a.s a.t a.from a.to a.some ax ay bx by (neg_ℤ (pos 1)) (pos 0) S (neg_ℤ (pos 1))
-      (neg_ℤ (pos 1)) U ((by -ℤ ay) +ℤ (bx -ℤ ax)) (pos 0 -ℤ (bx -ℤ ax)) (omega (arith, ints))
-      (omega (arith, ints))
-      (omega (arith, ints)) (omega (arith, ints)) a.left a.below_left in
-      let e = reach_is (bx -ℤ ax) (by -ℤ ay) in
-      record { least = omega (arith, ints, l, e); most = omega (arith, ints, m, e) }
+      let x = bx -ℤ ax in
+      let y = by -ℤ ay in
+      size_by _ _ _ (reach_is x y)
+      (beside a.s a.t a.from a.to a.some ax ay bx by (pos 1) (pos 0) S (pos 1) (pos 1) U
+      (y +ℤ x) (pos 0 -ℤ x) (from_back x y steep) (back_from x left)
+      (both_parts (y +ℤ x) (pos 0 -ℤ x) y (on_and_back x y)) (last_part (y +ℤ x) (pos 0 -ℤ x)) a.right a.over_right)
+      (beside_back a.s a.t a.from a.to a.some ax ay bx by (neg_ℤ (pos 1)) (pos 0) S (neg_ℤ (pos 1))
+      (neg_ℤ (pos 1)) U (y +ℤ x) (pos 0 -ℤ x) (from_back x y steep) (back_from x left)
+      (both_parts_back (y +ℤ x) (pos 0 -ℤ x) y (on_and_back x y))
+      (last_part_back (y +ℤ x) (pos 0 -ℤ x) ∙ twice_back x) a.left a.below_left)
     where
       reach_is : (x y : ℤ) → (y +ℤ x) *ℤ S +ℤ (pos 0 -ℤ x) *ℤ U ≡ cross S T x y
       reach_is x y = rw sum (ring (S ∷ T ∷ x ∷ y ∷ [])
@@ -236,17 +317,16 @@ module _ (S T U : ℤ) (sum : U ≡ S +ℤ T) (ax ay bx by : ℤ) (a : Approach 
   -- nearer to the left than upwards
   pub left_line : pos 0 ≤ℤ (by -ℤ ay) → (by -ℤ ay) ≤ℤ (pos 0 -ℤ (bx -ℤ ax)) → Passes T S ax ay bx by
   left_line up flat =
-      let m = beside a.s a.t a.from a.to a.some ax ay bx by (pos 1) (pos 1) U (pos 0) (pos 1) S
-      (by -ℤ ay) ((pos 0 -ℤ (bx -ℤ ax)) -ℤ (by -ℤ ay)) up (omega (arith, ints)) (omega (arith, ints))
-      (omega (arith, ints)) a.over_right a.over in
-      let l = beside_back a.s a.t a.from a.to a.some ax ay bx by (neg_ℤ (pos 1)) (neg_ℤ (pos 1)) U (pos 0)
-      (neg_ℤ (pos 1)) S (by -ℤ ay) ((pos 0 -ℤ (bx -ℤ ax)) -ℤ (by -ℤ ay)) up (omega (arith, ints)) (omega (
-        arith,
-        ints,
-      ))
-      (omega (arith, ints)) a.below_left a.below in
-      let e = reach_is (bx -ℤ ax) (by -ℤ ay) in
-      record { least = omega (arith, ints, l, e); most = omega (arith, ints, m, e) }
+      let x = bx -ℤ ax in
+      let y = by -ℤ ay in
+      size_by _ _ _ (reach_is x y)
+      (beside a.s a.t a.from a.to a.some ax ay bx by (pos 1) (pos 1) U (pos 0) (pos 1) S
+      y ((pos 0 -ℤ x) -ℤ y) up (gap_from y (pos 0 -ℤ x) flat) (first_part y ((pos 0 -ℤ x) -ℤ y))
+      (both_parts y ((pos 0 -ℤ x) -ℤ y) (pos 0 -ℤ x) (on_to y (pos 0 -ℤ x))) a.over_right a.over)
+      (beside_back a.s a.t a.from a.to a.some ax ay bx by (neg_ℤ (pos 1)) (neg_ℤ (pos 1)) U (pos 0)
+      (neg_ℤ (pos 1)) S y ((pos 0 -ℤ x) -ℤ y) up (gap_from y (pos 0 -ℤ x) flat)
+      (first_part_back y ((pos 0 -ℤ x) -ℤ y))
+      (both_parts_back y ((pos 0 -ℤ x) -ℤ y) (pos 0 -ℤ x) (on_to y (pos 0 -ℤ x)) ∙ twice_back x) a.below_left a.below)
     where
       reach_is : (x y : ℤ) → y *ℤ U +ℤ ((pos 0 -ℤ x) -ℤ y) *ℤ S ≡ cross T S x y
       reach_is x y = rw sum (ring (S ∷ T ∷ x ∷ y ∷ [])
@@ -256,67 +336,91 @@ module _ (S T U : ℤ) (sum : U ≡ S +ℤ T) (ax ay bx by : ℤ) (a : Approach 
 times_minus : (a b : ℤ) → a *ℤ (pos 0 -ℤ b) ≡ pos 0 -ℤ a *ℤ b
 times_minus a b = ring (a ∷ b ∷ []) (v0 ⊗ (num (pos 0) ⊖ v1)) (num (pos 0) ⊖ v0 ⊗ v1) refl
 
+on_back : (a b : ℤ) → a +ℤ (pos 0 -ℤ b) ≡ a -ℤ b
+on_back a b = omega (arith, ints)
+
+less_back : (a b : ℤ) → a -ℤ (pos 0 -ℤ b) ≡ a +ℤ b
+less_back a b = omega (arith, ints)
+
 -- the corner of each octant
 module _ (S T U : ℤ) (sum : U ≡ S +ℤ T) (positive : pos 0 <ℤ S) (slim : pos 0 ≤ℤ T) (narrow : T ≤ℤ S)
-    (ax ay bx by : ℤ) where
-  pub right_corner : pos 0 <ℤ (bx -ℤ ax) → pos 0 ≤ℤ (by -ℤ ay) → Passes T (pos 0 -ℤ S) ax ay bx by
+    where
+  width_size : IsSize S S
+  width_size = record { least = omega (arith, ints); most = omega (arith, ints) }
+
+  slant_size : IsSize S T
+  slant_size = record { least = omega (arith, ints); most = narrow }
+
+  width_sum : IsSize U (S +ℤ T)
+  width_sum = record { least = omega (arith, ints); most = omega (arith, ints) }
+
+  slant_sum : IsSize U (T +ℤ S)
+  slant_sum = record { least = omega (arith, ints); most = omega (arith, ints) }
+
+  width_gap : IsSize U (S -ℤ T)
+  width_gap = record { least = omega (arith, ints); most = omega (arith, ints) }
+
+  slant_gap : IsSize U (T -ℤ S)
+  slant_gap = record { least = omega (arith, ints); most = omega (arith, ints) }
+
+  pub right_corner : (ax ay bx by : ℤ) → pos 0 <ℤ (bx -ℤ ax) → pos 0 ≤ℤ (by -ℤ ay) → Passes T (pos 0 -ℤ S) ax ay bx by
       → Corner S U T (pos 0 -ℤ S) ax ay bx by
-  right_corner x y l =
+  right_corner ax ay bx by x y l =
       let p = positive_product S (bx -ℤ ax) positive x in
       let q = at_least_mul T (by -ℤ ay) slim y in
       let e = minus_times S (bx -ℤ ax) in
       record {
         broad = omega (arith, ints, p, q, e);
         line = l;
-        across = record { least = omega (arith, ints); most = omega (arith, ints) };
-        upwards = record { least = omega (arith, ints); most = omega (arith, ints) };
-        sum = record { least = omega (arith, ints); most = omega (arith, ints) };
-        difference = record { least = omega (arith, ints); most = omega (arith, ints) };
+        across = slant_size;
+        upwards = mirrored S S width_size;
+        sum = sized U (T -ℤ S) _ (on_back T S) slant_gap;
+        difference = sized U (T +ℤ S) _ (less_back T S) slant_sum;
       }
 
-  pub steep_right_corner : pos 0 ≤ℤ (bx -ℤ ax) → pos 0 <ℤ (by -ℤ ay) → Passes S (pos 0 -ℤ T) ax ay bx by
+  pub steep_right_corner : (ax ay bx by : ℤ) → pos 0 ≤ℤ (bx -ℤ ax) → pos 0 <ℤ (by -ℤ ay) → Passes S (pos 0 -ℤ T) ax ay bx by
       → Corner S U S (pos 0 -ℤ T) ax ay bx by
-  steep_right_corner x y l =
+  steep_right_corner ax ay bx by x y l =
       let p = positive_product S (by -ℤ ay) positive y in
       let q = at_least_mul T (bx -ℤ ax) slim x in
       let e = minus_times T (bx -ℤ ax) in
       record {
         broad = omega (arith, ints, p, q, e);
         line = l;
-        across = record { least = omega (arith, ints); most = omega (arith, ints) };
-        upwards = record { least = omega (arith, ints); most = omega (arith, ints) };
-        sum = record { least = omega (arith, ints); most = omega (arith, ints) };
-        difference = record { least = omega (arith, ints); most = omega (arith, ints) };
+        across = width_size;
+        upwards = mirrored S T slant_size;
+        sum = sized U (S -ℤ T) _ (on_back S T) width_gap;
+        difference = sized U (S +ℤ T) _ (less_back S T) width_sum;
       }
 
-  pub steep_left_corner : (bx -ℤ ax) ≤ℤ pos 0 → pos 0 <ℤ (by -ℤ ay) → Passes S T ax ay bx by
+  pub steep_left_corner : (ax ay bx by : ℤ) → (bx -ℤ ax) ≤ℤ pos 0 → pos 0 <ℤ (by -ℤ ay) → Passes S T ax ay bx by
       → Corner S U S T ax ay bx by
-  steep_left_corner x y l =
+  steep_left_corner ax ay bx by x y l =
       let p = positive_product S (by -ℤ ay) positive y in
       let q = at_least_mul T (pos 0 -ℤ (bx -ℤ ax)) slim (omega (arith, ints)) in
       let e = times_minus T (bx -ℤ ax) in
       record {
         broad = omega (arith, ints, p, q, e);
         line = l;
-        across = record { least = omega (arith, ints); most = omega (arith, ints) };
-        upwards = record { least = omega (arith, ints); most = omega (arith, ints) };
-        sum = record { least = omega (arith, ints); most = omega (arith, ints) };
-        difference = record { least = omega (arith, ints); most = omega (arith, ints) };
+        across = width_size;
+        upwards = slant_size;
+        sum = width_sum;
+        difference = width_gap;
       }
 
-  pub left_corner : (bx -ℤ ax) <ℤ pos 0 → pos 0 ≤ℤ (by -ℤ ay) → Passes T S ax ay bx by
+  pub left_corner : (ax ay bx by : ℤ) → (bx -ℤ ax) <ℤ pos 0 → pos 0 ≤ℤ (by -ℤ ay) → Passes T S ax ay bx by
       → Corner S U T S ax ay bx by
-  left_corner x y l =
+  left_corner ax ay bx by x y l =
       let p = positive_product S (pos 0 -ℤ (bx -ℤ ax)) positive (omega (arith, ints)) in
       let q = at_least_mul T (by -ℤ ay) slim y in
       let e = times_minus S (bx -ℤ ax) in
       record {
         broad = omega (arith, ints, p, q, e);
         line = l;
-        across = record { least = omega (arith, ints); most = omega (arith, ints) };
-        upwards = record { least = omega (arith, ints); most = omega (arith, ints) };
-        sum = record { least = omega (arith, ints); most = omega (arith, ints) };
-        difference = record { least = omega (arith, ints); most = omega (arith, ints) };
+        across = slant_size;
+        upwards = width_size;
+        sum = slant_sum;
+        difference = slant_gap;
       }
 
 -- where the half sum is the half width, four half planes make the octagon
@@ -325,37 +429,28 @@ pub approach_four : (S ax ay bx by vx vy : ℤ) → Corner S S vx vy ax ay bx by
     → End (neg_ℤ (pos 1)) (neg_ℤ (pos 1)) S ax ay bx by → Approach S S ax ay bx by
 approach_four S ax ay bx by vx vy k h i j l =
     let f = found ax ay bx by vx vy k.broad in
-    let sl = k.sum.least in
-    let sm = k.sum.most in
-    let dl = k.difference.least in
-    let dm = k.difference.most in
-    let g = f.holds (pos 1) (pos 1) S (test_of S S ax ay bx by (pos 1) (pos 1) S vx vy h k.line (record {
-      least = omega (arith, ints);
-      most = omega (arith, ints);
-    })) in
-    let m = f.holds (pos 1) (neg_ℤ (pos 1)) S
-    (test_of S S ax ay bx by (pos 1) (neg_ℤ (pos 1)) S vx vy i k.line (record {
-      least = omega (arith, ints);
-      most = omega (arith, ints);
-    })) in
-    let n = f.holds (neg_ℤ (pos 1)) (pos 1) S
-    (test_of S S ax ay bx by (neg_ℤ (pos 1)) (pos 1) S vx vy j k.line (record {
-      least = omega (arith, ints);
-      most = omega (arith, ints);
-    })) in
+    let g = f.holds (pos 1) (pos 1) S (test_of S S ax ay bx by (pos 1) (pos 1) S vx vy h k.line
+    (sized S (vx +ℤ vy) _ (over_right_is vx vy) k.sum)) in
+    let m = f.holds (pos 1) (neg_ℤ (pos 1)) S (test_of S S ax ay bx by (pos 1) (neg_ℤ (pos 1)) S vx vy i k.line
+    (sized S (vx -ℤ vy) _ (below_right_is vx vy) k.difference)) in
+    let n = f.holds (neg_ℤ (pos 1)) (pos 1) S (test_of S S ax ay bx by (neg_ℤ (pos 1)) (pos 1) S vx vy j k.line
+    (sized S (pos 0 -ℤ (vx -ℤ vy)) _ (over_left_is vx vy) (mirrored S (vx -ℤ vy) k.difference))) in
     let o = f.holds (neg_ℤ (pos 1)) (neg_ℤ (pos 1)) S
-    (test_of S S ax ay bx by (neg_ℤ (pos 1)) (neg_ℤ (pos 1)) S vx vy l
-    k.line (record { least = omega (arith, ints); most = omega (arith, ints) })) in
+    (test_of S S ax ay bx by (neg_ℤ (pos 1)) (neg_ℤ (pos 1)) S vx vy l k.line
+    (sized S (pos 0 -ℤ (vx +ℤ vy)) _ (below_left_is vx vy) (mirrored S (vx +ℤ vy) k.sum))) in
+    let x = f.s *ℤ ax +ℤ f.t *ℤ bx in
+    let y = f.s *ℤ ay +ℤ f.t *ℤ by in
+    let z = S *ℤ (f.s +ℤ f.t) in
     record {
       s = f.s;
       t = f.t;
       from = f.from;
       to = f.to;
       some = f.some;
-      right = omega (arith, ints, g, m);
-      left = omega (arith, ints, n, o);
-      over = omega (arith, ints, g, n);
-      below = omega (arith, ints, m, o);
+      right = right_between x y z g m;
+      left = left_between x y z n o;
+      over = over_between x y z g n;
+      below = below_between x y z m o;
       over_right = g;
       below_right = m;
       over_left = n;
@@ -377,10 +472,10 @@ approach_four_point S ax ay bx by ex ey h i j l =
       from = omega (arith, ints);
       to = omega (arith, ints);
       some = omega (arith, ints);
-      right = one_first (pos 1) (pos 0) S ax ay bx by (omega (arith, ints, g, m));
-      left = one_first (neg_ℤ (pos 1)) (pos 0) S ax ay bx by (omega (arith, ints, n, o));
-      over = one_first (pos 0) (pos 1) S ax ay bx by (omega (arith, ints, g, n));
-      below = one_first (pos 0) (neg_ℤ (pos 1)) S ax ay bx by (omega (arith, ints, m, o));
+      right = one_first (pos 1) (pos 0) S ax ay bx by (right_between ax ay S g m);
+      left = one_first (neg_ℤ (pos 1)) (pos 0) S ax ay bx by (left_between ax ay S n o);
+      over = one_first (pos 0) (pos 1) S ax ay bx by (over_between ax ay S g n);
+      below = one_first (pos 0) (neg_ℤ (pos 1)) S ax ay bx by (below_between ax ay S m o);
       over_right = one_first (pos 1) (pos 1) S ax ay bx by g;
       below_right = one_first (pos 1) (neg_ℤ (pos 1)) S ax ay bx by m;
       over_left = one_first (neg_ℤ (pos 1)) (pos 1) S ax ay bx by n;
