@@ -14,6 +14,7 @@ use Rattle.scad_ring.specs.Corners.{eight_sided, low_left, low_right, right_low,
 use Rattle.scad_ring.proofs.Octants.{approach}
 use Rattle.scad_ring.proofs.Approaches.{ApproachFrom, meets_if_approach, approach_if_meets}
 use Rattle.scad_ring.proofs.Steps.{Side, side, turns, side_gap, first_side, last_side}
+use Rattle.scad_ring.proofs.OwnSides.{low_side, right_side, high_right_side, high_side, left_side, low_left_side, eighth}
 use Rattle.scad_ring.proofs.Slants.{right_by, diagonal_right_passes}
 use Rattle.scad_ring.proofs.Offsets.{IsNearWay, IsRingRound, near_first, near_last, low_left_in, low_right_in, right_low_in, right_high_in, high_right_in, high_left_in, left_high_in, left_low_in}
 
@@ -23,7 +24,7 @@ module _ (c t u : ℤ) (sum : u ≡ c +ℤ t) (some : pos 0 <ℤ t) (less : t <�
   weak = omega (arith, ints)
 
   s0 : Side (pos 0) (pos 1) c p (low_left c t p) (low_right c t p)
-  s0 = side (pos 2 *ℤ t) (omega (arith, ints)) (omega (arith, ints)) (omega (arith, ints)) (omega (arith, ints))
+  s0 = low_side c t u sum some less p
 
   s1 : Side (neg_ℤ (pos 1)) (pos 1) u p (low_right c t p) (right_low c t r)
   s1 = side (c -ℤ t +ℤ (r.x -ℤ p.x)) (omega (arith, ints)) (omega (arith, ints)) (omega (arith, ints)) (omega (
@@ -32,13 +33,13 @@ module _ (c t u : ℤ) (sum : u ≡ c +ℤ t) (some : pos 0 <ℤ t) (less : t <�
   ))
 
   s2 : Side (neg_ℤ (pos 1)) (pos 0) c r (right_low c t r) (right_high c t r)
-  s2 = side (pos 2 *ℤ t) (omega (arith, ints)) (omega (arith, ints)) (omega (arith, ints)) (omega (arith, ints))
+  s2 = right_side c t u sum some less r
 
   s3 : Side (neg_ℤ (pos 1)) (neg_ℤ (pos 1)) u r (right_high c t r) (high_right c t r)
-  s3 = side (c -ℤ t) (omega (arith, ints)) (omega (arith, ints)) (omega (arith, ints)) (omega (arith, ints))
+  s3 = high_right_side c t u sum some less r
 
   s4 : Side (pos 0) (neg_ℤ (pos 1)) c r (high_right c t r) (high_left c t r)
-  s4 = side (pos 2 *ℤ t) (omega (arith, ints)) (omega (arith, ints)) (omega (arith, ints)) (omega (arith, ints))
+  s4 = high_side c t u sum some less r
 
   s5 : Side (pos 1) (neg_ℤ (pos 1)) u p (high_left c t r) (left_high c t p)
   s5 = side (c -ℤ t +ℤ (r.x -ℤ p.x)) (omega (arith, ints)) (omega (arith, ints)) (omega (arith, ints)) (omega (
@@ -47,40 +48,65 @@ module _ (c t u : ℤ) (sum : u ≡ c +ℤ t) (some : pos 0 <ℤ t) (less : t <�
   ))
 
   s6 : Side (pos 1) (pos 0) c p (left_high c t p) (left_low c t p)
-  s6 = side (pos 2 *ℤ t) (omega (arith, ints)) (omega (arith, ints)) (omega (arith, ints)) (omega (arith, ints))
+  s6 = left_side c t u sum some less p
 
   s7 : Side (pos 1) (pos 1) u p (left_low c t p) (low_left c t p)
-  s7 = side (c -ℤ t) (omega (arith, ints)) (omega (arith, ints)) (omega (arith, ints)) (omega (arith, ints))
+  s7 = low_left_side c t u sum some less p
+
+  -- the edge runs inwards from a side, or outwards to it
+  i0 : pos 0 ≤ℤ (pos 0 *ℤ (r.x -ℤ p.x) +ℤ pos 1 *ℤ (r.y -ℤ p.y))
+  i0 = omega (arith, ints)
+
+  i1 : pos 0 ≤ℤ (neg_ℤ (pos 1) *ℤ (r.x -ℤ p.x) +ℤ pos 1 *ℤ (r.y -ℤ p.y))
+  i1 = omega (arith, ints)
+
+  i2 : pos 0 ≤ℤ (neg_ℤ (pos 1) *ℤ (p.x -ℤ r.x) +ℤ pos 0 *ℤ (p.y -ℤ r.y))
+  i2 = omega (arith, ints)
+
+  i3 : pos 0 ≤ℤ (neg_ℤ (pos 1) *ℤ (p.x -ℤ r.x) +ℤ neg_ℤ (pos 1) *ℤ (p.y -ℤ r.y))
+  i3 = omega (arith, ints)
+
+  i4 : pos 0 ≤ℤ (pos 0 *ℤ (p.x -ℤ r.x) +ℤ neg_ℤ (pos 1) *ℤ (p.y -ℤ r.y))
+  i4 = omega (arith, ints)
+
+  i5 : pos 0 ≤ℤ (pos 1 *ℤ (r.x -ℤ p.x) +ℤ neg_ℤ (pos 1) *ℤ (r.y -ℤ p.y))
+  i5 = omega (arith, ints)
+
+  i6 : pos 0 ≤ℤ (pos 1 *ℤ (r.x -ℤ p.x) +ℤ pos 0 *ℤ (r.y -ℤ p.y))
+  i6 = omega (arith, ints)
+
+  i7 : pos 0 ≤ℤ (pos 1 *ℤ (r.x -ℤ p.x) +ℤ pos 1 *ℤ (r.y -ℤ p.y))
+  i7 = omega (arith, ints)
 
   sides_if : (q : Point) → pos 0 <ℤ q.d → ApproachFrom c u q p r
       → All (IsLeftOf q) (segments (sides (eight_sided c t p r DiagonalRight)))
   sides_if q d a =
       All-from_recursion (IsLeftOf q) (segments (sides (eight_sided c t p r DiagonalRight))) (
         first_side (c *ℤ q.d) (u *ℤ q.d) q d p r a (pos 0) (pos 1) c (low_left c t p) (low_right c t p) s0
-            (omega (arith, ints)) a.over,
+            i0 a.over,
         (
           first_side (c *ℤ q.d) (u *ℤ q.d) q d p r a (neg_ℤ (pos 1)) (pos 1) u (low_right c t p) (right_low c t r)
               s1
-              (omega (arith, ints)) a.over_left,
+              i1 a.over_left,
           (
             last_side (c *ℤ q.d) (u *ℤ q.d) q d p r a (neg_ℤ (pos 1)) (pos 0) c (right_low c t r)
                 (right_high c t r)
-                s2 (omega (arith, ints)) a.left,
+                s2 i2 a.left,
             (
               last_side (c *ℤ q.d) (u *ℤ q.d) q d p r a (neg_ℤ (pos 1)) (neg_ℤ (pos 1)) u (right_high c t r)
-                  (high_right c t r) s3 (omega (arith, ints)) a.below_left,
+                  (high_right c t r) s3 i3 a.below_left,
               (
                 last_side (c *ℤ q.d) (u *ℤ q.d) q d p r a (pos 0) (neg_ℤ (pos 1)) c (high_right c t r)
-                    (high_left c t r) s4 (omega (arith, ints)) a.below,
+                    (high_left c t r) s4 i4 a.below,
                 (
                   first_side (c *ℤ q.d) (u *ℤ q.d) q d p r a (pos 1) (neg_ℤ (pos 1)) u (high_left c t r)
-                      (left_high c t p) s5 (omega (arith, ints)) a.below_right,
+                      (left_high c t p) s5 i5 a.below_right,
                   (
                     first_side (c *ℤ q.d) (u *ℤ q.d) q d p r a (pos 1) (pos 0) c (left_high c t p) (left_low c t p)
-                        s6 (omega (arith, ints)) a.right,
+                        s6 i6 a.right,
                     (
                       first_side (c *ℤ q.d) (u *ℤ q.d) q d p r a (pos 1) (pos 1) u (left_low c t p) (low_left c t p)
-                          s7 (omega (arith, ints)) a.over_right,
+                          s7 i7 a.over_right,
                       tt,
                     ),
                   ),
@@ -152,30 +178,30 @@ module _ (c t u : ℤ) (sum : u ≡ c +ℤ t) (some : pos 0 <ℤ t) (less : t <�
     );
     turns = (
       turns (pos 1) (pos 0 -ℤ pos 0) (pos 1) (pos 0 -ℤ neg_ℤ (pos 1)) (low_left c t p) (low_right c t p)
-          (right_low c t r) s0.step s1.step (omega (arith, ints)),
+          (right_low c t r) s0.step s1.step eighth,
       (
         turns (pos 1) (pos 0 -ℤ neg_ℤ (pos 1)) (pos 0) (pos 0 -ℤ neg_ℤ (pos 1)) (low_right c t p)
             (right_low c t r)
-            (right_high c t r) s1.step s2.step (omega (arith, ints)),
+            (right_high c t r) s1.step s2.step eighth,
         (
           turns (pos 0) (pos 0 -ℤ neg_ℤ (pos 1)) (neg_ℤ (pos 1)) (pos 0 -ℤ neg_ℤ (pos 1)) (right_low c t r)
-              (right_high c t r) (high_right c t r) s2.step s3.step (omega (arith, ints)),
+              (right_high c t r) (high_right c t r) s2.step s3.step eighth,
           (
             turns (neg_ℤ (pos 1)) (pos 0 -ℤ neg_ℤ (pos 1)) (neg_ℤ (pos 1)) (pos 0 -ℤ pos 0) (right_high c t r)
-                (high_right c t r) (high_left c t r) s3.step s4.step (omega (arith, ints)),
+                (high_right c t r) (high_left c t r) s3.step s4.step eighth,
             (
               turns (neg_ℤ (pos 1)) (pos 0 -ℤ pos 0) (neg_ℤ (pos 1)) (pos 0 -ℤ pos 1) (high_right c t r)
-                  (high_left c t r) (left_high c t p) s4.step s5.step (omega (arith, ints)),
+                  (high_left c t r) (left_high c t p) s4.step s5.step eighth,
               (
                 turns (neg_ℤ (pos 1)) (pos 0 -ℤ pos 1) (pos 0) (pos 0 -ℤ pos 1) (high_left c t r)
                     (left_high c t p)
-                    (left_low c t p) s5.step s6.step (omega (arith, ints)),
+                    (left_low c t p) s5.step s6.step eighth,
                 (
                   turns (pos 0) (pos 0 -ℤ pos 1) (pos 1) (pos 0 -ℤ pos 1) (left_high c t p) (left_low c t p)
-                      (low_left c t p) s6.step s7.step (omega (arith, ints)),
+                      (low_left c t p) s6.step s7.step eighth,
                   (
                     turns (pos 1) (pos 0 -ℤ pos 1) (pos 1) (pos 0 -ℤ pos 0) (left_low c t p) (low_left c t p)
-                        (low_right c t p) s7.step s0.step (omega (arith, ints)),
+                        (low_right c t p) s7.step s0.step eighth,
                     tt,
                   ),
                 ),

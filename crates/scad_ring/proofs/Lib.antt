@@ -6,6 +6,7 @@ pub mod Approaches
 pub mod Meetings
 pub mod EdgeTests
 pub mod Steps
+pub mod OwnSides
 pub mod Slants
 pub mod Offsets
 pub mod StillRing

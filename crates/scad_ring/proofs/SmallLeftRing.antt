@@ -14,7 +14,8 @@ use Rattle.scad_ring.specs.declared.direction.Direction.TheVariants.{Left}
 use Rattle.scad_ring.specs.Corners.{four_sided, low, right, high, left}
 use Rattle.scad_ring.proofs.Octants.{approach_four}
 use Rattle.scad_ring.proofs.Approaches.{ApproachFrom, meets_if_approach, approach_if_meets}
-use Rattle.scad_ring.proofs.Steps.{Step, Side, Beside, step, side, along, turns, side_gap, first_side, last_side}
+use Rattle.scad_ring.proofs.Steps.{Step, Side, Beside, step, along, turns, side_gap, first_side, last_side}
+use Rattle.scad_ring.proofs.OwnSides.{low_to_right, right_to_high, high_to_left, left_to_low, quarter}
 use Rattle.scad_ring.proofs.Slants.{under, over, line, left_by, left_passes}
 use Rattle.scad_ring.proofs.Offsets.{IsNearWay, IsRingRound, near_first, near_last, low_in, right_in, high_in, left_in}
 
@@ -26,10 +27,10 @@ module _ (c : ℤ) (less : pos 0 <ℤ c) (p r : Pt) (y : p.y <ℤ r.y) (x : (r.y
   sum = omega (arith, ints)
 
   s0 : Side (neg_ℤ (pos 1)) (pos 1) c p (low c p) (right c p)
-  s0 = side c (omega (arith, ints)) (omega (arith, ints)) (omega (arith, ints)) (omega (arith, ints))
+  s0 = low_to_right c less p
 
   s1 : Side (neg_ℤ (pos 1)) (neg_ℤ (pos 1)) c p (right c p) (high c p)
-  s1 = side c (omega (arith, ints)) (omega (arith, ints)) (omega (arith, ints)) (omega (arith, ints))
+  s1 = right_to_high c less p
 
   s2 : Beside (pos 0) c p r (high c p) (high c r)
   s2 = along (omega (arith, ints)) (omega (arith, ints)) (omega (arith, ints)) (omega (arith, ints))
@@ -38,10 +39,10 @@ module _ (c : ℤ) (less : pos 0 <ℤ c) (p r : Pt) (y : p.y <ℤ r.y) (x : (r.y
   t2 = step (pos 1) (omega (arith, ints)) (omega (arith, ints)) (omega (arith, ints))
 
   s3 : Side (pos 1) (neg_ℤ (pos 1)) c r (high c r) (left c r)
-  s3 = side c (omega (arith, ints)) (omega (arith, ints)) (omega (arith, ints)) (omega (arith, ints))
+  s3 = high_to_left c less r
 
   s4 : Side (pos 1) (pos 1) c r (left c r) (low c r)
-  s4 = side c (omega (arith, ints)) (omega (arith, ints)) (omega (arith, ints)) (omega (arith, ints))
+  s4 = left_to_low c less r
 
   s5 : Beside (pos 0 -ℤ (pos 0)) (pos 0 -ℤ c) r p (low c r) (low c p)
   s5 = along (omega (arith, ints)) (omega (arith, ints)) (omega (arith, ints)) (omega (arith, ints))
@@ -49,28 +50,35 @@ module _ (c : ℤ) (less : pos 0 <ℤ c) (p r : Pt) (y : p.y <ℤ r.y) (x : (r.y
   t5 : Step (p.x -ℤ r.x) (p.y -ℤ r.y) (low c r) (low c p)
   t5 = step (pos 1) (omega (arith, ints)) (omega (arith, ints)) (omega (arith, ints))
 
+  -- the edge runs inwards from a side, or outwards to it
+  i0 : pos 0 ≤ℤ (neg_ℤ (pos 1) *ℤ (r.x -ℤ p.x) +ℤ pos 1 *ℤ (r.y -ℤ p.y))
+  i0 = omega (arith, ints)
+
+  i1 : pos 0 ≤ℤ (neg_ℤ (pos 1) *ℤ (r.x -ℤ p.x) +ℤ neg_ℤ (pos 1) *ℤ (r.y -ℤ p.y))
+  i1 = omega (arith, ints)
+
+  i3 : pos 0 ≤ℤ (pos 1 *ℤ (p.x -ℤ r.x) +ℤ neg_ℤ (pos 1) *ℤ (p.y -ℤ r.y))
+  i3 = omega (arith, ints)
+
+  i4 : pos 0 ≤ℤ (pos 1 *ℤ (p.x -ℤ r.x) +ℤ pos 1 *ℤ (p.y -ℤ r.y))
+  i4 = omega (arith, ints)
+
   sides_if : (q : Point) → pos 0 <ℤ q.d → ApproachFrom c c q p r
       → All (IsLeftOf q) (segments (sides (four_sided c p r Left)))
   sides_if q d a =
       let l = left_passes p r q d c (pos 0) c sum weak less (omega (arith, ints)) (omega (arith, ints)) a in
       All-from_recursion (IsLeftOf q) (segments (sides (four_sided c p r Left))) (
-        first_side (c *ℤ q.d) (c *ℤ q.d) q d p r a (neg_ℤ (pos 1)) (pos 1) c (low c p) (right c p) s0 (omega (
-          arith,
-          ints,
-        )) a.over_left,
+        first_side (c *ℤ q.d) (c *ℤ q.d) q d p r a (neg_ℤ (pos 1)) (pos 1) c (low c p) (right c p) s0 i0 a.over_left,
         (
           first_side (c *ℤ q.d) (c *ℤ q.d) q d p r a (neg_ℤ (pos 1)) (neg_ℤ (pos 1)) c (right c p) (high c p) s1
-              (omega (arith, ints)) a.below_left,
+              i1 a.below_left,
           (
             under p r q d (pos 0) c (high c p) (high c r) s2 l,
             (
               last_side (c *ℤ q.d) (c *ℤ q.d) q d p r a (pos 1) (neg_ℤ (pos 1)) c (high c r) (left c r) s3
-                  (omega (arith, ints)) a.below_right,
+                  i3 a.below_right,
               (
-                last_side (c *ℤ q.d) (c *ℤ q.d) q d p r a (pos 1) (pos 1) c (left c r) (low c r) s4 (omega (
-                  arith,
-                  ints,
-                )) a.over_right,
+                last_side (c *ℤ q.d) (c *ℤ q.d) q d p r a (pos 1) (pos 1) c (left c r) (low c r) s4 i4 a.over_right,
                 (
                   over p r q d (pos 0) c (low c r) (low c p) s5 l,
                   tt,
@@ -123,7 +131,7 @@ module _ (c : ℤ) (less : pos 0 <ℤ c) (p r : Pt) (y : p.y <ℤ r.y) (x : (r.y
     );
     turns = (
       turns (pos 1) (pos 0 -ℤ neg_ℤ (pos 1)) (neg_ℤ (pos 1)) (pos 0 -ℤ neg_ℤ (pos 1)) (low c p) (right c p)
-          (high c p) s0.step s1.step (omega (arith, ints)),
+          (high c p) s0.step s1.step quarter,
       (
         turns (neg_ℤ (pos 1)) (pos 0 -ℤ neg_ℤ (pos 1)) (r.x -ℤ p.x) (r.y -ℤ p.y) (right c p) (high c p)
             (high c r)
@@ -134,7 +142,7 @@ module _ (c : ℤ) (less : pos 0 <ℤ c) (p r : Pt) (y : p.y <ℤ r.y) (x : (r.y
           (
             turns (neg_ℤ (pos 1)) (pos 0 -ℤ pos 1) (pos 1) (pos 0 -ℤ pos 1) (high c r) (left c r) (low c r)
                 s3.step
-                s4.step (omega (arith, ints)),
+                s4.step quarter,
             (
               turns (pos 1) (pos 0 -ℤ pos 1) (p.x -ℤ r.x) (p.y -ℤ r.y) (left c r) (low c r) (low c p) s4.step t5
                   (omega (arith, ints)),

@@ -14,7 +14,8 @@ use Rattle.scad_ring.specs.declared.direction.Direction.TheVariants.{Right}
 use Rattle.scad_ring.specs.Corners.{four_sided, low, right, high, left}
 use Rattle.scad_ring.proofs.Octants.{approach_four}
 use Rattle.scad_ring.proofs.Approaches.{ApproachFrom, meets_if_approach, approach_if_meets}
-use Rattle.scad_ring.proofs.Steps.{Step, Side, Beside, step, side, along, turns, side_gap, first_side, last_side}
+use Rattle.scad_ring.proofs.Steps.{Step, Side, Beside, step, along, turns, side_gap, first_side, last_side}
+use Rattle.scad_ring.proofs.OwnSides.{low_to_right, right_to_high, high_to_left, left_to_low, quarter}
 use Rattle.scad_ring.proofs.Slants.{under, over, line, right_by, right_passes}
 use Rattle.scad_ring.proofs.Offsets.{IsNearWay, IsRingRound, near_first, near_last, low_in, right_in, high_in, left_in, before}
 
@@ -32,10 +33,10 @@ module _ (c : ℤ) (less : pos 0 <ℤ c) (p r : Pt) (y : p.y ≤ℤ r.y) (x : (r
   t0 = step (pos 1) (omega (arith, ints)) (omega (arith, ints)) (omega (arith, ints))
 
   s1 : Side (neg_ℤ (pos 1)) (pos 1) c r (low c r) (right c r)
-  s1 = side c (omega (arith, ints)) (omega (arith, ints)) (omega (arith, ints)) (omega (arith, ints))
+  s1 = low_to_right c less r
 
   s2 : Side (neg_ℤ (pos 1)) (neg_ℤ (pos 1)) c r (right c r) (high c r)
-  s2 = side c (omega (arith, ints)) (omega (arith, ints)) (omega (arith, ints)) (omega (arith, ints))
+  s2 = right_to_high c less r
 
   s3 : Beside (pos 0 -ℤ (pos 0)) (pos 0 -ℤ (pos 0 -ℤ c)) r p (high c r) (high c p)
   s3 = along (omega (arith, ints)) (omega (arith, ints)) (omega (arith, ints)) (omega (arith, ints))
@@ -44,10 +45,23 @@ module _ (c : ℤ) (less : pos 0 <ℤ c) (p r : Pt) (y : p.y ≤ℤ r.y) (x : (r
   t3 = step (pos 1) (omega (arith, ints)) (omega (arith, ints)) (omega (arith, ints))
 
   s4 : Side (pos 1) (neg_ℤ (pos 1)) c p (high c p) (left c p)
-  s4 = side c (omega (arith, ints)) (omega (arith, ints)) (omega (arith, ints)) (omega (arith, ints))
+  s4 = high_to_left c less p
 
   s5 : Side (pos 1) (pos 1) c p (left c p) (low c p)
-  s5 = side c (omega (arith, ints)) (omega (arith, ints)) (omega (arith, ints)) (omega (arith, ints))
+  s5 = left_to_low c less p
+
+  -- the edge runs inwards from a side, or outwards to it
+  i1 : pos 0 ≤ℤ (neg_ℤ (pos 1) *ℤ (p.x -ℤ r.x) +ℤ pos 1 *ℤ (p.y -ℤ r.y))
+  i1 = omega (arith, ints)
+
+  i2 : pos 0 ≤ℤ (neg_ℤ (pos 1) *ℤ (p.x -ℤ r.x) +ℤ neg_ℤ (pos 1) *ℤ (p.y -ℤ r.y))
+  i2 = omega (arith, ints)
+
+  i4 : pos 0 ≤ℤ (pos 1 *ℤ (r.x -ℤ p.x) +ℤ neg_ℤ (pos 1) *ℤ (r.y -ℤ p.y))
+  i4 = omega (arith, ints)
+
+  i5 : pos 0 ≤ℤ (pos 1 *ℤ (r.x -ℤ p.x) +ℤ pos 1 *ℤ (r.y -ℤ p.y))
+  i5 = omega (arith, ints)
 
   sides_if : (q : Point) → pos 0 <ℤ q.d → ApproachFrom c c q p r
       → All (IsLeftOf q) (segments (sides (four_sided c p r Right)))
@@ -56,24 +70,18 @@ module _ (c : ℤ) (less : pos 0 <ℤ c) (p r : Pt) (y : p.y ≤ℤ r.y) (x : (r
       All-from_recursion (IsLeftOf q) (segments (sides (four_sided c p r Right))) (
         under p r q d (pos 0) (pos 0 -ℤ c) (low c p) (low c r) s0 l,
         (
-          last_side (c *ℤ q.d) (c *ℤ q.d) q d p r a (neg_ℤ (pos 1)) (pos 1) c (low c r) (right c r) s1 (omega (
-            arith,
-            ints,
-          )) a.over_left,
+          last_side (c *ℤ q.d) (c *ℤ q.d) q d p r a (neg_ℤ (pos 1)) (pos 1) c (low c r) (right c r) s1 i1 a.over_left,
           (
             last_side (c *ℤ q.d) (c *ℤ q.d) q d p r a (neg_ℤ (pos 1)) (neg_ℤ (pos 1)) c (right c r) (high c r)
                 s2
-                (omega (arith, ints)) a.below_left,
+                i2 a.below_left,
             (
               over p r q d (pos 0) (pos 0 -ℤ c) (high c r) (high c p) s3 l,
               (
                 first_side (c *ℤ q.d) (c *ℤ q.d) q d p r a (pos 1) (neg_ℤ (pos 1)) c (high c p) (left c p) s4
-                    (omega (arith, ints)) a.below_right,
+                    i4 a.below_right,
                 (
-                  first_side (c *ℤ q.d) (c *ℤ q.d) q d p r a (pos 1) (pos 1) c (left c p) (low c p) s5 (omega (
-                    arith,
-                    ints,
-                  )) a.over_right,
+                  first_side (c *ℤ q.d) (c *ℤ q.d) q d p r a (pos 1) (pos 1) c (left c p) (low c p) s5 i5 a.over_right,
                   tt,
                 ),
               ),
@@ -129,7 +137,7 @@ module _ (c : ℤ) (less : pos 0 <ℤ c) (p r : Pt) (y : p.y ≤ℤ r.y) (x : (r
           (omega (arith, ints)),
       (
         turns (pos 1) (pos 0 -ℤ neg_ℤ (pos 1)) (neg_ℤ (pos 1)) (pos 0 -ℤ neg_ℤ (pos 1)) (low c r) (right c r)
-            (high c r) s1.step s2.step (omega (arith, ints)),
+            (high c r) s1.step s2.step quarter,
         (
           turns (neg_ℤ (pos 1)) (pos 0 -ℤ neg_ℤ (pos 1)) (p.x -ℤ r.x) (p.y -ℤ r.y) (right c r) (high c r)
               (high c p)
@@ -140,7 +148,7 @@ module _ (c : ℤ) (less : pos 0 <ℤ c) (p r : Pt) (y : p.y ≤ℤ r.y) (x : (r
             (
               turns (neg_ℤ (pos 1)) (pos 0 -ℤ pos 1) (pos 1) (pos 0 -ℤ pos 1) (high c p) (left c p) (low c p)
                   s4.step
-                  s5.step (omega (arith, ints)),
+                  s5.step quarter,
               (
                 turns (pos 1) (pos 0 -ℤ pos 1) (r.x -ℤ p.x) (r.y -ℤ p.y) (left c p) (low c p) (low c r) s5.step t0
                     (omega (arith, ints)),

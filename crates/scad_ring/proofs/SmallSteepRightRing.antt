@@ -14,7 +14,8 @@ use Rattle.scad_ring.specs.declared.direction.Direction.TheVariants.{SteepRight}
 use Rattle.scad_ring.specs.Corners.{four_sided, low, right, high, left}
 use Rattle.scad_ring.proofs.Octants.{approach_four}
 use Rattle.scad_ring.proofs.Approaches.{ApproachFrom, meets_if_approach, approach_if_meets}
-use Rattle.scad_ring.proofs.Steps.{Step, Side, Beside, step, side, along, turns, side_gap, first_side, last_side}
+use Rattle.scad_ring.proofs.Steps.{Step, Side, Beside, step, along, turns, side_gap, first_side, last_side}
+use Rattle.scad_ring.proofs.OwnSides.{low_to_right, right_to_high, high_to_left, left_to_low, quarter}
 use Rattle.scad_ring.proofs.Slants.{PassesFrom, CornerFrom, under, over, line, steep_right_by, steep_left_by, steep_right_passes, steep_left_passes}
 use Rattle.scad_ring.proofs.Offsets.{IsNearWay, IsRingRound, near_first, near_last, low_in, right_in, high_in, left_in}
 
@@ -27,7 +28,7 @@ module _ (c : ℤ) (less : pos 0 <ℤ c) (p r : Pt) (x : (r.x -ℤ p.x) <ℤ (r.
     sum = omega (arith, ints)
 
     s0 : Side (neg_ℤ (pos 1)) (pos 1) c p (low c p) (right c p)
-    s0 = side c (omega (arith, ints)) (omega (arith, ints)) (omega (arith, ints)) (omega (arith, ints))
+    s0 = low_to_right c less p
 
     s1 : Beside c (pos 0) p r (right c p) (right c r)
     s1 = along (omega (arith, ints)) (omega (arith, ints)) (omega (arith, ints)) (omega (arith, ints))
@@ -36,10 +37,10 @@ module _ (c : ℤ) (less : pos 0 <ℤ c) (p r : Pt) (x : (r.x -ℤ p.x) <ℤ (r.
     t1 = step (pos 1) (omega (arith, ints)) (omega (arith, ints)) (omega (arith, ints))
 
     s2 : Side (neg_ℤ (pos 1)) (neg_ℤ (pos 1)) c r (right c r) (high c r)
-    s2 = side c (omega (arith, ints)) (omega (arith, ints)) (omega (arith, ints)) (omega (arith, ints))
+    s2 = right_to_high c less r
 
     s3 : Side (pos 1) (neg_ℤ (pos 1)) c r (high c r) (left c r)
-    s3 = side c (omega (arith, ints)) (omega (arith, ints)) (omega (arith, ints)) (omega (arith, ints))
+    s3 = high_to_left c less r
 
     s4 : Beside (pos 0 -ℤ c) (pos 0 -ℤ (pos 0)) r p (left c r) (left c p)
     s4 = along (omega (arith, ints)) (omega (arith, ints)) (omega (arith, ints)) (omega (arith, ints))
@@ -48,7 +49,20 @@ module _ (c : ℤ) (less : pos 0 <ℤ c) (p r : Pt) (x : (r.x -ℤ p.x) <ℤ (r.
     t4 = step (pos 1) (omega (arith, ints)) (omega (arith, ints)) (omega (arith, ints))
 
     s5 : Side (pos 1) (pos 1) c p (left c p) (low c p)
-    s5 = side c (omega (arith, ints)) (omega (arith, ints)) (omega (arith, ints)) (omega (arith, ints))
+    s5 = left_to_low c less p
+
+    -- the edge runs inwards from a side, or outwards to it
+    i0 : pos 0 ≤ℤ (neg_ℤ (pos 1) *ℤ (r.x -ℤ p.x) +ℤ pos 1 *ℤ (r.y -ℤ p.y))
+    i0 = omega (arith, ints)
+
+    i2 : pos 0 ≤ℤ (neg_ℤ (pos 1) *ℤ (p.x -ℤ r.x) +ℤ neg_ℤ (pos 1) *ℤ (p.y -ℤ r.y))
+    i2 = omega (arith, ints)
+
+    i3 : pos 0 ≤ℤ (pos 1 *ℤ (p.x -ℤ r.x) +ℤ neg_ℤ (pos 1) *ℤ (p.y -ℤ r.y))
+    i3 = omega (arith, ints)
+
+    i5 : pos 0 ≤ℤ (pos 1 *ℤ (r.x -ℤ p.x) +ℤ pos 1 *ℤ (r.y -ℤ p.y))
+    i5 = omega (arith, ints)
 
     sides_if : (q : Point) → pos 0 <ℤ q.d → ApproachFrom c c q p r
         → All (IsLeftOf q) (segments (sides (four_sided c p r SteepRight)))
@@ -58,26 +72,20 @@ module _ (c : ℤ) (less : pos 0 <ℤ c) (p r : Pt) (x : (r.x -ℤ p.x) <ℤ (r.
           | inr h ↦ steep_left_passes p r q d c (pos 0) c sum weak less (omega (arith, ints)) (omega (arith, ints)) a
         ] in
         All-from_recursion (IsLeftOf q) (segments (sides (four_sided c p r SteepRight))) (
-          first_side (c *ℤ q.d) (c *ℤ q.d) q d p r a (neg_ℤ (pos 1)) (pos 1) c (low c p) (right c p) s0 (omega (
-            arith,
-            ints,
-          )) a.over_left,
+          first_side (c *ℤ q.d) (c *ℤ q.d) q d p r a (neg_ℤ (pos 1)) (pos 1) c (low c p) (right c p) s0 i0 a.over_left,
           (
             under p r q d c (pos 0) (right c p) (right c r) s1 l,
             (
               last_side (c *ℤ q.d) (c *ℤ q.d) q d p r a (neg_ℤ (pos 1)) (neg_ℤ (pos 1)) c (right c r) (high c r)
                   s2
-                  (omega (arith, ints)) a.below_left,
+                  i2 a.below_left,
               (
                 last_side (c *ℤ q.d) (c *ℤ q.d) q d p r a (pos 1) (neg_ℤ (pos 1)) c (high c r) (left c r) s3
-                    (omega (arith, ints)) a.below_right,
+                    i3 a.below_right,
                 (
                   over p r q d c (pos 0) (left c r) (left c p) s4 l,
                   (
-                    first_side (c *ℤ q.d) (c *ℤ q.d) q d p r a (pos 1) (pos 1) c (left c p) (low c p) s5 (omega (
-                      arith,
-                      ints,
-                    )) a.over_right,
+                    first_side (c *ℤ q.d) (c *ℤ q.d) q d p r a (pos 1) (pos 1) c (left c p) (low c p) s5 i5 a.over_right,
                     tt,
                   ),
                 ),
@@ -138,7 +146,7 @@ module _ (c : ℤ) (less : pos 0 <ℤ c) (p r : Pt) (x : (r.x -ℤ p.x) <ℤ (r.
           (
             turns (neg_ℤ (pos 1)) (pos 0 -ℤ neg_ℤ (pos 1)) (neg_ℤ (pos 1)) (pos 0 -ℤ pos 1) (right c r)
                 (high c r)
-                (left c r) s2.step s3.step (omega (arith, ints)),
+                (left c r) s2.step s3.step quarter,
             (
               turns (neg_ℤ (pos 1)) (pos 0 -ℤ pos 1) (p.x -ℤ r.x) (p.y -ℤ r.y) (high c r) (left c r) (left c p)
                   s3.step
@@ -149,7 +157,7 @@ module _ (c : ℤ) (less : pos 0 <ℤ c) (p r : Pt) (x : (r.x -ℤ p.x) <ℤ (r.
                     (omega (arith, ints)),
                 (
                   turns (pos 1) (pos 0 -ℤ pos 1) (pos 1) (pos 0 -ℤ neg_ℤ (pos 1)) (left c p) (low c p) (right c p)
-                      s5.step s0.step (omega (arith, ints)),
+                      s5.step s0.step quarter,
                   tt,
                 ),
               ),

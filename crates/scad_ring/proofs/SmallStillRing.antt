@@ -14,6 +14,7 @@ use Rattle.scad_ring.specs.Corners.{four_sided, low, right, high, left}
 use Rattle.scad_ring.proofs.Octants.{approach_four_point}
 use Rattle.scad_ring.proofs.Approaches.{ApproachFrom, meets_if_approach, approach_if_meets}
 use Rattle.scad_ring.proofs.Steps.{Side, side, turns, side_gap, first_side, last_side}
+use Rattle.scad_ring.proofs.OwnSides.{right_to_high, left_to_low, quarter}
 use Rattle.scad_ring.proofs.Slants.{}
 use Rattle.scad_ring.proofs.Offsets.{IsNearWay, IsRingRound, near_first, near_last, low_in, right_in, high_in, left_in}
 
@@ -31,7 +32,7 @@ module _ (c : ℤ) (less : pos 0 <ℤ c) (p r : Pt) (x : p.x ≡ r.x) (y : p.y �
   ))
 
   s1 : Side (neg_ℤ (pos 1)) (neg_ℤ (pos 1)) c r (right c r) (high c r)
-  s1 = side c (omega (arith, ints)) (omega (arith, ints)) (omega (arith, ints)) (omega (arith, ints))
+  s1 = right_to_high c less r
 
   s2 : Side (pos 1) (neg_ℤ (pos 1)) c p (high c r) (left c p)
   s2 = side (c +ℤ (r.x -ℤ p.x)) (omega (arith, ints)) (omega (arith, ints)) (omega (arith, ints)) (omega (
@@ -40,27 +41,34 @@ module _ (c : ℤ) (less : pos 0 <ℤ c) (p r : Pt) (x : p.x ≡ r.x) (y : p.y �
   ))
 
   s3 : Side (pos 1) (pos 1) c p (left c p) (low c p)
-  s3 = side c (omega (arith, ints)) (omega (arith, ints)) (omega (arith, ints)) (omega (arith, ints))
+  s3 = left_to_low c less p
+
+  -- the edge runs inwards from a side, or outwards to it
+  i0 : pos 0 ≤ℤ (neg_ℤ (pos 1) *ℤ (r.x -ℤ p.x) +ℤ pos 1 *ℤ (r.y -ℤ p.y))
+  i0 = omega (arith, ints)
+
+  i1 : pos 0 ≤ℤ (neg_ℤ (pos 1) *ℤ (p.x -ℤ r.x) +ℤ neg_ℤ (pos 1) *ℤ (p.y -ℤ r.y))
+  i1 = omega (arith, ints)
+
+  i2 : pos 0 ≤ℤ (pos 1 *ℤ (r.x -ℤ p.x) +ℤ neg_ℤ (pos 1) *ℤ (r.y -ℤ p.y))
+  i2 = omega (arith, ints)
+
+  i3 : pos 0 ≤ℤ (pos 1 *ℤ (r.x -ℤ p.x) +ℤ pos 1 *ℤ (r.y -ℤ p.y))
+  i3 = omega (arith, ints)
 
   sides_if : (q : Point) → pos 0 <ℤ q.d → ApproachFrom c c q p r
       → All (IsLeftOf q) (segments (sides (four_sided c p r Still)))
   sides_if q d a =
       All-from_recursion (IsLeftOf q) (segments (sides (four_sided c p r Still))) (
-        first_side (c *ℤ q.d) (c *ℤ q.d) q d p r a (neg_ℤ (pos 1)) (pos 1) c (low c p) (right c r) s0 (omega (
-          arith,
-          ints,
-        )) a.over_left,
+        first_side (c *ℤ q.d) (c *ℤ q.d) q d p r a (neg_ℤ (pos 1)) (pos 1) c (low c p) (right c r) s0 i0 a.over_left,
         (
           last_side (c *ℤ q.d) (c *ℤ q.d) q d p r a (neg_ℤ (pos 1)) (neg_ℤ (pos 1)) c (right c r) (high c r) s1
-              (omega (arith, ints)) a.below_left,
+              i1 a.below_left,
           (
             first_side (c *ℤ q.d) (c *ℤ q.d) q d p r a (pos 1) (neg_ℤ (pos 1)) c (high c r) (left c p) s2
-                (omega (arith, ints)) a.below_right,
+                i2 a.below_right,
             (
-              first_side (c *ℤ q.d) (c *ℤ q.d) q d p r a (pos 1) (pos 1) c (left c p) (low c p) s3 (omega (
-                arith,
-                ints,
-              )) a.over_right,
+              first_side (c *ℤ q.d) (c *ℤ q.d) q d p r a (pos 1) (pos 1) c (left c p) (low c p) s3 i3 a.over_right,
               tt,
             ),
           ),
@@ -101,17 +109,17 @@ module _ (c : ℤ) (less : pos 0 <ℤ c) (p r : Pt) (x : p.x ≡ r.x) (y : p.y �
     );
     turns = (
       turns (pos 1) (pos 0 -ℤ neg_ℤ (pos 1)) (neg_ℤ (pos 1)) (pos 0 -ℤ neg_ℤ (pos 1)) (low c p) (right c r)
-          (high c r) s0.step s1.step (omega (arith, ints)),
+          (high c r) s0.step s1.step quarter,
       (
         turns (neg_ℤ (pos 1)) (pos 0 -ℤ neg_ℤ (pos 1)) (neg_ℤ (pos 1)) (pos 0 -ℤ pos 1) (right c r) (high c r)
-            (left c p) s1.step s2.step (omega (arith, ints)),
+            (left c p) s1.step s2.step quarter,
         (
           turns (neg_ℤ (pos 1)) (pos 0 -ℤ pos 1) (pos 1) (pos 0 -ℤ pos 1) (high c r) (left c p) (low c p) s2.step
-              s3.step (omega (arith, ints)),
+              s3.step quarter,
           (
             turns (pos 1) (pos 0 -ℤ pos 1) (pos 1) (pos 0 -ℤ neg_ℤ (pos 1)) (left c p) (low c p) (right c r)
                 s3.step
-                s0.step (omega (arith, ints)),
+                s0.step quarter,
             tt,
           ),
         ),

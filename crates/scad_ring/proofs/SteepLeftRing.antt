@@ -13,7 +13,8 @@ use Rattle.scad_ring.specs.declared.direction.Direction.TheVariants.{SteepLeft}
 use Rattle.scad_ring.specs.Corners.{eight_sided, low_left, low_right, right_low, right_high, high_right, high_left, left_high, left_low}
 use Rattle.scad_ring.proofs.Octants.{approach}
 use Rattle.scad_ring.proofs.Approaches.{ApproachFrom, meets_if_approach, approach_if_meets}
-use Rattle.scad_ring.proofs.Steps.{Step, Side, Beside, step, side, along, turns, side_gap, first_side, last_side}
+use Rattle.scad_ring.proofs.Steps.{Step, Side, Beside, step, along, turns, side_gap, first_side, last_side}
+use Rattle.scad_ring.proofs.OwnSides.{low_side, low_right_side, right_side, high_right_side, high_side, high_left_side, left_side, low_left_side, eighth}
 use Rattle.scad_ring.proofs.Slants.{under, over, line, steep_left_by, steep_left_passes}
 use Rattle.scad_ring.proofs.Offsets.{IsNearWay, IsRingRound, near_first, near_last, low_left_in, low_right_in, right_low_in, right_high_in, high_right_in, high_left_in, left_high_in, left_low_in}
 
@@ -23,13 +24,13 @@ module _ (c t u : ℤ) (sum : u ≡ c +ℤ t) (some : pos 0 <ℤ t) (less : t <�
   weak = omega (arith, ints)
 
   s0 : Side (pos 0) (pos 1) c p (low_left c t p) (low_right c t p)
-  s0 = side (pos 2 *ℤ t) (omega (arith, ints)) (omega (arith, ints)) (omega (arith, ints)) (omega (arith, ints))
+  s0 = low_side c t u sum some less p
 
   s1 : Side (neg_ℤ (pos 1)) (pos 1) u p (low_right c t p) (right_low c t p)
-  s1 = side (c -ℤ t) (omega (arith, ints)) (omega (arith, ints)) (omega (arith, ints)) (omega (arith, ints))
+  s1 = low_right_side c t u sum some less p
 
   s2 : Side (neg_ℤ (pos 1)) (pos 0) c p (right_low c t p) (right_high c t p)
-  s2 = side (pos 2 *ℤ t) (omega (arith, ints)) (omega (arith, ints)) (omega (arith, ints)) (omega (arith, ints))
+  s2 = right_side c t u sum some less p
 
   s3 : Beside c t p r (right_high c t p) (right_high c t r)
   s3 = along (omega (arith, ints)) (omega (arith, ints)) (omega (arith, ints)) (omega (arith, ints))
@@ -38,16 +39,16 @@ module _ (c t u : ℤ) (sum : u ≡ c +ℤ t) (some : pos 0 <ℤ t) (less : t <�
   t3 = step (pos 1) (omega (arith, ints)) (omega (arith, ints)) (omega (arith, ints))
 
   s4 : Side (neg_ℤ (pos 1)) (neg_ℤ (pos 1)) u r (right_high c t r) (high_right c t r)
-  s4 = side (c -ℤ t) (omega (arith, ints)) (omega (arith, ints)) (omega (arith, ints)) (omega (arith, ints))
+  s4 = high_right_side c t u sum some less r
 
   s5 : Side (pos 0) (neg_ℤ (pos 1)) c r (high_right c t r) (high_left c t r)
-  s5 = side (pos 2 *ℤ t) (omega (arith, ints)) (omega (arith, ints)) (omega (arith, ints)) (omega (arith, ints))
+  s5 = high_side c t u sum some less r
 
   s6 : Side (pos 1) (neg_ℤ (pos 1)) u r (high_left c t r) (left_high c t r)
-  s6 = side (c -ℤ t) (omega (arith, ints)) (omega (arith, ints)) (omega (arith, ints)) (omega (arith, ints))
+  s6 = high_left_side c t u sum some less r
 
   s7 : Side (pos 1) (pos 0) c r (left_high c t r) (left_low c t r)
-  s7 = side (pos 2 *ℤ t) (omega (arith, ints)) (omega (arith, ints)) (omega (arith, ints)) (omega (arith, ints))
+  s7 = left_side c t u sum some less r
 
   s8 : Beside (pos 0 -ℤ c) (pos 0 -ℤ t) r p (left_low c t r) (left_low c t p)
   s8 = along (omega (arith, ints)) (omega (arith, ints)) (omega (arith, ints)) (omega (arith, ints))
@@ -56,7 +57,32 @@ module _ (c t u : ℤ) (sum : u ≡ c +ℤ t) (some : pos 0 <ℤ t) (less : t <�
   t8 = step (pos 1) (omega (arith, ints)) (omega (arith, ints)) (omega (arith, ints))
 
   s9 : Side (pos 1) (pos 1) u p (left_low c t p) (low_left c t p)
-  s9 = side (c -ℤ t) (omega (arith, ints)) (omega (arith, ints)) (omega (arith, ints)) (omega (arith, ints))
+  s9 = low_left_side c t u sum some less p
+
+  -- the edge runs inwards from a side, or outwards to it
+  i0 : pos 0 ≤ℤ (pos 0 *ℤ (r.x -ℤ p.x) +ℤ pos 1 *ℤ (r.y -ℤ p.y))
+  i0 = omega (arith, ints)
+
+  i1 : pos 0 ≤ℤ (neg_ℤ (pos 1) *ℤ (r.x -ℤ p.x) +ℤ pos 1 *ℤ (r.y -ℤ p.y))
+  i1 = omega (arith, ints)
+
+  i2 : pos 0 ≤ℤ (neg_ℤ (pos 1) *ℤ (r.x -ℤ p.x) +ℤ pos 0 *ℤ (r.y -ℤ p.y))
+  i2 = omega (arith, ints)
+
+  i4 : pos 0 ≤ℤ (neg_ℤ (pos 1) *ℤ (p.x -ℤ r.x) +ℤ neg_ℤ (pos 1) *ℤ (p.y -ℤ r.y))
+  i4 = omega (arith, ints)
+
+  i5 : pos 0 ≤ℤ (pos 0 *ℤ (p.x -ℤ r.x) +ℤ neg_ℤ (pos 1) *ℤ (p.y -ℤ r.y))
+  i5 = omega (arith, ints)
+
+  i6 : pos 0 ≤ℤ (pos 1 *ℤ (p.x -ℤ r.x) +ℤ neg_ℤ (pos 1) *ℤ (p.y -ℤ r.y))
+  i6 = omega (arith, ints)
+
+  i7 : pos 0 ≤ℤ (pos 1 *ℤ (p.x -ℤ r.x) +ℤ pos 0 *ℤ (p.y -ℤ r.y))
+  i7 = omega (arith, ints)
+
+  i9 : pos 0 ≤ℤ (pos 1 *ℤ (r.x -ℤ p.x) +ℤ pos 1 *ℤ (r.y -ℤ p.y))
+  i9 = omega (arith, ints)
 
   sides_if : (q : Point) → pos 0 <ℤ q.d → ApproachFrom c u q p r
       → All (IsLeftOf q) (segments (sides (eight_sided c t p r SteepLeft)))
@@ -64,34 +90,34 @@ module _ (c t u : ℤ) (sum : u ≡ c +ℤ t) (some : pos 0 <ℤ t) (less : t <�
       let l = steep_left_passes p r q d c t u sum weak less (omega (arith, ints)) (omega (arith, ints)) a in
       All-from_recursion (IsLeftOf q) (segments (sides (eight_sided c t p r SteepLeft))) (
         first_side (c *ℤ q.d) (u *ℤ q.d) q d p r a (pos 0) (pos 1) c (low_left c t p) (low_right c t p) s0
-            (omega (arith, ints)) a.over,
+            i0 a.over,
         (
           first_side (c *ℤ q.d) (u *ℤ q.d) q d p r a (neg_ℤ (pos 1)) (pos 1) u (low_right c t p) (right_low c t p)
               s1
-              (omega (arith, ints)) a.over_left,
+              i1 a.over_left,
           (
             first_side (c *ℤ q.d) (u *ℤ q.d) q d p r a (neg_ℤ (pos 1)) (pos 0) c (right_low c t p)
                 (right_high c t p)
-                s2 (omega (arith, ints)) a.left,
+                s2 i2 a.left,
             (
               under p r q d c t (right_high c t p) (right_high c t r) s3 l,
               (
                 last_side (c *ℤ q.d) (u *ℤ q.d) q d p r a (neg_ℤ (pos 1)) (neg_ℤ (pos 1)) u (right_high c t r)
-                    (high_right c t r) s4 (omega (arith, ints)) a.below_left,
+                    (high_right c t r) s4 i4 a.below_left,
                 (
                   last_side (c *ℤ q.d) (u *ℤ q.d) q d p r a (pos 0) (neg_ℤ (pos 1)) c (high_right c t r)
-                      (high_left c t r) s5 (omega (arith, ints)) a.below,
+                      (high_left c t r) s5 i5 a.below,
                   (
                     last_side (c *ℤ q.d) (u *ℤ q.d) q d p r a (pos 1) (neg_ℤ (pos 1)) u (high_left c t r)
-                        (left_high c t r) s6 (omega (arith, ints)) a.below_right,
+                        (left_high c t r) s6 i6 a.below_right,
                     (
                       last_side (c *ℤ q.d) (u *ℤ q.d) q d p r a (pos 1) (pos 0) c (left_high c t r) (left_low c t r)
-                          s7 (omega (arith, ints)) a.right,
+                          s7 i7 a.right,
                       (
                         over p r q d c t (left_low c t r) (left_low c t p) s8 l,
                         (
                           first_side (c *ℤ q.d) (u *ℤ q.d) q d p r a (pos 1) (pos 1) u (left_low c t p)
-                              (low_left c t p) s9 (omega (arith, ints)) a.over_right,
+                              (low_left c t p) s9 i9 a.over_right,
                           tt,
                         ),
                       ),
@@ -172,11 +198,11 @@ module _ (c t u : ℤ) (sum : u ≡ c +ℤ t) (some : pos 0 <ℤ t) (less : t <�
     );
     turns = (
       turns (pos 1) (pos 0 -ℤ pos 0) (pos 1) (pos 0 -ℤ neg_ℤ (pos 1)) (low_left c t p) (low_right c t p)
-          (right_low c t p) s0.step s1.step (omega (arith, ints)),
+          (right_low c t p) s0.step s1.step eighth,
       (
         turns (pos 1) (pos 0 -ℤ neg_ℤ (pos 1)) (pos 0) (pos 0 -ℤ neg_ℤ (pos 1)) (low_right c t p)
             (right_low c t p)
-            (right_high c t p) s1.step s2.step (omega (arith, ints)),
+            (right_high c t p) s1.step s2.step eighth,
         (
           turns (pos 0) (pos 0 -ℤ neg_ℤ (pos 1)) (r.x -ℤ p.x) (r.y -ℤ p.y) (right_low c t p) (right_high c t p)
               (right_high c t r) s2.step t3 (omega (arith, ints)),
@@ -186,14 +212,14 @@ module _ (c t u : ℤ) (sum : u ≡ c +ℤ t) (some : pos 0 <ℤ t) (less : t <�
             (
               turns (neg_ℤ (pos 1)) (pos 0 -ℤ neg_ℤ (pos 1)) (neg_ℤ (pos 1)) (pos 0 -ℤ pos 0)
                   (right_high c t r)
-                  (high_right c t r) (high_left c t r) s4.step s5.step (omega (arith, ints)),
+                  (high_right c t r) (high_left c t r) s4.step s5.step eighth,
               (
                 turns (neg_ℤ (pos 1)) (pos 0 -ℤ pos 0) (neg_ℤ (pos 1)) (pos 0 -ℤ pos 1) (high_right c t r)
-                    (high_left c t r) (left_high c t r) s5.step s6.step (omega (arith, ints)),
+                    (high_left c t r) (left_high c t r) s5.step s6.step eighth,
                 (
                   turns (neg_ℤ (pos 1)) (pos 0 -ℤ pos 1) (pos 0) (pos 0 -ℤ pos 1) (high_left c t r)
                       (left_high c t r)
-                      (left_low c t r) s6.step s7.step (omega (arith, ints)),
+                      (left_low c t r) s6.step s7.step eighth,
                   (
                     turns (pos 0) (pos 0 -ℤ pos 1) (p.x -ℤ r.x) (p.y -ℤ r.y) (left_high c t r) (left_low c t r)
                         (left_low c t p) s7.step t8 (omega (arith, ints)),
@@ -202,7 +228,7 @@ module _ (c t u : ℤ) (sum : u ≡ c +ℤ t) (some : pos 0 <ℤ t) (less : t <�
                           (low_left c t p) t8 s9.step (omega (arith, ints)),
                       (
                         turns (pos 1) (pos 0 -ℤ pos 1) (pos 1) (pos 0 -ℤ pos 0) (left_low c t p) (low_left c t p)
-                            (low_right c t p) s9.step s0.step (omega (arith, ints)),
+                            (low_right c t p) s9.step s0.step eighth,
                         tt,
                       ),
                     ),

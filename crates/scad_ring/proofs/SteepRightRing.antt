@@ -13,7 +13,8 @@ use Rattle.scad_ring.specs.declared.direction.Direction.TheVariants.{SteepRight}
 use Rattle.scad_ring.specs.Corners.{eight_sided, low_left, low_right, right_low, right_high, high_right, high_left, left_high, left_low}
 use Rattle.scad_ring.proofs.Octants.{approach}
 use Rattle.scad_ring.proofs.Approaches.{ApproachFrom, meets_if_approach, approach_if_meets}
-use Rattle.scad_ring.proofs.Steps.{Step, Side, Beside, step, side, along, turns, side_gap, first_side, last_side}
+use Rattle.scad_ring.proofs.Steps.{Step, Side, Beside, step, along, turns, side_gap, first_side, last_side}
+use Rattle.scad_ring.proofs.OwnSides.{low_side, low_right_side, right_side, high_right_side, high_side, high_left_side, left_side, low_left_side, eighth}
 use Rattle.scad_ring.proofs.Slants.{under, over, line, steep_right_by, steep_right_passes}
 use Rattle.scad_ring.proofs.Offsets.{IsNearWay, IsRingRound, near_first, near_last, low_left_in, low_right_in, right_low_in, right_high_in, high_right_in, high_left_in, left_high_in, left_low_in}
 
@@ -23,10 +24,10 @@ module _ (c t u : ℤ) (sum : u ≡ c +ℤ t) (some : pos 0 <ℤ t) (less : t <�
   weak = omega (arith, ints)
 
   s0 : Side (pos 0) (pos 1) c p (low_left c t p) (low_right c t p)
-  s0 = side (pos 2 *ℤ t) (omega (arith, ints)) (omega (arith, ints)) (omega (arith, ints)) (omega (arith, ints))
+  s0 = low_side c t u sum some less p
 
   s1 : Side (neg_ℤ (pos 1)) (pos 1) u p (low_right c t p) (right_low c t p)
-  s1 = side (c -ℤ t) (omega (arith, ints)) (omega (arith, ints)) (omega (arith, ints)) (omega (arith, ints))
+  s1 = low_right_side c t u sum some less p
 
   s2 : Beside c (pos 0 -ℤ t) p r (right_low c t p) (right_low c t r)
   s2 = along (omega (arith, ints)) (omega (arith, ints)) (omega (arith, ints)) (omega (arith, ints))
@@ -35,16 +36,16 @@ module _ (c t u : ℤ) (sum : u ≡ c +ℤ t) (some : pos 0 <ℤ t) (less : t <�
   t2 = step (pos 1) (omega (arith, ints)) (omega (arith, ints)) (omega (arith, ints))
 
   s3 : Side (neg_ℤ (pos 1)) (pos 0) c r (right_low c t r) (right_high c t r)
-  s3 = side (pos 2 *ℤ t) (omega (arith, ints)) (omega (arith, ints)) (omega (arith, ints)) (omega (arith, ints))
+  s3 = right_side c t u sum some less r
 
   s4 : Side (neg_ℤ (pos 1)) (neg_ℤ (pos 1)) u r (right_high c t r) (high_right c t r)
-  s4 = side (c -ℤ t) (omega (arith, ints)) (omega (arith, ints)) (omega (arith, ints)) (omega (arith, ints))
+  s4 = high_right_side c t u sum some less r
 
   s5 : Side (pos 0) (neg_ℤ (pos 1)) c r (high_right c t r) (high_left c t r)
-  s5 = side (pos 2 *ℤ t) (omega (arith, ints)) (omega (arith, ints)) (omega (arith, ints)) (omega (arith, ints))
+  s5 = high_side c t u sum some less r
 
   s6 : Side (pos 1) (neg_ℤ (pos 1)) u r (high_left c t r) (left_high c t r)
-  s6 = side (c -ℤ t) (omega (arith, ints)) (omega (arith, ints)) (omega (arith, ints)) (omega (arith, ints))
+  s6 = high_left_side c t u sum some less r
 
   s7 : Beside (pos 0 -ℤ c) (pos 0 -ℤ (pos 0 -ℤ t)) r p (left_high c t r) (left_high c t p)
   s7 = along (omega (arith, ints)) (omega (arith, ints)) (omega (arith, ints)) (omega (arith, ints))
@@ -53,10 +54,35 @@ module _ (c t u : ℤ) (sum : u ≡ c +ℤ t) (some : pos 0 <ℤ t) (less : t <�
   t7 = step (pos 1) (omega (arith, ints)) (omega (arith, ints)) (omega (arith, ints))
 
   s8 : Side (pos 1) (pos 0) c p (left_high c t p) (left_low c t p)
-  s8 = side (pos 2 *ℤ t) (omega (arith, ints)) (omega (arith, ints)) (omega (arith, ints)) (omega (arith, ints))
+  s8 = left_side c t u sum some less p
 
   s9 : Side (pos 1) (pos 1) u p (left_low c t p) (low_left c t p)
-  s9 = side (c -ℤ t) (omega (arith, ints)) (omega (arith, ints)) (omega (arith, ints)) (omega (arith, ints))
+  s9 = low_left_side c t u sum some less p
+
+  -- the edge runs inwards from a side, or outwards to it
+  i0 : pos 0 ≤ℤ (pos 0 *ℤ (r.x -ℤ p.x) +ℤ pos 1 *ℤ (r.y -ℤ p.y))
+  i0 = omega (arith, ints)
+
+  i1 : pos 0 ≤ℤ (neg_ℤ (pos 1) *ℤ (r.x -ℤ p.x) +ℤ pos 1 *ℤ (r.y -ℤ p.y))
+  i1 = omega (arith, ints)
+
+  i3 : pos 0 ≤ℤ (neg_ℤ (pos 1) *ℤ (p.x -ℤ r.x) +ℤ pos 0 *ℤ (p.y -ℤ r.y))
+  i3 = omega (arith, ints)
+
+  i4 : pos 0 ≤ℤ (neg_ℤ (pos 1) *ℤ (p.x -ℤ r.x) +ℤ neg_ℤ (pos 1) *ℤ (p.y -ℤ r.y))
+  i4 = omega (arith, ints)
+
+  i5 : pos 0 ≤ℤ (pos 0 *ℤ (p.x -ℤ r.x) +ℤ neg_ℤ (pos 1) *ℤ (p.y -ℤ r.y))
+  i5 = omega (arith, ints)
+
+  i6 : pos 0 ≤ℤ (pos 1 *ℤ (p.x -ℤ r.x) +ℤ neg_ℤ (pos 1) *ℤ (p.y -ℤ r.y))
+  i6 = omega (arith, ints)
+
+  i8 : pos 0 ≤ℤ (pos 1 *ℤ (r.x -ℤ p.x) +ℤ pos 0 *ℤ (r.y -ℤ p.y))
+  i8 = omega (arith, ints)
+
+  i9 : pos 0 ≤ℤ (pos 1 *ℤ (r.x -ℤ p.x) +ℤ pos 1 *ℤ (r.y -ℤ p.y))
+  i9 = omega (arith, ints)
 
   sides_if : (q : Point) → pos 0 <ℤ q.d → ApproachFrom c u q p r
       → All (IsLeftOf q) (segments (sides (eight_sided c t p r SteepRight)))
@@ -64,33 +90,33 @@ module _ (c t u : ℤ) (sum : u ≡ c +ℤ t) (some : pos 0 <ℤ t) (less : t <�
       let l = steep_right_passes p r q d c t u sum weak less (omega (arith, ints)) (omega (arith, ints)) a in
       All-from_recursion (IsLeftOf q) (segments (sides (eight_sided c t p r SteepRight))) (
         first_side (c *ℤ q.d) (u *ℤ q.d) q d p r a (pos 0) (pos 1) c (low_left c t p) (low_right c t p) s0
-            (omega (arith, ints)) a.over,
+            i0 a.over,
         (
           first_side (c *ℤ q.d) (u *ℤ q.d) q d p r a (neg_ℤ (pos 1)) (pos 1) u (low_right c t p) (right_low c t p)
               s1
-              (omega (arith, ints)) a.over_left,
+              i1 a.over_left,
           (
             under p r q d c (pos 0 -ℤ t) (right_low c t p) (right_low c t r) s2 l,
             (
               last_side (c *ℤ q.d) (u *ℤ q.d) q d p r a (neg_ℤ (pos 1)) (pos 0) c (right_low c t r)
-                  (right_high c t r) s3 (omega (arith, ints)) a.left,
+                  (right_high c t r) s3 i3 a.left,
               (
                 last_side (c *ℤ q.d) (u *ℤ q.d) q d p r a (neg_ℤ (pos 1)) (neg_ℤ (pos 1)) u (right_high c t r)
-                    (high_right c t r) s4 (omega (arith, ints)) a.below_left,
+                    (high_right c t r) s4 i4 a.below_left,
                 (
                   last_side (c *ℤ q.d) (u *ℤ q.d) q d p r a (pos 0) (neg_ℤ (pos 1)) c (high_right c t r)
-                      (high_left c t r) s5 (omega (arith, ints)) a.below,
+                      (high_left c t r) s5 i5 a.below,
                   (
                     last_side (c *ℤ q.d) (u *ℤ q.d) q d p r a (pos 1) (neg_ℤ (pos 1)) u (high_left c t r)
-                        (left_high c t r) s6 (omega (arith, ints)) a.below_right,
+                        (left_high c t r) s6 i6 a.below_right,
                     (
                       over p r q d c (pos 0 -ℤ t) (left_high c t r) (left_high c t p) s7 l,
                       (
                         first_side (c *ℤ q.d) (u *ℤ q.d) q d p r a (pos 1) (pos 0) c (left_high c t p)
-                            (left_low c t p) s8 (omega (arith, ints)) a.right,
+                            (left_low c t p) s8 i8 a.right,
                         (
                           first_side (c *ℤ q.d) (u *ℤ q.d) q d p r a (pos 1) (pos 1) u (left_low c t p)
-                              (low_left c t p) s9 (omega (arith, ints)) a.over_right,
+                              (low_left c t p) s9 i9 a.over_right,
                           tt,
                         ),
                       ),
@@ -172,7 +198,7 @@ module _ (c t u : ℤ) (sum : u ≡ c +ℤ t) (some : pos 0 <ℤ t) (less : t <�
     );
     turns = (
       turns (pos 1) (pos 0 -ℤ pos 0) (pos 1) (pos 0 -ℤ neg_ℤ (pos 1)) (low_left c t p) (low_right c t p)
-          (right_low c t p) s0.step s1.step (omega (arith, ints)),
+          (right_low c t p) s0.step s1.step eighth,
       (
         turns (pos 1) (pos 0 -ℤ neg_ℤ (pos 1)) (r.x -ℤ p.x) (r.y -ℤ p.y) (low_right c t p) (right_low c t p)
             (right_low c t r) s1.step t2 (omega (arith, ints)),
@@ -181,14 +207,14 @@ module _ (c t u : ℤ) (sum : u ≡ c +ℤ t) (some : pos 0 <ℤ t) (less : t <�
               (right_high c t r) t2 s3.step (omega (arith, ints)),
           (
             turns (pos 0) (pos 0 -ℤ neg_ℤ (pos 1)) (neg_ℤ (pos 1)) (pos 0 -ℤ neg_ℤ (pos 1)) (right_low c t r)
-                (right_high c t r) (high_right c t r) s3.step s4.step (omega (arith, ints)),
+                (right_high c t r) (high_right c t r) s3.step s4.step eighth,
             (
               turns (neg_ℤ (pos 1)) (pos 0 -ℤ neg_ℤ (pos 1)) (neg_ℤ (pos 1)) (pos 0 -ℤ pos 0)
                   (right_high c t r)
-                  (high_right c t r) (high_left c t r) s4.step s5.step (omega (arith, ints)),
+                  (high_right c t r) (high_left c t r) s4.step s5.step eighth,
               (
                 turns (neg_ℤ (pos 1)) (pos 0 -ℤ pos 0) (neg_ℤ (pos 1)) (pos 0 -ℤ pos 1) (high_right c t r)
-                    (high_left c t r) (left_high c t r) s5.step s6.step (omega (arith, ints)),
+                    (high_left c t r) (left_high c t r) s5.step s6.step eighth,
                 (
                   turns (neg_ℤ (pos 1)) (pos 0 -ℤ pos 1) (p.x -ℤ r.x) (p.y -ℤ r.y) (high_left c t r)
                       (left_high c t r) (left_high c t p) s6.step t7 (omega (arith, ints)),
@@ -197,10 +223,10 @@ module _ (c t u : ℤ) (sum : u ≡ c +ℤ t) (some : pos 0 <ℤ t) (less : t <�
                         (left_low c t p) t7 s8.step (omega (arith, ints)),
                     (
                       turns (pos 0) (pos 0 -ℤ pos 1) (pos 1) (pos 0 -ℤ pos 1) (left_high c t p) (left_low c t p)
-                          (low_left c t p) s8.step s9.step (omega (arith, ints)),
+                          (low_left c t p) s8.step s9.step eighth,
                       (
                         turns (pos 1) (pos 0 -ℤ pos 1) (pos 1) (pos 0 -ℤ pos 0) (left_low c t p) (low_left c t p)
-                            (low_right c t p) s9.step s0.step (omega (arith, ints)),
+                            (low_right c t p) s9.step s0.step eighth,
                         tt,
                       ),
                     ),
