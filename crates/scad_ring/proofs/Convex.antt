@@ -1,6 +1,6 @@
 -- Where a segment meets a convex region round the origin. It does where its line crosses a way through the origin
 -- between two points of the region, v and its mirror image, and no half plane of the region leaves out both its ends.
-use Rattle.std.proofs.Common.{◌≡◌, ◌⊎◌, inl, inr, [], ◌∷◌, refl, ap₂, arith, ℤ, pos, ◌+ℤ◌, ◌-ℤ◌, ◌*ℤ◌, ◌<ℤ◌}
+use Rattle.std.proofs.Common.{◌≡◌, ◌⊎◌, inl, inr, [], ◌∷◌, refl, sym, subst, ap₂, arith, ℤ, pos, ◌+ℤ◌, ◌-ℤ◌, ◌*ℤ◌, ◌<ℤ◌}
 use lib.Signed.{◌≤ℤ◌}
 use Rattle.std.proofs.lemmas.Int.{ints}
 use Rattle.scad_geom.proofs.Signs.{at_least_mul, at_least_left}
@@ -68,6 +68,40 @@ last_by n m ax ay bx by vx vy = ring (n ∷ m ∷ ax ∷ ay ∷ bx ∷ by ∷ vx
     ((v2 ⊗ v5 ⊖ v3 ⊗ v4) ⊗ (v0 ⊗ v6 ⊕ v1 ⊗ v7) ⊖ (num (pos 0) ⊖ (v6 ⊗ v5 ⊖ v7 ⊗ v4)) ⊗
     ((v0 ⊗ v4 ⊕ v1 ⊗ v5) ⊖ (v0 ⊗ v2 ⊕ v1 ⊗ v3))) refl
 
+-- ---- gaps, of numbers whatever they are
+gap_from : (a b : ℤ) → a ≤ℤ b → pos 0 ≤ℤ (b -ℤ a)
+gap_from a b h = omega (arith, ints)
+
+by_gap : (a b : ℤ) → pos 0 ≤ℤ (b -ℤ a) → a ≤ℤ b
+by_gap a b h = omega (arith, ints)
+
+back_from : (a : ℤ) → a ≤ℤ pos 0 → pos 0 ≤ℤ (pos 0 -ℤ a)
+back_from a h = omega (arith, ints)
+
+back_above : (a : ℤ) → a <ℤ pos 0 → pos 0 ≤ℤ (pos 0 -ℤ a)
+back_above a h = omega (arith, ints)
+
+weaker : (a b : ℤ) → a <ℤ b → a ≤ℤ b
+weaker a b h = omega (arith, ints)
+
+nothing : pos 0 ≤ℤ pos 0
+nothing = omega (arith, ints)
+
+one : pos 0 ≤ℤ pos 1
+one = omega (arith, ints)
+
+some_one : pos 0 <ℤ pos 1
+some_one = omega (arith, ints)
+
+gap_by : (z a b c d : ℤ) → z ≡ a -ℤ b → c ≡ b → d ≡ c → d ≤ℤ a → pos 0 ≤ℤ z
+gap_by z a b c d e f g h = omega (arith, ints)
+
+gap_and : (z a b d p : ℤ) → z ≡ (a -ℤ b) +ℤ p → d ≡ b → d ≤ℤ a → pos 0 ≤ℤ p → pos 0 ≤ℤ z
+gap_and z a b d p e f h i = omega (arith, ints)
+
+gap_of : (p q a b : ℤ) → p +ℤ q ≡ a -ℤ b → pos 0 ≤ℤ p → pos 0 ≤ℤ q → b ≤ℤ a
+gap_of p q a b e h i = omega (arith, ints)
+
 pub gap_times : (c a w : ℤ) → (c -ℤ a) *ℤ w ≡ c *ℤ w -ℤ a *ℤ w
 gap_times c a w = ring (c ∷ a ∷ w ∷ []) ((v0 ⊖ v1) ⊗ v2) (v0 ⊗ v2 ⊖ v1 ⊗ v2) refl
 
@@ -116,27 +150,27 @@ found ax ay bx by vx vy broad =
           s = cross vx vy bx by;
           t = pos 0 -ℤ cross vx vy ax ay;
           from = k;
-          to = omega (arith, ints);
-          some = omega (arith, ints, breadth ax ay bx by vx vy);
+          to = back_from (cross vx vy ax ay) h;
+          some = subst (λ (z : ℤ). pos 0 <ℤ z) (sym (breadth ax ay bx by vx vy)) broad;
           holds = λ n m c u. between n m c (u.corner);
         }
         | inr k ↦ record {
           s = pos 0;
           t = pos 1;
-          from = omega (arith, ints);
-          to = omega (arith, ints);
-          some = omega (arith, ints);
-          holds = λ n m c u. one_last n m c ax ay bx by (at_most c _ _ _ _ _ broad (omega (arith, ints))
+          from = nothing;
+          to = one;
+          some = some_one;
+          holds = λ n m c u. one_last n m c ax ay bx by (at_most c _ _ _ _ _ broad (back_above (cross vx vy bx by) k)
               (last_by n m ax ay bx by vx vy) u.corner (turned u.end));
         }
       ]
       | inr h ↦ record {
         s = pos 1;
         t = pos 0;
-        from = omega (arith, ints);
-        to = omega (arith, ints);
-        some = omega (arith, ints);
-        holds = λ n m c u. one_first n m c ax ay bx by (at_most c _ _ _ _ _ broad (omega (arith, ints))
+        from = one;
+        to = nothing;
+        some = some_one;
+        holds = λ n m c u. one_first n m c ax ay bx by (at_most c _ _ _ _ _ broad (weaker (pos 0) (cross vx vy ax ay) h)
             (first_by n m ax ay bx by vx vy) u.corner u.end);
       }
     ]
@@ -168,40 +202,24 @@ module _ (s t : ℤ) (from : pos 0 ≤ℤ s) (to : pos 0 ≤ℤ t) (some : pos 0
   pub first_end : (n m c : ℤ) → (n *ℤ ax +ℤ m *ℤ ay) ≤ℤ (n *ℤ bx +ℤ m *ℤ by)
       → Lies n m c s t ax ay bx by → (n *ℤ ax +ℤ m *ℤ ay) ≤ℤ c
   first_end n m c h l =
-      let p = at_least_mul t ((n *ℤ bx +ℤ m *ℤ by) -ℤ (n *ℤ ax +ℤ m *ℤ ay)) to (omega (arith, ints)) in
-      let e = means n m s t ax ay bx by in
-      let g = at_least_left (c -ℤ (n *ℤ ax +ℤ m *ℤ ay)) (s +ℤ t) some (omega (
-        arith,
-        ints,
-        p,
-        e,
-        l,
-        first_gap c s t
-            (n *ℤ ax +ℤ m *ℤ ay) (n *ℤ bx +ℤ m *ℤ by),
-      )) in
-      omega (arith, ints, g)
+      let a = n *ℤ ax +ℤ m *ℤ ay in
+      let b = n *ℤ bx +ℤ m *ℤ by in
+      by_gap a c (at_least_left (c -ℤ a) (s +ℤ t) some (gap_and _ _ _ _ _ (first_gap c s t a b)
+      (means n m s t ax ay bx by) l (at_least_mul t (b -ℤ a) to (gap_from a b h))))
 
   pub last_end : (n m c : ℤ) → (n *ℤ bx +ℤ m *ℤ by) ≤ℤ (n *ℤ ax +ℤ m *ℤ ay)
       → Lies n m c s t ax ay bx by → (n *ℤ bx +ℤ m *ℤ by) ≤ℤ c
   last_end n m c h l =
-      let p = at_least_mul s ((n *ℤ ax +ℤ m *ℤ ay) -ℤ (n *ℤ bx +ℤ m *ℤ by)) from (omega (arith, ints)) in
-      let e = means n m s t ax ay bx by in
-      let g = at_least_left (c -ℤ (n *ℤ bx +ℤ m *ℤ by)) (s +ℤ t) some (omega (
-        arith,
-        ints,
-        p,
-        e,
-        l,
-        last_gap c s t
-            (n *ℤ ax +ℤ m *ℤ ay) (n *ℤ bx +ℤ m *ℤ by),
-      )) in
-      omega (arith, ints, g)
+      let a = n *ℤ ax +ℤ m *ℤ ay in
+      let b = n *ℤ bx +ℤ m *ℤ by in
+      by_gap b c (at_least_left (c -ℤ b) (s +ℤ t) some (gap_and _ _ _ _ _ (last_gap c s t a b)
+      (means n m s t ax ay bx by) l (at_least_mul s (a -ℤ b) from (gap_from b a h))))
 
   pub an_end : (n m c : ℤ) → Lies n m c s t ax ay bx by
       → ((n *ℤ ax +ℤ m *ℤ ay) ≤ℤ c) ⊎ ((n *ℤ bx +ℤ m *ℤ by) ≤ℤ c)
   an_end n m c l = elim (order (n *ℤ ax +ℤ m *ℤ ay) (n *ℤ bx +ℤ m *ℤ by)) [
     | inl h ↦ inl (first_end n m c h l)
-    | inr h ↦ inr (last_end n m c (omega (arith, ints)) l)
+    | inr h ↦ inr (last_end n m c (weaker (n *ℤ bx +ℤ m *ℤ by) (n *ℤ ax +ℤ m *ℤ ay) h) l)
   ]
 
   -- two half planes between whose borders the segment runs bound how far its line lies to the side of the origin
@@ -211,12 +229,12 @@ module _ (s t : ℤ) (from : pos 0 ≤ℤ s) (to : pos 0 ≤ℤ t) (some : pos 0
       (f *ℤ m +ℤ g *ℤ l))
       ≤ℤ ((f *ℤ c +ℤ g *ℤ d) *ℤ (s +ℤ t))
   bounded n m c k l d f g hf hg first last =
-      let p = at_least_mul f (c *ℤ (s +ℤ t) -ℤ (n *ℤ (s *ℤ ax +ℤ t *ℤ bx) +ℤ m *ℤ (s *ℤ ay +ℤ t *ℤ by))) hf
-      (omega (arith, ints)) in
-      let q = at_least_mul g (d *ℤ (s +ℤ t) -ℤ (k *ℤ (s *ℤ ax +ℤ t *ℤ bx) +ℤ l *ℤ (s *ℤ ay +ℤ t *ℤ by))) hg
-      (omega (arith, ints)) in
-      let e = sum_is (s *ℤ ax +ℤ t *ℤ bx) (s *ℤ ay +ℤ t *ℤ by) (s +ℤ t) n m c k l d f g in
-      omega (arith, ints, p, q, e)
+      let x = s *ℤ ax +ℤ t *ℤ bx in
+      let y = s *ℤ ay +ℤ t *ℤ by in
+      let w = s +ℤ t in
+      gap_of _ _ _ _ (sum_is x y w n m c k l d f g)
+      (at_least_mul f (c *ℤ w -ℤ (n *ℤ x +ℤ m *ℤ y)) hf (gap_from (n *ℤ x +ℤ m *ℤ y) (c *ℤ w) first))
+      (at_least_mul g (d *ℤ w -ℤ (k *ℤ x +ℤ l *ℤ y)) hg (gap_from (k *ℤ x +ℤ l *ℤ y) (d *ℤ w) last))
     where
       sum_is : (x y w n m c k l d f g : ℤ)
           → f *ℤ (c *ℤ w -ℤ (n *ℤ x +ℤ m *ℤ y)) +ℤ g *ℤ (d *ℤ w -ℤ (k *ℤ x +ℤ l *ℤ y))
@@ -232,17 +250,10 @@ module _ (s t : ℤ) (from : pos 0 ≤ℤ s) (to : pos 0 ≤ℤ t) (some : pos 0
       → f *ℤ m +ℤ g *ℤ l ≡ pos 0 -ℤ (bx -ℤ ax) → Lies n m c s t ax ay bx by
       → Lies k l d s t ax ay bx by → cross ax ay bx by ≤ℤ (f *ℤ c +ℤ g *ℤ d)
   beside n m c k l d f g hf hg up left first last =
-      let b = bounded n m c k l d f g hf hg first last in
+      let r = f *ℤ c +ℤ g *ℤ d in
       let u = ap₂ (λ (y x : ℤ). (s *ℤ ax +ℤ t *ℤ bx) *ℤ y +ℤ (s *ℤ ay +ℤ t *ℤ by) *ℤ x) up left in
-      let r = at_least_left ((f *ℤ c +ℤ g *ℤ d) -ℤ cross ax ay bx by) (s +ℤ t) some (omega (
-        arith,
-        ints,
-        b,
-        u,
-        gap_times (f *ℤ c +ℤ g *ℤ d) (cross ax ay bx by) (s +ℤ t),
-        cross_is,
-      )) in
-      omega (arith, ints, r)
+      by_gap (cross ax ay bx by) r (at_least_left (r -ℤ cross ax ay bx by) (s +ℤ t) some (gap_by _ _ _ _ _
+      (gap_times r (cross ax ay bx by) (s +ℤ t)) cross_is u (bounded n m c k l d f g hf hg first last)))
     where
       cross_is : (s *ℤ ax +ℤ t *ℤ bx) *ℤ (by -ℤ ay) +ℤ (s *ℤ ay +ℤ t *ℤ by) *ℤ
           (pos 0 -ℤ (bx -ℤ ax))
@@ -257,17 +268,10 @@ module _ (s t : ℤ) (from : pos 0 ≤ℤ s) (to : pos 0 ≤ℤ t) (some : pos 0
       → f *ℤ m +ℤ g *ℤ l ≡ bx -ℤ ax → Lies n m c s t ax ay bx by → Lies k l d s t ax ay bx by
       → (pos 0 -ℤ cross ax ay bx by) ≤ℤ (f *ℤ c +ℤ g *ℤ d)
   beside_back n m c k l d f g hf hg up left first last =
-      let b = bounded n m c k l d f g hf hg first last in
+      let r = f *ℤ c +ℤ g *ℤ d in
       let u = ap₂ (λ (y x : ℤ). (s *ℤ ax +ℤ t *ℤ bx) *ℤ y +ℤ (s *ℤ ay +ℤ t *ℤ by) *ℤ x) up left in
-      let r = at_least_left ((f *ℤ c +ℤ g *ℤ d) -ℤ (pos 0 -ℤ cross ax ay bx by)) (s +ℤ t) some (omega (
-        arith,
-        ints,
-        b,
-        u,
-        gap_times (f *ℤ c +ℤ g *ℤ d) (pos 0 -ℤ cross ax ay bx by) (s +ℤ t),
-        cross_is,
-      )) in
-      omega (arith, ints, r)
+      by_gap (pos 0 -ℤ cross ax ay bx by) r (at_least_left (r -ℤ (pos 0 -ℤ cross ax ay bx by)) (s +ℤ t) some (gap_by _ _ _ _ _
+      (gap_times r (pos 0 -ℤ cross ax ay bx by) (s +ℤ t)) cross_is u (bounded n m c k l d f g hf hg first last)))
     where
       cross_is : (s *ℤ ax +ℤ t *ℤ bx) *ℤ (pos 0 -ℤ (by -ℤ ay)) +ℤ (s *ℤ ay +ℤ t *ℤ by) *ℤ
           (bx -ℤ ax)
