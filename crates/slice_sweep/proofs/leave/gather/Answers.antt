@@ -19,6 +19,18 @@ numbers-init c =
       rays = subst (All (IsRayOf s.edges.now)) (sym items) (λ k d o. absurd (omega (arith, o)));
     }
 
+pub goes_up-requires : goal.goes_up-requires
+goes_up-requires c = record { there = c.requires.there c.numbers.k-index 0 c.numbers-test.true }
+
+pub ray-requires-clause-within : goal.ray-requires-clause-within
+ray-requires-clause-within c = c.args.step.now.within
+
+pub ray-requires-clause-there : goal.ray-requires-clause-there
+ray-requires-clause-there c = c.requires.there c.numbers.k-index 0 c.numbers-test.true
+
+pub ray-requires-clause-rises : goal.ray-requires-clause-rises
+ray-requires-clause-rises c = c.goes_up.ensures.rises c.if-goes_up.true
+
 pub numbers-preserved : goal.numbers-preserved
 numbers-preserved c =
     let s = c.args.step.now in

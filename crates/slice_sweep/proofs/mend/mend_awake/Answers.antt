@@ -1,8 +1,8 @@
 -- A strand alone in which nothing ends stays as it is, and any other group is replaced.
-use Rattle.std.proofs.Common.{◌+◌, ℕ, take, drop, refl, arith, subst, sym, ap, ◌∙◌, List}
+use Rattle.std.proofs.Common.{◌+◌, ◌<◌, ◌≤◌, ℕ, length, take, drop, refl, arith, subst, sym, ap, ◌∙◌, List}
 use Rattle.slice_sweep.specs.declared.strand.Strand.{Strand}
 use Rattle.slice_sweep.specs.Strands.{AreThere, strand_at}
-use Rattle.slice_sweep.specs.Mending.{AreMendedTo}
+use Rattle.slice_sweep.specs.Mending.{AreMendedTo, IsGroup}
 use Rattle.slice_sweep.specs.Changes.{older}
 use Rattle.slice_sweep.specs.Places.{ArePlacedTo}
 use Rattle.slice_sweep.proofs.Telling.{alone_told, one_of}
@@ -10,6 +10,9 @@ use Rattle.slice_sweep.proofs.Placing.{placed_stays}
 use Rattle.slice_sweep.proofs.Groups.{there_of, alone_by}
 use Rattle.slice_sweep.proofs.mend.mend_awake.Goals as goal
 use Rattle.slice_sweep.proofs.mend.mend_awake.Goals.{In_ok-tell_start}
+
+at_most : (a b : ℕ) → a < b → a ≤ b
+at_most a b h = omega arith
 
 pub group_end-end-requires-clause-strands : goal.group_end-end-requires-clause-strands
 group_end-end-requires-clause-strands c =
@@ -20,6 +23,46 @@ pub older-gone-requires-clause-strands : goal.older-gone-requires-clause-strands
 older-gone-requires-clause-strands c =
     subst (AreThere c.args.step.now.edges.now) (sym c.deref-2.ensures.value)
     (there_of c.args.step.now.edges.now c.args.step.now.lower.now c.args.strands.now.items c.requires.mended.held)
+
+pub group_end-end-requires-clause-there : goal.group_end-end-requires-clause-there
+group_end-end-requires-clause-there c =
+    subst (λ (L : List Strand). c.args.place < length L) (sym c.deref.ensures.value) c.requires.there
+
+pub older-gone-requires-clause-from : goal.older-gone-requires-clause-from
+older-gone-requires-clause-from c = at_most c.args.place c.group_end-end.result c.group_end-end.ensures.some
+
+pub older-gone-requires-clause-to : goal.older-gone-requires-clause-to
+older-gone-requires-clause-to c =
+    subst (λ (L : List Strand). c.group_end-end.result ≤ length L) (c.deref.ensures.value ∙ sym c.deref-2.ensures.value)
+    c.group_end-end.ensures.within
+
+pub is_alone-requires-clause-strands : goal.is_alone-requires-clause-strands
+is_alone-requires-clause-strands c =
+    subst (AreThere c.args.step.now.edges.now) (sym c.deref-3.ensures.value)
+    (there_of c.args.step.now.edges.now c.args.step.now.lower.now c.args.strands.now.items c.requires.mended.held)
+
+pub is_alone-requires-clause-there : goal.is_alone-requires-clause-there
+is_alone-requires-clause-there c =
+    subst (λ (L : List Strand). c.args.place < length L) (sym c.deref-3.ensures.value) c.requires.there
+
+pub is_alone-requires-clause-place : goal.is_alone-requires-clause-place
+is_alone-requires-clause-place c = c.group_end-end.ensures.some
+
+pub regroup-requires-clause-neighbours : goal.regroup-requires-clause-neighbours
+regroup-requires-clause-neighbours c = c.requires.neighbours
+
+pub regroup-requires-clause-mended : goal.regroup-requires-clause-mended
+regroup-requires-clause-mended c = c.requires.mended
+
+pub regroup-requires-clause-group : goal.regroup-requires-clause-group
+regroup-requires-clause-group c =
+    subst (λ (L : List Strand). IsGroup c.args.step.now.edges.now c.args.step.now.lower.now c.args.place
+    c.group_end-end.result L) c.deref.ensures.value (record {
+      some = c.group_end-end.ensures.some;
+      within = c.group_end-end.ensures.within;
+      together = c.group_end-end.ensures.together;
+      apart = c.group_end-end.ensures.apart;
+    })
 
 next : (c : In_ok-tell_start) → AreMendedTo c.args.step.now.edges.now c.args.step.now.lower.now
     c.args.step.now.upper.now (c.args.place + 1) c.args.strands.now.items

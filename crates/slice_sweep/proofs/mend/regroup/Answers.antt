@@ -12,6 +12,15 @@ use Rattle.slice_sweep.proofs.Blocks.{keys_before, keys_stay}
 use Rattle.slice_sweep.proofs.mend.regroup.Goals as goal
 use Rattle.slice_sweep.proofs.mend.regroup.Goals.{In_ok-replace}
 
+at_most : (a b : ℕ) → a < b → a ≤ b
+at_most a b h = omega arith
+
+below_all : (a b n : ℕ) → a < b → b ≤ n → a ≤ n
+below_all a b n h i = omega arith
+
+no_less : (a b : ℕ) → a ≤ a + b
+no_less a b = omega arith
+
 pub leaving-requires-clause-there : goal.leaving-requires-clause-there
 leaving-requires-clause-there c =
     let s = c.args.step.now in
@@ -38,6 +47,23 @@ replace-requires-clause-to c =
     let size = weakened_length c.args.strands.now.items c.weaken.new.strands.items c.args.from
     (omega (arith, some, within)) c.weaken.ensures in
     omega (arith, within, size)
+
+pub members-requires-clause-from : goal.members-requires-clause-from
+members-requires-clause-from c = at_most c.args.from c.args.to c.requires.group.some
+
+pub members-requires-clause-to : goal.members-requires-clause-to
+members-requires-clause-to c =
+    subst (λ (L : List Strand). c.args.to ≤ length L) (sym c.deref.ensures.value) c.requires.group.within
+
+pub weaken-requires : goal.weaken-requires
+weaken-requires c =
+    below_all c.args.from c.args.to (length c.args.strands.now.items) c.requires.group.some c.requires.group.within
+
+pub replace-requires-clause-from : goal.replace-requires-clause-from
+replace-requires-clause-from c = at_most c.args.from c.args.to c.requires.group.some
+
+pub returns-clause-behind : goal.returns-clause-behind
+returns-clause-behind c = no_less c.args.from c.len.result
 
 put : (c : In_ok-replace)
     → AreMendedTo c.args.step.now.edges.now c.args.step.now.lower.now c.args.step.now.upper.now

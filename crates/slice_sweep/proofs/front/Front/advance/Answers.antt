@@ -31,6 +31,34 @@ start_all-requires-clause-there c =
     (begun_there es c.args.lower.now (starts_of (drop s.begun s.ends.items))
     (starts_left es s.begun s.ends.items c.requires.ready.starts))
 
+pub begin-requires-clause-from : goal.begin-requires-clause-from
+begin-requires-clause-from c =
+    subst (λ (es : List LowerEnd). c.args.self.now.begun ≤ length es) (sym c.deref.ensures.value) c.requires.ready.begun
+
+pub begin-requires-clause-at : goal.begin-requires-clause-at
+begin-requires-clause-at c = c.requires.lower
+
+pub start_all-requires-clause-within : goal.start_all-requires-clause-within
+start_all-requires-clause-within c = c.requires.within
+
+pub start_all-requires-clause-at : goal.start_all-requires-clause-at
+start_all-requires-clause-at c = c.requires.lower
+
+pub start_all-requires-clause-waiting : goal.start_all-requires-clause-waiting
+start_all-requires-clause-waiting c = c.requires.ready.waiting
+
+pub key_of-requires : goal.key_of-requires
+key_of-requires c = c.requires.lower
+
+pub mend-requires-clause-neighbours : goal.mend-requires-clause-neighbours
+mend-requires-clause-neighbours c = c.requires.neighbours
+
+pub mend-requires-clause-waiting : goal.mend-requires-clause-waiting
+mend-requires-clause-waiting c = c.in_ok-start_all.ensures.waiting
+
+pub wake_all-requires : goal.wake_all-requires
+wake_all-requires c = record { ordered = c.in_ok-changes.ensures.ordered }
+
 pub invariant_of-step-clause-within : goal.invariant_of-step-clause-within
 invariant_of-step-clause-within c = c.requires.within
 
