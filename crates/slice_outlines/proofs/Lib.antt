@@ -1,4 +1,5 @@
 mod Parts
+mod Bits
 mod StrandStarts
 mod Ending
 mod EndPoints

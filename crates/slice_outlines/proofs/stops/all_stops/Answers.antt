@@ -17,3 +17,24 @@ returns c =
     ∙ ap (λ (ss : List Spot). ss ++ above) (c.in_ok-push_strands.ensures
     ∙ ap (λ (ss : List Spot). ss ++ below) (ap spots_in c.new-all.ensures.items)))
     ∙ append_assoc below above flats
+
+pub push_strands-requires-clause-within : goal.push_strands-requires-clause-within
+push_strands-requires-clause-within c = c.requires.within
+
+pub push_strands-requires-clause-at : goal.push_strands-requires-clause-at
+push_strands-requires-clause-at c = c.requires.at
+
+pub push_strands-requires-clause-marks : goal.push_strands-requires-clause-marks
+push_strands-requires-clause-marks c = c.requires.below
+
+pub push_strands-requires-2-clause-within : goal.push_strands-requires-2-clause-within
+push_strands-requires-2-clause-within c = c.requires.within
+
+pub push_strands-requires-2-clause-at : goal.push_strands-requires-2-clause-at
+push_strands-requires-2-clause-at c = c.requires.at
+
+pub push_strands-requires-2-clause-marks : goal.push_strands-requires-2-clause-marks
+push_strands-requires-2-clause-marks c = c.requires.above
+
+pub push_flats-requires : goal.push_flats-requires
+push_flats-requires c = record { at = c.requires.at }

@@ -48,3 +48,33 @@ returns-clause-passed c = λ on passed of tells.
                 new.marks.items new.given.items new.cursors) c.deref.ensures.value end.1,
           ),
     )
+
+pub stops_of-requires-clause-run : goal.stops_of-requires-clause-run
+stops_of-requires-clause-run c = c.requires.run
+
+pub stops_of-requires-clause-below_pass : goal.stops_of-requires-clause-below_pass
+stops_of-requires-clause-below_pass c = c.requires.below_pass
+
+pub stops_of-requires-clause-above_pass : goal.stops_of-requires-clause-above_pass
+stops_of-requires-clause-above_pass c = c.requires.above_pass
+
+pub pass_stops-requires-clause-run : goal.pass_stops-requires-clause-run
+pass_stops-requires-clause-run c = c.requires.run
+
+pub pass_stops-requires-clause-below_order : goal.pass_stops-requires-clause-below_order
+pass_stops-requires-clause-below_order c = c.requires.below_order
+
+pub pass_stops-requires-clause-above_order : goal.pass_stops-requires-clause-above_order
+pass_stops-requires-clause-above_order c = c.requires.above_order
+
+pub pass_stops-requires-clause-below_pass : goal.pass_stops-requires-clause-below_pass
+pass_stops-requires-clause-below_pass c = c.requires.below_pass
+
+pub pass_stops-requires-clause-above_pass : goal.pass_stops-requires-clause-above_pass
+pass_stops-requires-clause-above_pass c = c.requires.above_pass
+
+pub returns-clause-right : goal.returns-clause-right
+returns-clause-right c = c.in_ok-pass_stops.ensures.right
+
+pub returns-clause-cursors : goal.returns-clause-cursors
+returns-clause-cursors c = c.in_ok-pass_stops.ensures.cursors

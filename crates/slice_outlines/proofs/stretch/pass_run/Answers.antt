@@ -1,10 +1,11 @@
 -- The place is passed.
-use Rattle.std.proofs.Common.{◌++◌, ◌∷◌, [], List, drop, sym, ap, refl, ◌∙◌}
+use Rattle.std.proofs.Common.{◌++◌, ◌∷◌, [], List, drop, sym, subst, ap, refl, ◌∙◌}
 use Rattle.scad_geom.specs.declared.point.Edge.{Edge}
 use Rattle.slice_outlines.specs.declared.mark.Mark.{Mark}
 use Rattle.slice_outlines.specs.Marks.{names_in, begun_in}
 use Rattle.slice_outlines.specs.Passing.{start_of, ended_at}
 use Rattle.slice_outlines.specs.Places.{ins_in, outs_in}
+use Rattle.slice_outlines.specs.Heights.{IsRunOf}
 use Rattle.slice_outlines.specs.Along.{begun_at}
 use Rattle.slice_outlines.proofs.Onward.{run_passed, come_as, names_begun, begun_right}
 use Rattle.slice_outlines.proofs.stretch.pass_run.Goals as goal
@@ -57,3 +58,35 @@ returns-clause-passed c = λ on passed later of round across name come.
       across = across;
       name = name;
     }))
+
+pub beside_of-beside-requires-clause-within : goal.beside_of-beside-requires-clause-within
+beside_of-beside-requires-clause-within c = c.requires.within
+
+pub beside_of-beside-requires-clause-spot : goal.beside_of-beside-requires-clause-spot
+beside_of-beside-requires-clause-spot c = c.requires.spot
+
+pub pass_strands-requires : goal.pass_strands-requires
+pass_strands-requires c =
+    subst (λ (ms : List Mark). IsRunOf c.args.height.now.below.now ms c.args.run.now) (sym c.deref.ensures.value)
+    c.requires.run
+
+pub begin-requires-clause-from : goal.begin-requires-clause-from
+begin-requires-clause-from c = c.requires.run.above
+
+pub begin-requires-clause-to : goal.begin-requires-clause-to
+begin-requires-clause-to c = c.requires.run.above_to
+
+pub returns-clause-run : goal.returns-clause-run
+returns-clause-run c = c.go_on.ensures.run
+
+pub returns-clause-below : goal.returns-clause-below
+returns-clause-below c = c.go_on.ensures.below
+
+pub returns-clause-above : goal.returns-clause-above
+returns-clause-above c = c.go_on.ensures.above
+
+pub returns-clause-begun : goal.returns-clause-begun
+returns-clause-begun c = c.go_on.ensures.begun
+
+pub returns-clause-live : goal.returns-clause-live
+returns-clause-live c = c.go_on.ensures.live

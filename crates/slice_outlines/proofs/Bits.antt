@@ -1,0 +1,16 @@
+-- Comparisons of numbers by their bits.
+use Rattle.std.proofs.Common.{◌≡◌, eqb, eq-eqb, ℤ, FitsSigned, sym, ap, ◌∙◌, to_z, of_z}
+use Rattle.std.specs.Ordering.{int_eq}
+use Rattle.std.specs.Cmp.{both_ways}
+use Rattle.std.proofs.lemmas.Bool.{eqb-true}
+use Rattle.std.proofs.lemmas.Int.{to_z-of_z}
+use mir.Syntax.{w128}
+use Rattle.scad_base.proofs.Tests.{int_eq-true}
+use Rattle.slice_pieces.proofs.SameSpots.{to_eq}
+
+pub same_bits : (a b : ℤ) → FitsSigned w128 a → FitsSigned w128 b → eqb (of_z w128 a) (of_z w128 b) ≡ int_eq a b
+same_bits a b fits_a fits_b =
+    both_ways (eqb (of_z w128 a) (of_z w128 b)) (int_eq a b)
+    (λ h. to_eq a b (sym (to_z-of_z w128 a fits_a) ∙ ap (to_z w128) (eqb-true (of_z w128 a) (of_z w128 b) h)
+    ∙ to_z-of_z w128 b fits_b))
+    (λ h. eq-eqb (of_z w128 a) (of_z w128 b) (ap (of_z w128) (int_eq-true a b h)))
