@@ -1,4 +1,5 @@
-use Rattle.std.proofs.Common.{◌≡◌, true, FitsSigned, ap₂, ◌∙◌}
+-- The turn of the cut is that of the triangle, and the sizes of what is handed on.
+use Rattle.std.proofs.Common.{◌≡◌, ◌≤◌, ◌^◌, ℤ, true, FitsSigned, unsigned_abs, sym, subst, ap₂, ◌∙◌}
 use Rattle.std.proofs.lemmas.Int.{to_z-of_z}
 use Rattle.scad_geom.specs.Point.{halves}
 use Rattle.scad_geom.specs.Winding.{turn}
@@ -24,3 +25,22 @@ returns-clause-value c =
     ∙ turn-found c.args.plane (halves c.args.x c.args.y) c.args.triangle.now c.in-Some.falling c.in-Some-rising.rising
     falling rising
     )
+
+pub crossing-requires-clause-a : goal.crossing-requires-clause-a
+crossing-requires-clause-a c = c.point_between-from.ensures.small
+
+pub crossing-requires-clause-b : goal.crossing-requires-clause-b
+crossing-requires-clause-b c = c.point_between-to.ensures.small
+
+pub crossing-requires-clause-x : goal.crossing-requires-clause-x
+crossing-requires-clause-x c =
+    subst (λ (z : ℤ). unsigned_abs z ≤ 2 ^ 33) (sym (to_z-of_z w128 c.args.x c.ranges.x)) c.requires.x
+
+pub crossing-requires-clause-y : goal.crossing-requires-clause-y
+crossing-requires-clause-y c =
+    subst (λ (z : ℤ). unsigned_abs z ≤ 2 ^ 33) (sym (to_z-of_z w128 c.args.y c.ranges.y)) c.requires.y
+
+pub returns-clause-size : goal.returns-clause-size
+returns-clause-size c =
+    subst (λ (z : ℤ). unsigned_abs z ≤ 1) (sym (to_z-of_z w128 c.crossing.result (record { sfits = c.crossing.type_inv })))
+    c.crossing.ensures.size
