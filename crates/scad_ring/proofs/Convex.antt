@@ -269,9 +269,10 @@ module _ (s t : ℤ) (from : pos 0 ≤ℤ s) (to : pos 0 ≤ℤ t) (some : pos 0
       → (pos 0 -ℤ cross ax ay bx by) ≤ℤ (f *ℤ c +ℤ g *ℤ d)
   beside_back n m c k l d f g hf hg up left first last =
       let r = f *ℤ c +ℤ g *ℤ d in
+      let back : ℤ = pos 0 -ℤ cross ax ay bx by in
       let u = ap₂ (λ (y x : ℤ). (s *ℤ ax +ℤ t *ℤ bx) *ℤ y +ℤ (s *ℤ ay +ℤ t *ℤ by) *ℤ x) up left in
-      by_gap (pos 0 -ℤ cross ax ay bx by) r (at_least_left (r -ℤ (pos 0 -ℤ cross ax ay bx by)) (s +ℤ t) some (gap_by _ _ _ _ _
-      (gap_times r (pos 0 -ℤ cross ax ay bx by) (s +ℤ t)) cross_is u (bounded n m c k l d f g hf hg first last)))
+      by_gap back r (at_least_left (r -ℤ back) (s +ℤ t) some (gap_by _ _ _ _ _
+      (gap_times r back (s +ℤ t)) cross_is u (bounded n m c k l d f g hf hg first last)))
     where
       cross_is : (s *ℤ ax +ℤ t *ℤ bx) *ℤ (pos 0 -ℤ (by -ℤ ay)) +ℤ (s *ℤ ay +ℤ t *ℤ by) *ℤ
           (bx -ℤ ax)

@@ -343,85 +343,84 @@ less_back : (a b : ℤ) → a -ℤ (pos 0 -ℤ b) ≡ a +ℤ b
 less_back a b = omega (arith, ints)
 
 -- the corner of each octant
-module _ (S T U : ℤ) (sum : U ≡ S +ℤ T) (positive : pos 0 <ℤ S) (slim : pos 0 ≤ℤ T) (narrow : T ≤ℤ S)
-  where
-    width_size : IsSize S S
-    width_size = record { least = omega (arith, ints); most = omega (arith, ints) }
+module _ (S T U : ℤ) (sum : U ≡ S +ℤ T) (positive : pos 0 <ℤ S) (slim : pos 0 ≤ℤ T) (narrow : T ≤ℤ S) where
+  width_size : IsSize S S
+  width_size = record { least = omega (arith, ints); most = omega (arith, ints) }
 
-    slant_size : IsSize S T
-    slant_size = record { least = omega (arith, ints); most = narrow }
+  slant_size : IsSize S T
+  slant_size = record { least = omega (arith, ints); most = narrow }
 
-    width_sum : IsSize U (S +ℤ T)
-    width_sum = record { least = omega (arith, ints); most = omega (arith, ints) }
+  width_sum : IsSize U (S +ℤ T)
+  width_sum = record { least = omega (arith, ints); most = omega (arith, ints) }
 
-    slant_sum : IsSize U (T +ℤ S)
-    slant_sum = record { least = omega (arith, ints); most = omega (arith, ints) }
+  slant_sum : IsSize U (T +ℤ S)
+  slant_sum = record { least = omega (arith, ints); most = omega (arith, ints) }
 
-    width_gap : IsSize U (S -ℤ T)
-    width_gap = record { least = omega (arith, ints); most = omega (arith, ints) }
+  width_gap : IsSize U (S -ℤ T)
+  width_gap = record { least = omega (arith, ints); most = omega (arith, ints) }
 
-    slant_gap : IsSize U (T -ℤ S)
-    slant_gap = record { least = omega (arith, ints); most = omega (arith, ints) }
+  slant_gap : IsSize U (T -ℤ S)
+  slant_gap = record { least = omega (arith, ints); most = omega (arith, ints) }
 
-    pub right_corner : (ax ay bx by : ℤ) → pos 0 <ℤ (bx -ℤ ax) → pos 0 ≤ℤ (by -ℤ ay) → Passes T (pos 0 -ℤ S) ax ay bx by
-        → Corner S U T (pos 0 -ℤ S) ax ay bx by
-    right_corner ax ay bx by x y l =
-        let p = positive_product S (bx -ℤ ax) positive x in
-        let q = at_least_mul T (by -ℤ ay) slim y in
-        let e = minus_times S (bx -ℤ ax) in
-        record {
-          broad = omega (arith, ints, p, q, e);
-          line = l;
-          across = slant_size;
-          upwards = mirrored S S width_size;
-          sum = sized U (T -ℤ S) _ (on_back T S) slant_gap;
-          difference = sized U (T +ℤ S) _ (less_back T S) slant_sum;
-        }
+  pub right_corner : (ax ay bx by : ℤ) → pos 0 <ℤ (bx -ℤ ax) → pos 0 ≤ℤ (by -ℤ ay) → Passes T (pos 0 -ℤ S) ax ay bx by
+      → Corner S U T (pos 0 -ℤ S) ax ay bx by
+  right_corner ax ay bx by x y l =
+      let p = positive_product S (bx -ℤ ax) positive x in
+      let q = at_least_mul T (by -ℤ ay) slim y in
+      let e = minus_times S (bx -ℤ ax) in
+      record {
+        broad = omega (arith, ints, p, q, e);
+        line = l;
+        across = slant_size;
+        upwards = mirrored S S width_size;
+        sum = sized U (T -ℤ S) _ (on_back T S) slant_gap;
+        difference = sized U (T +ℤ S) _ (less_back T S) slant_sum;
+      }
 
-    pub steep_right_corner : (ax ay bx by : ℤ) → pos 0 ≤ℤ (bx -ℤ ax) → pos 0 <ℤ (by -ℤ ay) → Passes S (pos 0 -ℤ T) ax ay bx by
-        → Corner S U S (pos 0 -ℤ T) ax ay bx by
-    steep_right_corner ax ay bx by x y l =
-        let p = positive_product S (by -ℤ ay) positive y in
-        let q = at_least_mul T (bx -ℤ ax) slim x in
-        let e = minus_times T (bx -ℤ ax) in
-        record {
-          broad = omega (arith, ints, p, q, e);
-          line = l;
-          across = width_size;
-          upwards = mirrored S T slant_size;
-          sum = sized U (S -ℤ T) _ (on_back S T) width_gap;
-          difference = sized U (S +ℤ T) _ (less_back S T) width_sum;
-        }
+  pub steep_right_corner : (ax ay bx by : ℤ) → pos 0 ≤ℤ (bx -ℤ ax) → pos 0 <ℤ (by -ℤ ay)
+      → Passes S (pos 0 -ℤ T) ax ay bx by → Corner S U S (pos 0 -ℤ T) ax ay bx by
+  steep_right_corner ax ay bx by x y l =
+      let p = positive_product S (by -ℤ ay) positive y in
+      let q = at_least_mul T (bx -ℤ ax) slim x in
+      let e = minus_times T (bx -ℤ ax) in
+      record {
+        broad = omega (arith, ints, p, q, e);
+        line = l;
+        across = width_size;
+        upwards = mirrored S T slant_size;
+        sum = sized U (S -ℤ T) _ (on_back S T) width_gap;
+        difference = sized U (S +ℤ T) _ (less_back S T) width_sum;
+      }
 
-    pub steep_left_corner : (ax ay bx by : ℤ) → (bx -ℤ ax) ≤ℤ pos 0 → pos 0 <ℤ (by -ℤ ay) → Passes S T ax ay bx by
-        → Corner S U S T ax ay bx by
-    steep_left_corner ax ay bx by x y l =
-        let p = positive_product S (by -ℤ ay) positive y in
-        let q = at_least_mul T (pos 0 -ℤ (bx -ℤ ax)) slim (omega (arith, ints)) in
-        let e = times_minus T (bx -ℤ ax) in
-        record {
-          broad = omega (arith, ints, p, q, e);
-          line = l;
-          across = width_size;
-          upwards = slant_size;
-          sum = width_sum;
-          difference = width_gap;
-        }
+  pub steep_left_corner : (ax ay bx by : ℤ) → (bx -ℤ ax) ≤ℤ pos 0 → pos 0 <ℤ (by -ℤ ay) → Passes S T ax ay bx by
+      → Corner S U S T ax ay bx by
+  steep_left_corner ax ay bx by x y l =
+      let p = positive_product S (by -ℤ ay) positive y in
+      let q = at_least_mul T (pos 0 -ℤ (bx -ℤ ax)) slim (omega (arith, ints)) in
+      let e = times_minus T (bx -ℤ ax) in
+      record {
+        broad = omega (arith, ints, p, q, e);
+        line = l;
+        across = width_size;
+        upwards = slant_size;
+        sum = width_sum;
+        difference = width_gap;
+      }
 
-    pub left_corner : (ax ay bx by : ℤ) → (bx -ℤ ax) <ℤ pos 0 → pos 0 ≤ℤ (by -ℤ ay) → Passes T S ax ay bx by
-        → Corner S U T S ax ay bx by
-    left_corner ax ay bx by x y l =
-        let p = positive_product S (pos 0 -ℤ (bx -ℤ ax)) positive (omega (arith, ints)) in
-        let q = at_least_mul T (by -ℤ ay) slim y in
-        let e = times_minus S (bx -ℤ ax) in
-        record {
-          broad = omega (arith, ints, p, q, e);
-          line = l;
-          across = slant_size;
-          upwards = width_size;
-          sum = slant_sum;
-          difference = slant_gap;
-        }
+  pub left_corner : (ax ay bx by : ℤ) → (bx -ℤ ax) <ℤ pos 0 → pos 0 ≤ℤ (by -ℤ ay) → Passes T S ax ay bx by
+      → Corner S U T S ax ay bx by
+  left_corner ax ay bx by x y l =
+      let p = positive_product S (pos 0 -ℤ (bx -ℤ ax)) positive (omega (arith, ints)) in
+      let q = at_least_mul T (by -ℤ ay) slim y in
+      let e = times_minus S (bx -ℤ ax) in
+      record {
+        broad = omega (arith, ints, p, q, e);
+        line = l;
+        across = slant_size;
+        upwards = width_size;
+        sum = slant_sum;
+        difference = slant_gap;
+      }
 
 -- where the half sum is the half width, four half planes make the octagon
 pub approach_four : (S ax ay bx by vx vy : ℤ) → Corner S S vx vy ax ay bx by → End (pos 1) (pos 1) S ax ay bx by

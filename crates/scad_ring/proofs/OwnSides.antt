@@ -23,7 +23,8 @@ module _ (c t u : ℤ) (sum : u ≡ c +ℤ t) (some : pos 0 <ℤ t) (less : t <�
   right_side = side (pos 2 *ℤ t) (omega (arith, ints)) (omega (arith, ints)) (omega (arith, ints)) (omega (arith, ints))
 
   pub high_right_side : Side (neg_ℤ (pos 1)) (neg_ℤ (pos 1)) u p (right_high c t p) (high_right c t p)
-  high_right_side = side (c -ℤ t) (omega (arith, ints)) (omega (arith, ints)) (omega (arith, ints)) (omega (arith, ints))
+  high_right_side =
+      side (c -ℤ t) (omega (arith, ints)) (omega (arith, ints)) (omega (arith, ints)) (omega (arith, ints))
 
   pub high_side : Side (pos 0) (neg_ℤ (pos 1)) c p (high_right c t p) (high_left c t p)
   high_side = side (pos 2 *ℤ t) (omega (arith, ints)) (omega (arith, ints)) (omega (arith, ints)) (omega (arith, ints))

@@ -85,7 +85,8 @@ module _ (c : ℤ) (less : pos 0 <ℤ c) (p r : Pt) (x : (r.x -ℤ p.x) <ℤ (r.
                 (
                   over p r q d c (pos 0) (left c r) (left c p) s4 l,
                   (
-                    first_side (c *ℤ q.d) (c *ℤ q.d) q d p r a (pos 1) (pos 1) c (left c p) (low c p) s5 i5 a.over_right,
+                    first_side (c *ℤ q.d) (c *ℤ q.d) q d p r a (pos 1) (pos 1) c (left c p) (low c p) s5 i5
+                        a.over_right,
                     tt,
                   ),
                 ),

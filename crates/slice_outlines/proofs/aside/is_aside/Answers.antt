@@ -12,14 +12,14 @@ small : (x : ℤ) → unsigned_abs x ≤ coordinate_limit → unsigned_abs x < 2
 small x h = omega arith
 
 pub whole_spot-requires-clause-x : goal.whole_spot-requires-clause-x
-whole_spot-requires-clause-x c = 
+whole_spot-requires-clause-x c =
     rw (handed w32 c.args.e.now.left (small c.args.e.now.left c.args.e.now.left_size) refl) c.args.e.now.left_size
 
 pub whole_spot-requires-clause-at : goal.whole_spot-requires-clause-at
 whole_spot-requires-clause-at c = c.args.s.now.level
 
 pub whole_spot-requires-else-is_left-clause-x : goal.whole_spot-requires-else-is_left-clause-x
-whole_spot-requires-else-is_left-clause-x c = 
+whole_spot-requires-else-is_left-clause-x c =
     rw (handed w32 c.args.e.now.right (small c.args.e.now.right c.args.e.now.right_size) refl) c.args.e.now.right_size
 
 pub whole_spot-requires-else-is_left-clause-at : goal.whole_spot-requires-else-is_left-clause-at

@@ -25,7 +25,7 @@ pub stop_of-requires-clause-passes : goal.stop_of-requires-clause-passes
 stop_of-requires-clause-passes c = c.requires.pass c.args.place _ c.requires.place
 
 pub whole_spot-requires-clause-x : goal.whole_spot-requires-clause-x
-whole_spot-requires-clause-x c = 
+whole_spot-requires-clause-x c =
     rw (handed w32 c.in-Some.e.right (small c.in-Some.e.right c.in-Some.e.right_size) refl) c.in-Some.e.right_size
 
 pub whole_spot-requires-clause-at : goal.whole_spot-requires-clause-at
@@ -47,5 +47,5 @@ pub returns-in-Some-clause-aside : goal.returns-in-Some-clause-aside
 returns-in-Some-clause-aside c = λ e. absurd (cc)
 
 pub returns-in-Some-clause-right : goal.returns-in-Some-clause-right
-returns-in-Some-clause-right c = 
+returns-in-Some-clause-right c =
     (behind c.args.place c.first_behind.result c.first_behind.ensures.from, c.first_behind.ensures.bound)

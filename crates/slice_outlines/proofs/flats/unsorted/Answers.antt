@@ -19,7 +19,7 @@ edges-preserved c =
     }
 
 pub edges-init : goal.edges-init
-edges-init c = 
+edges-init c =
     let items = c.new-out.ensures.items in
     record {
       all = ap (λ (fs : List Flat). numbers_of fs ++ flat_numbers 0 c.args.edges.now) items;

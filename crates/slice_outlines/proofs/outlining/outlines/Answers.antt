@@ -1,4 +1,8 @@
 -- What holds of all outlines that meet the definition.
+use Rattle.std.proofs.Common.{sym, subst, All}
+use Rattle.scad_geom.specs.Limits.{coordinate_limit}
+use Rattle.scad_geom.specs.Level.{IsLevelWithin}
+use Rattle.slice_events.specs.Levels.{AreLevels}
 use Rattle.slice_border.proofs.Membership.{outlines_hold_centres}
 use Rattle.slice_border.proofs.NearBorder.{outlines_are_near_border}
 use Rattle.slice_outlines.proofs.outlining.outlines.Goals as goal
@@ -11,3 +15,23 @@ returns-in-Ok-joined-clause-centres c =
 pub returns-in-Ok-joined-clause-near : goal.returns-in-Ok-joined-clause-near
 returns-in-Ok-joined-clause-near c =
     outlines_are_near_border c.args.edges.now c.args.shape.now c.in-Ok-joined.outlines.items c.in-Ok-joined.ensures
+
+pub levels-requires-clause-within : goal.levels-requires-clause-within
+levels-requires-clause-within c = c.requires.within
+
+pub joined-requires-clause-within : goal.joined-requires-clause-within
+joined-requires-clause-within c = c.requires.within
+
+pub joined-requires-clause-balanced : goal.joined-requires-clause-balanced
+joined-requires-clause-balanced c = c.requires.balanced
+
+pub returns-in-Ok-joined-clause-outlines : goal.returns-in-Ok-joined-clause-outlines
+returns-in-Ok-joined-clause-outlines c = c.in-Ok-joined.ensures
+
+pub joined-requires-clause-levels : goal.joined-requires-clause-levels
+joined-requires-clause-levels c =
+    subst (AreLevels c.args.edges.now) (sym c.deref.ensures.value) c.in-Ok.ensures.levels
+
+pub joined-requires-clause-levels_within : goal.joined-requires-clause-levels_within
+joined-requires-clause-levels_within c =
+    subst (All (IsLevelWithin coordinate_limit)) (sym c.deref.ensures.value) c.in-Ok.ensures.within

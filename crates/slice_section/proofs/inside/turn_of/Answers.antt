@@ -42,5 +42,5 @@ crossing-requires-clause-y c =
 
 pub returns-clause-size : goal.returns-clause-size
 returns-clause-size c =
-    subst (λ (z : ℤ). unsigned_abs z ≤ 1) (sym (to_z-of_z w128 c.crossing.result (record { sfits = c.crossing.type_inv })))
-    c.crossing.ensures.size
+    subst (λ (z : ℤ). unsigned_abs z ≤ 1)
+    (sym (to_z-of_z w128 c.crossing.result (record { sfits = c.crossing.type_inv }))) c.crossing.ensures.size
