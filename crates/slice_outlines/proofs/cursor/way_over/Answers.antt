@@ -1,13 +1,7 @@
 -- The strands behind a flat edge come after the place.
-use Rattle.std.proofs.Common.{◌+◌, ◌^◌, ◌<◌, ◌≤◌, ℕ, ℤ, unsigned_abs, length, refl, arith}
-use Rattle.scad_geom.specs.Limits.{coordinate_limit}
-use Rattle.scad_geom.proofs.Casts.{handed}
-use mir.Syntax.{w32}
-use mir.Val.{hbits}
+use Rattle.std.proofs.Common.{◌+◌, ◌<◌, ◌≤◌, ℕ, length, arith}
+use Rattle.slice_outlines.proofs.Bits.{coordinate}
 use Rattle.slice_outlines.proofs.cursor.way_over.Goals as goal
-
-small : (x : ℤ) → unsigned_abs x ≤ coordinate_limit → unsigned_abs x < 2 ^ hbits w32
-small x h = omega arith
 
 next_of : (i n : ℕ) → i < n → i + 1 ≤ n
 next_of i n h = omega arith
@@ -26,7 +20,7 @@ stop_of-requires-clause-passes c = c.requires.pass c.args.place _ c.requires.pla
 
 pub whole_spot-requires-clause-x : goal.whole_spot-requires-clause-x
 whole_spot-requires-clause-x c =
-    rw (handed w32 c.in-Some.e.right (small c.in-Some.e.right c.in-Some.e.right_size) refl) c.in-Some.e.right_size
+    rw (coordinate c.in-Some.e.right c.in-Some.e.right_size) c.in-Some.e.right_size
 
 pub whole_spot-requires-clause-at : goal.whole_spot-requires-clause-at
 whole_spot-requires-clause-at c = c.requires.at
