@@ -268,3 +268,30 @@ returns c = λ w.
           (next_later es l d all w.swept.flats s.passed to from b.passed b.later ons off c.args.upper.now
           c.requires.neighbours);
     }) c.in_ok-changes.ensures.ready c.in_ok-changes.ensures.begun
+
+pub flats_to-flat_to-requires-clause-at : goal.flats_to-flat_to-requires-clause-at
+flats_to-flat_to-requires-clause-at c = c.requires.at
+
+pub clear_cursors-requires-clause-within : goal.clear_cursors-requires-clause-within
+clear_cursors-requires-clause-within c = c.requires.within
+
+pub clear_cursors-requires-clause-few : goal.clear_cursors-requires-clause-few
+clear_cursors-requires-clause-few c = c.requires.few
+
+pub clear_cursors-requires-clause-at : goal.clear_cursors-requires-clause-at
+clear_cursors-requires-clause-at c = c.requires.at
+
+pub advance-requires-clause-within : goal.advance-requires-clause-within
+advance-requires-clause-within c = c.requires.within
+
+pub advance-requires-clause-few : goal.advance-requires-clause-few
+advance-requires-clause-few c = c.requires.few
+
+pub advance-requires-clause-lower : goal.advance-requires-clause-lower
+advance-requires-clause-lower c = c.requires.at
+
+pub advance-requires-clause-upper : goal.advance-requires-clause-upper
+advance-requires-clause-upper c = c.requires.upper
+
+pub advance-requires-clause-neighbours : goal.advance-requires-clause-neighbours
+advance-requires-clause-neighbours c = c.requires.neighbours
