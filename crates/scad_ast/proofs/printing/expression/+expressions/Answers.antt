@@ -5,7 +5,7 @@ use Rattle.scad_ast.specs.declared.expression.Elem.{If}
 use Rattle.scad_ast.specs.Text.{expression_text, arguments_text, elements_text}
 use Rattle.scad_ast.specs.View.{expression_of, arguments, elements}
 use Rattle.text_scan.proofs.Printed.{none, two, three, four, behind_three, that, next, last}
-use Rattle.scad_ast.proofs.Nodes.{expression_is, element_is}
+use Rattle.scad_ast.proofs.Nodes.{expression_is, element_is, leaf_is, element_leaf_is, enclosed_is}
 use Rattle.scad_ast.proofs.Operands.{unary_view, binary_view, choose_view, index_view, member_view}
 use Rattle.scad_ast.proofs.Operands.{range_view, stepped_view, if_view, if_else_view}
 use Rattle.scad_ast.proofs.Rows.{vector_view, call_view, let_view, assert_view, echo_view}
@@ -13,6 +13,21 @@ use Rattle.scad_ast.proofs.Rows.{for_view, loop_view, let_element_view}
 use Rattle.scad_ast.proofs.printing.expression.+expressions.Goals as goal
 
 -- ---- expressions
+pub write_expression-returns-in-Undef : goal.write_expression-returns-in-Undef
+write_expression-returns-in-Undef t c = leaf_is c.args.e.now c.in-Undef.is c.write_token.ensures
+
+pub write_expression-returns-in-Bool : goal.write_expression-returns-in-Bool
+write_expression-returns-in-Bool t c = leaf_is c.args.e.now c.in-Bool.is c.write_boolean.ensures
+
+pub write_expression-returns-in-Number : goal.write_expression-returns-in-Number
+write_expression-returns-in-Number t c = leaf_is c.args.e.now c.in-Number.is c.write_number.ensures
+
+pub write_expression-returns-in-Str : goal.write_expression-returns-in-Str
+write_expression-returns-in-Str t c = leaf_is c.args.e.now c.in-Str.is c.write_string.ensures
+
+pub write_expression-returns-in-Name : goal.write_expression-returns-in-Name
+write_expression-returns-in-Name t c = leaf_is c.args.e.now c.in-Name.is c.write_word.ensures
+
 pub write_expression-returns-in-List : goal.write_expression-returns-in-List
 write_expression-returns-in-List t c =
     expression_is c.args.e.now c.in-List.is (vector_view _ c.in-List.elems)
@@ -96,6 +111,14 @@ write_call-returns t c =
     two c.write_token.ensures
     (three c.write_token-2.ensures c.write_arguments.ensures c.write_token-3.ensures)
 
+pub write_operand-returns-then-may_stand_alone : goal.write_operand-returns-then-may_stand_alone
+write_operand-returns-then-may_stand_alone t c =
+    enclosed_is (expression_of c.args.e.now) (c.if-may_stand_alone.ensures c.args.e.now.at) c.write_expression.ensures
+
+pub write_operand-returns-else-may_stand_alone : goal.write_operand-returns-else-may_stand_alone
+write_operand-returns-else-may_stand_alone t c =
+    enclosed_is (expression_of c.args.e.now) (c.if-may_stand_alone.ensures c.args.e.now.at) c.write_within.ensures
+
 pub write_test-returns : goal.write_test-returns
 write_test-returns t c = two c.write_token.ensures c.write_within.ensures
 
@@ -135,6 +158,13 @@ write_elements-returns t c =
     (none c.elements.out))
 
 -- ---- elements
+pub write_element-returns-in-Item : goal.write_element-returns-in-Item
+write_element-returns-in-Item t c = element_leaf_is c.in-Item.is c.write_expression.ensures
+
+pub write_element-returns-in-Each : goal.write_element-returns-in-Each
+write_element-returns-in-Each t c =
+    element_leaf_is c.in-Each.is (two c.write_token.ensures (rw c.deref.ensures at c.write_element.ensures))
+
 pub write_element-returns-in-For : goal.write_element-returns-in-For
 write_element-returns-in-For t c =
     element_is c.in-For.is (for_view c.in-For.args c.in-For.elem c.in-For.field-2)
