@@ -1,6 +1,6 @@
 -- What a command's name asks for, by the comparisons that tell it.
-use Rattle.std.proofs.Common.{◌≡◌, Bool, true, false, List, Option, Some, None, Result, Err, option_map, codes, bytes_eq}
-use Rattle.std.proofs.Common.{refl, sym, subst, ◌∙◌}
+use Rattle.std.proofs.Common.{◌≡◌, Bool, true, false, List, Option, Some, None, Result, Err, option_map}
+use Rattle.std.proofs.Common.{codes, bytes_eq, refl, sym, subst, ◌∙◌}
 use Rattle.std.specs.Result.{IfOk}
 use Rattle.clap.specs.Walk.{Row, Text}
 use Rattle.scad_words.specs.declared.job.Command.{Command}
