@@ -1,9 +1,33 @@
 -- The square of a normal that isn't 0 is large enough for each entry, and the entries are the reflection's.
-use Rattle.std.proofs.Common.{FitsSigned, ap, of_z}
+use Rattle.std.proofs.Common.{◌^◌, ◌≤◌, ℤ, unsigned_abs, FitsSigned, ap, to_z, of_z, arith}
 use Rattle.std.proofs.lemmas.Int.{to_z-of_z}
-use Rattle.scad_matrix.proofs.Reflection.{twice-xy, twice-yz, twice-zx, square-some, square-x, square-y, square-z, reflected}
+use Rattle.scad_geom.proofs.Casts.{cast_size}
+use Rattle.scad_matrix.proofs.Reflection.{twice-xy, twice-yz, twice-zx, square-some, square-x, square-y, square-z}
+use Rattle.scad_matrix.proofs.Reflection.{reflected}
 use Rattle.scad_matrix.proofs.mirroring.mirror.Goals as goal
 use mir.Syntax.{w128}
+
+-- the square is handed on as it is
+small : (square : ℤ) → unsigned_abs square ≤ 2 ^ 102 → unsigned_abs (to_z w128 (of_z w128 square)) ≤ 2 ^ 102
+small square within = rw (cast_size w128 square (omega arith)) within
+
+pub across-xy-requires-clause-small : goal.across-xy-requires-clause-small
+across-xy-requires-clause-small c = small c.square-square.result c.square-square.ensures.size
+
+pub across-yz-requires-clause-small : goal.across-yz-requires-clause-small
+across-yz-requires-clause-small c = small c.square-square.result c.square-square.ensures.size
+
+pub across-zx-requires-clause-small : goal.across-zx-requires-clause-small
+across-zx-requires-clause-small c = small c.square-square.result c.square-square.ensures.size
+
+pub along-requires-clause-small : goal.along-requires-clause-small
+along-requires-clause-small c = small c.square-square.result c.square-square.ensures.size
+
+pub along-requires-2-clause-small : goal.along-requires-2-clause-small
+along-requires-2-clause-small c = small c.square-square.result c.square-square.ensures.size
+
+pub along-requires-3-clause-small : goal.along-requires-3-clause-small
+along-requires-3-clause-small c = small c.square-square.result c.square-square.ensures.size
 
 pub across-xy-requires-clause-part : goal.across-xy-requires-clause-part
 across-xy-requires-clause-part c =
