@@ -1,6 +1,6 @@
 -- The outline in its turn is pushed, or is refused.
-use Rattle.std.proofs.Common.{◌≡◌, ℕ, ◌<◌, ◌≤◌, Bool, true, false, List, [], Result, Ok, Err, ℤ, pos, unsigned_abs}
-use Rattle.std.proofs.Common.{to_z, of_z, arith, refl, ap, ap₂, sym, ◌∙◌, ◌++◌, ◌∷◌}
+use Rattle.std.proofs.Common.{◌≡◌, ℕ, ◌<◌, ◌≤◌, Bool, true, false, List, [], Ok, Err, ℤ, pos, unsigned_abs}
+use Rattle.std.proofs.Common.{to_z, of_z, arith, refl, ap, ap₂, ◌∙◌, ◌++◌, ◌∷◌}
 use Rattle.std.proofs.lemmas.Result.{err_from_is_err_and}
 use Rattle.std.specs.Prelude.{if◌then◌else◌}
 use Rattle.std.specs.List.{list_all}
