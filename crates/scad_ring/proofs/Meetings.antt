@@ -1,5 +1,6 @@
 -- The tests of `octagon_meets` decide.
-use Rattle.std.proofs.Common.{◌≡◌, ◌⊎◌, inl, inr, Bool, true, false, ◌&&◌, [], ◌∷◌, refl, sym, subst, arith, ℤ, pos, neg_ℤ, ◌+ℤ◌, ◌-ℤ◌, ◌*ℤ◌, ◌<ℤ◌}
+use Rattle.std.proofs.Common.{◌≡◌, ◌⊎◌, inl, inr, Bool, true, false, ◌&&◌, [], ◌∷◌, refl}
+use Rattle.std.proofs.Common.{sym, subst, arith, ℤ, pos, neg_ℤ, ◌+ℤ◌, ◌-ℤ◌, ◌*ℤ◌, ◌<ℤ◌}
 use lib.Signed.{◌≤ℤ◌}
 use Rattle.std.specs.Prelude.{if◌then◌else◌, ◌||◌, int_le}
 use Rattle.std.proofs.lemmas.Int.{ints}
@@ -11,7 +12,12 @@ use Rattle.scad_geom.proofs.Rising.{order}
 use Rattle.scad_geom.proofs.Ring.{ring, num, ◌⊕◌, ◌⊖◌, ◌⊗◌, v0, v1, v2, v3}
 use Rattle.scad_ring.specs.Tests.{overlaps, is_size, breadth, passes}
 use Rattle.scad_ring.proofs.Convex.{Lies, cross, found, Test, gap_times}
-use Rattle.scad_ring.proofs.Octants.{End, Ends, Approach, IsSize, approach, approach_point, ends, right_line, steep_right_line, steep_left_line, left_line, right_corner, steep_right_corner, steep_left_corner, left_corner, right_is, left_is, over_is, below_is, over_right_is, below_right_is, over_left_is, below_left_is, right_between, left_between, over_between, below_between, over_right_between, below_right_between, over_left_between, below_left_between}
+use Rattle.scad_ring.proofs.Octants.{End, Ends, Approach, IsSize, approach, approach_point, ends, right_line}
+use Rattle.scad_ring.proofs.Octants.{steep_right_line, steep_left_line, left_line, right_corner, steep_right_corner}
+use Rattle.scad_ring.proofs.Octants.{steep_left_corner, left_corner, right_is, left_is, over_is, below_is}
+use Rattle.scad_ring.proofs.Octants.{over_right_is, below_right_is, over_left_is, below_left_is, right_between}
+use Rattle.scad_ring.proofs.Octants.{left_between, over_between, below_between, over_right_between, below_right_between}
+use Rattle.scad_ring.proofs.Octants.{over_left_between, below_left_between}
 
 -- ---- tests as facts
 or_parts : (a b : Bool) → (a || b) ≡ true → (a ≡ true) ⊎ (b ≡ true)

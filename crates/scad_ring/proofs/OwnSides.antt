@@ -2,7 +2,8 @@
 use Rattle.std.proofs.Common.{◌≡◌, arith, ℤ, pos, neg_ℤ, ◌+ℤ◌, ◌-ℤ◌, ◌*ℤ◌, ◌<ℤ◌}
 use Rattle.std.proofs.lemmas.Int.{ints}
 use Rattle.scad_geom.specs.declared.point.Pt.{Pt}
-use Rattle.scad_ring.specs.Corners.{low_left, low_right, right_low, right_high, high_right, high_left, left_high, left_low, low, right, high, left}
+use Rattle.scad_ring.specs.Corners.{low_left, low_right, right_low, right_high, high_right, high_left}
+use Rattle.scad_ring.specs.Corners.{left_high, left_low, low, right, high, left}
 use Rattle.scad_ring.proofs.Steps.{Side, side}
 
 -- from one side to the next, an eighth or a quarter of a turn to the left

@@ -10,13 +10,17 @@ use Rattle.scad_geom.specs.Segment.{segments}
 use Rattle.scad_geom.specs.Loop.{sides}
 use Rattle.scad_ring.specs.Ring.{IsLeftOf, IsBefore}
 use Rattle.scad_ring.specs.declared.direction.Direction.TheVariants.{SteepLeft}
-use Rattle.scad_ring.specs.Corners.{eight_sided, low_left, low_right, right_low, right_high, high_right, high_left, left_high, left_low}
+use Rattle.scad_ring.specs.Corners.{eight_sided, low_left, low_right, right_low, right_high}
+use Rattle.scad_ring.specs.Corners.{high_right, high_left, left_high, left_low}
 use Rattle.scad_ring.proofs.Octants.{approach}
 use Rattle.scad_ring.proofs.Approaches.{ApproachFrom, meets_if_approach, approach_if_meets}
 use Rattle.scad_ring.proofs.Steps.{Step, Side, Beside, step, along, turns, side_gap, first_side, last_side}
-use Rattle.scad_ring.proofs.OwnSides.{low_side, low_right_side, right_side, high_right_side, high_side, high_left_side, left_side, low_left_side, eighth}
+use Rattle.scad_ring.proofs.OwnSides.{low_side, low_right_side, right_side, high_right_side, high_side}
+use Rattle.scad_ring.proofs.OwnSides.{high_left_side, left_side, low_left_side, eighth}
 use Rattle.scad_ring.proofs.Slants.{under, over, line, steep_left_by, steep_left_passes}
-use Rattle.scad_ring.proofs.Offsets.{IsNearWay, IsRingRound, near_first, near_last, low_left_in, low_right_in, right_low_in, right_high_in, high_right_in, high_left_in, left_high_in, left_low_in}
+use Rattle.scad_ring.proofs.Offsets.{IsNearWay, IsRingRound, near_first, near_last}
+use Rattle.scad_ring.proofs.Offsets.{low_left_in, low_right_in, right_low_in, right_high_in}
+use Rattle.scad_ring.proofs.Offsets.{high_right_in, high_left_in, left_high_in, left_low_in}
 
 module _ (c t u : ℤ) (sum : u ≡ c +ℤ t) (some : pos 0 <ℤ t) (less : t <ℤ c) (p r : Pt) (x : r.x <ℤ p.x)
     (y : (p.x -ℤ r.x) <ℤ (r.y -ℤ p.y)) where
