@@ -23,3 +23,4 @@ pub mod SupportRuns
 pub mod Ascending
 pub mod RowGathering
 pub mod StretchCount
+pub mod Widened
