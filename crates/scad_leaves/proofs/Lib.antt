@@ -4,4 +4,5 @@ pub mod HullFacts
 pub mod KeptPoints
 pub mod MadeTrees
 pub mod Readings
+pub mod Steps
 pub mod Sweeps
