@@ -15,8 +15,10 @@ unfolding primitive_made
 returns-in_err-primitive-clause-does c =
     let r = c.from_residual-in_err-primitive in
     let p = err_from_is_err_and r.result r.ensures.1 in
-    rw (p.1, p.2) (λ some. rw (c.in_ok-judge_solid.ensures (state_of c.args.m.now),
-    c.in_err-primitive.ensures.does some))
+    rw (p.1, p.2) (λ some. rw (
+      c.in_ok-judge_solid.ensures (state_of c.args.m.now),
+      c.in_err-primitive.ensures.does some,
+    ))
 
 pub leaf-requires : goal.leaf-requires
 leaf-requires c = c.in_ok-primitive.ensures.primitive
