@@ -1,10 +1,20 @@
-use Rattle.std.proofs.Common.{All, sym, ◌∙◌, subst}
+-- The outlines of the section's edges are those of the layer.
+use Rattle.std.proofs.Common.{◌≤◌, ℕ, All, List, length, Result, Ok, Err, IfOk, sym, ◌∙◌, subst}
+use Rattle.std.specs.Prelude.{IfErr}
 use Rattle.std.proofs.lemmas.Result.{IfOk-weaker}
 use Rattle.scad_geom.specs.Limits.{coordinate_limit, point_limit}
+use Rattle.scad_geom.specs.declared.level.LeafEdge.{LeafEdge}
+use Rattle.scad_geom.specs.Leaves.{AreLeavesBalanced}
 use Rattle.scad_geom.specs.Within.{IsWithin, IsEdgeWithin}
 use Rattle.scad_tree.specs.View.{solid_of}
 use Rattle.scad_tree.proofs.Numbering.{numbering_holds}
+use Rattle.slice_border.specs.declared.fault.BoolFault.{BoolFault}
+use Rattle.slice_border.specs.declared.fault.BoolFault.TheVariants.{Memory, Edges, Crossings}
+use Rattle.slice_border.specs.Fault.{IsRefusal as IsBorderRefusal}
 use Rattle.slice_border.specs.Outlines.{AreOutlinesOf}
+use Rattle.slice_events.specs.Levels.{crossings}
+use Rattle.slice_events.specs.Limits.{crossing_limit}
+use Rattle.slice_layer.specs.Refusal.{IsRefusal}
 use Rattle.slice_layer.specs.Outlines.{AreLayerOutlines}
 use Rattle.slice_layer.specs.Membership.{HoldCentres}
 use Rattle.slice_layer.specs.Border.{AreNearSectionBorder}
@@ -13,6 +23,14 @@ use Rattle.slice_layer.proofs.Within.{shapes_within}
 use Rattle.slice_layer.proofs.Membership.{outlines_hold_centres}
 use Rattle.slice_layer.proofs.Border.{outlines_are_near_border}
 use Rattle.slice_layer.proofs.layer.layer_outlines.Goals as goal
+
+-- a refusal of the border is one of the layer
+refusal-of : {A : Type 0} (count limit n : ℕ) (answer : Result A BoolFault)
+    → IfErr answer (IsBorderRefusal count limit n) → IfErr answer (IsRefusal count limit n)
+refusal-of count limit n (Ok a) refused = refused
+refusal-of count limit n (Err Memory) refused = tt
+refusal-of count limit n (Err (Edges c)) refused = refused
+refusal-of count limit n (Err (Crossings c)) refused = refused
 
 pub outlines-requires-clause-within : goal.outlines-requires-clause-within
 outlines-requires-clause-within c =
@@ -80,3 +98,23 @@ returns-clause-within c =
     (section_in_range c.args.layer c.args.h solid c.are_solids.ensures))
     c.in-Ok-shape.shape v.items made)
     c.outlines.ensures.outlines
+
+pub outlines-requires-clause-balanced : goal.outlines-requires-clause-balanced
+outlines-requires-clause-balanced c = subst AreLeavesBalanced (sym c.deref.ensures.value) c.in-Ok.ensures.balanced
+
+pub returns-clause-few : goal.returns-clause-few
+returns-clause-few c =
+    subst (λ (es : List LeafEdge). IfOk c.outlines.result (λ v. length es ≤ c.args.limit))
+    (c.deref.ensures.value ∙ c.in-Ok.ensures.edges) c.outlines.ensures.few
+
+pub returns-clause-accepted : goal.returns-clause-accepted
+returns-clause-accepted c =
+    subst (λ (es : List LeafEdge). IfOk c.outlines.result (λ v. crossings es ≤ crossing_limit))
+    (c.deref.ensures.value ∙ c.in-Ok.ensures.edges) c.outlines.ensures.accepted
+
+pub returns-clause-refused : goal.returns-clause-refused
+returns-clause-refused c =
+    subst (λ (es : List LeafEdge). IfErr c.outlines.result (IsRefusal (length es) c.args.limit (crossings es)))
+    (c.deref.ensures.value ∙ c.in-Ok.ensures.edges)
+    (refusal-of (length c.deref.result.now) c.args.limit (crossings c.deref.result.now) c.outlines.result
+    c.outlines.ensures.refused)
