@@ -47,3 +47,30 @@ pub returns-clause-ok : goal.returns-clause-ok
 returns-clause-ok g c =
     let none = none_by_test c.pieces.rest.now (sym c.is_empty.ensures ∙ c.pieces-test.false) in
     ended (as_rest none c.pieces.invariant.0)
+
+pub returns-in_err-n-clause-cause : goal.returns-in_err-n-clause-cause
+returns-in_err-n-clause-cause g c = ?
+
+pub returns-then-n-eq0-clause-cause : goal.returns-then-n-eq0-clause-cause
+returns-then-n-eq0-clause-cause g c = ?
+
+pub returns-clause-cause : goal.returns-clause-cause
+returns-clause-cause g c = ?
+
+pub returns-in_err-n-clause-ok : goal.returns-in_err-n-clause-ok
+returns-in_err-n-clause-ok g c = ?
+
+pub returns-in_err-n-clause-empty : goal.returns-in_err-n-clause-empty
+returns-in_err-n-clause-empty g c = ?
+
+pub returns-then-n-eq0-clause-empty : goal.returns-then-n-eq0-clause-empty
+returns-then-n-eq0-clause-empty g c = ?
+
+pub pieces-smaller : goal.pieces-smaller
+pieces-smaller g c = ?
+
+pub slice_bounds-rest-start : goal.slice_bounds-rest-start
+slice_bounds-rest-start g c = ?
+
+pub slice_bounds-rest-end : goal.slice_bounds-rest-end
+slice_bounds-rest-end g c = ?
