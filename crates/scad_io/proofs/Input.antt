@@ -1,9 +1,9 @@
 -- What is taken from the input, put together: bytes after others, and a text in pieces.
-use Rattle.std.proofs.Common.{◌≡◌, ◌+◌, ◌<◌, ◌≤◌, ℕ, Bool, true, false, List, [], ◌++◌, length, take, drop, Option, Some, None}
-use Rattle.std.proofs.Common.{refl, sym, ap, ◌∙◌, subst, arith, length-append}
+use Rattle.std.proofs.Common.{◌≡◌, ◌+◌, ◌<◌, ◌≤◌, ℕ, Bool, true, false, List, [], ◌++◌, length, take, drop}
+use Rattle.std.proofs.Common.{Option, Some, None, refl, sym, ap, ◌∙◌, subst, arith, append_assoc, length-append}
 use Rattle.std.specs.Prelude.{IfSome, IsSomeAnd}
 use Rattle.std.specs.Option.{option_map}
-use Rattle.std.proofs.lemmas.List.{append-nil, drop-drop}
+use Rattle.std.proofs.lemmas.List.{append-nil, drop-drop, length-take-le, take-append-drop}
 use Rattle.scad_io.specs.Desk.{View, Gives, taken}
 use Rattle.scad_io.specs.Reading.{ReadsAll, ReadsPast, ReadsPart}
 
@@ -82,9 +82,52 @@ pub part_read : {old new : View} (n : ℕ) (into : List ℕ)
     → ReadsPart false old new
 part_read {old = old} n into gives view = record { count = n; there = there old.input.bytes gives; view = view }
   where
-    there : (bytes : Option (List ℕ)) → IfSome bytes (λ rest. Gives rest n into) → IfSome bytes (λ rest. n ≤ length rest)
+    there : (bytes : Option (List ℕ))
+        → IfSome bytes (λ rest. Gives rest n into)
+        → IfSome bytes (λ rest. n ≤ length rest)
     there None gives = tt
     there (Some rest) gives = gives.there
+
+-- what the next bytes add to a text's length
+pub longer : {more : List ℕ} (text into : List ℕ) (n : ℕ) → more ≡ text ++ take n into → n ≤ length into
+    → length more ≡ length text + n
+longer text into n added within =
+    ap length added
+    ∙ length-append text (take n into)
+    ∙ ap (λ k. length text + k) (length-take-le n into within)
+
+-- with the next bytes more was read
+pub goes_on : {text more : List ℕ} {old now new : View} (into : List ℕ) (n : ℕ)
+    → ReadSoFar text old now
+    → n ≤ length into
+    → IfSome now.input.bytes (λ rest. Gives rest n into)
+    → more ≡ text ++ take n into
+    → new ≡ taken n false now
+    → ReadSoFar more old new
+goes_on {text = text} {more = more} {old = old} into n so_far within gives added went =
+    let Given : Option (List ℕ) → Type 0 = λ rest. IfSome rest (λ r. Gives r n into) in
+    let next = subst Given (ap (λ v. v.input.bytes) so_far.view) gives in
+    record {
+      front = joined old.input.bytes so_far.front next;
+      view = went
+          ∙ ap (taken n false) so_far.view
+          ∙ taken-twice (length text) n false old
+          ∙ ap (λ k. taken k false old) (sym (longer text into n added within));
+    }
+  where
+    joined : (rest : Option (List ℕ))
+        → IfSome rest (λ r. text ++ drop (length text) r ≡ r)
+        → IfSome (option_map (drop (length text)) rest) (λ r. Gives r n into)
+        → IfSome rest (λ r. more ++ drop (length more) r ≡ r)
+    joined None front next = tt
+    joined (Some r) front next =
+        let left = drop (length text) r in
+        ap (λ k. more ++ drop k r) (longer text into n added within)
+        ∙ ap (λ bytes. bytes ++ drop (length text + n) r) (added ∙ ap (λ bytes. text ++ bytes) next.next)
+        ∙ append_assoc text (take n left) (drop (length text + n) r)
+        ∙ ap (λ bytes. text ++ (take n left ++ bytes)) (sym (drop-drop n (length text) r))
+        ∙ ap (λ bytes. text ++ bytes) (take-append-drop n left)
+        ∙ front
 
 -- where nothing more came, all was read
 pub ended : {text more : List ℕ} {old now new : View} (limit : Option ℕ) (into : List ℕ) (n : ℕ)

@@ -4,7 +4,8 @@ use Rattle.std.specs.Prelude.{◌&&◌, int_lt, int_le}
 use Rattle.std.proofs.lemmas.Int.{to_z-of_z}
 use Rattle.scad_near.specs.Tests.{is_parted}
 use Rattle.scad_near.proofs.crossing.is_parted.Goals.{Joined-to-from, Joined-to-le0, Joined-start-le0}
-use Rattle.scad_near.proofs.crossing.is_parted.Goals.{then-to-from, else-to-from, then-to-le0, else-to-le0, then-start-le0, else-start-le0}
+use Rattle.scad_near.proofs.crossing.is_parted.Goals.{then-to-from, else-to-from, then-to-le0, else-to-le0}
+use Rattle.scad_near.proofs.crossing.is_parted.Goals.{then-start-le0, else-start-le0}
 use Rattle.scad_near.proofs.crossing.is_parted.Goals as goal
 use mir.Syntax.{w64}
 
@@ -51,13 +52,15 @@ in_parts to start from end =
     nested (int_lt to from) (int_le to (pos 0)) (int_le start (pos 0)) (int_le (pos 0) from) (int_le (pos 0) end)
 
 together : (c : Joined-start-le0)
-    → (c.if-start-le0.value && int_le (pos 0) (kept c.args.end)) ≡ is_parted c.args.to c.args.start c.args.from c.args.end
+    → (c.if-start-le0.value && int_le (pos 0) (kept c.args.end))
+    ≡ is_parted c.args.to c.args.start c.args.from c.args.end
 together c =
     let before = second c.before ∙ ap (λ p. p && int_le (kept c.args.start) (pos 0)) (first c.before.before) in
     let all = third c ∙ ap (λ p. p && int_le (pos 0) (kept c.args.from)) before in
     ap (λ p. p && int_le (pos 0) (kept c.args.end)) all
     ∙ in_parts (kept c.args.to) (kept c.args.start) (kept c.args.from) (kept c.args.end)
-    ∙ ap (λ z. is_parted z (kept c.args.start) (kept c.args.from) (kept c.args.end)) (to_z-of_z w64 c.args.to c.ranges.to)
+    ∙ ap (λ z. is_parted z (kept c.args.start) (kept c.args.from) (kept c.args.end))
+    (to_z-of_z w64 c.args.to c.ranges.to)
     ∙ ap (λ z. is_parted c.args.to z (kept c.args.from) (kept c.args.end)) (to_z-of_z w64 c.args.start c.ranges.start)
     ∙ ap (λ z. is_parted c.args.to c.args.start z (kept c.args.end)) (to_z-of_z w64 c.args.from c.ranges.from)
     ∙ ap (is_parted c.args.to c.args.start c.args.from) (to_z-of_z w64 c.args.end c.ranges.end)
