@@ -1,5 +1,5 @@
 -- What holds of all outlines that meet the definition.
-use Rattle.std.proofs.Common.{sym, subst, All}
+use Rattle.std.proofs.Common.{ℕ, ◌<◌, ◌≤◌, refl, sym, subst, All, arith}
 use Rattle.scad_geom.specs.Limits.{coordinate_limit}
 use Rattle.scad_geom.specs.Level.{IsLevelWithin}
 use Rattle.slice_events.specs.Levels.{AreLevels}
@@ -35,3 +35,34 @@ joined-requires-clause-levels c =
 pub joined-requires-clause-levels_within : goal.joined-requires-clause-levels_within
 joined-requires-clause-levels_within c =
     subst (All (IsLevelWithin coordinate_limit)) (sym c.deref.ensures.value) c.in-Ok.ensures.within
+
+-- the limit is of 32 bits
+few_by : (n limit : ℕ) → limit < 4294967296 → n ≤ limit → n < 4294967296
+few_by n limit h k = omega arith
+
+pub levels-requires-clause-few : goal.levels-requires-clause-few
+levels-requires-clause-few c = few_by _ c.args.limit c.ranges.limit.fits c.if-count-limit.false
+
+pub joined-requires-clause-few : goal.joined-requires-clause-few
+joined-requires-clause-few c = few_by _ c.args.limit c.ranges.limit.fits c.if-count-limit.false
+
+pub returns-in-Ok-joined-clause-few : goal.returns-in-Ok-joined-clause-few
+returns-in-Ok-joined-clause-few c = c.if-count-limit.false
+
+pub returns-in-Ok-joined-clause-accepted : goal.returns-in-Ok-joined-clause-accepted
+returns-in-Ok-joined-clause-accepted c = c.in-Ok.ensures.accepted
+
+pub returns-in-Ok-joined-clause-refused : goal.returns-in-Ok-joined-clause-refused
+returns-in-Ok-joined-clause-refused c = tt
+
+pub returns-then-count-limit-clause-accepted : goal.returns-then-count-limit-clause-accepted
+returns-then-count-limit-clause-accepted c = tt
+
+pub returns-then-count-limit-clause-refused : goal.returns-then-count-limit-clause-refused
+returns-then-count-limit-clause-refused c = (refl, c.if-count-limit.true)
+
+pub returns-in-Ok-clause-refused : goal.returns-in-Ok-clause-refused
+returns-in-Ok-clause-refused c = c.if-count-limit.false
+
+pub returns-in-Err-Memory-clause-refused : goal.returns-in-Err-Memory-clause-refused
+returns-in-Err-Memory-clause-refused c = c.if-count-limit.false

@@ -1,6 +1,7 @@
 -- The places of the last level are passed.
-use Rattle.std.proofs.Common.{[], refl, sym, ap, ◌∙◌}
+use Rattle.std.proofs.Common.{◌≡◌, ◌<◌, ℕ, List, [], length, refl, sym, ap, subst, ◌∙◌, arith}
 use Rattle.slice_outlines.specs.declared.height.Height.{Height}
+use Rattle.slice_outlines.specs.declared.mark.Mark.{Mark}
 use Rattle.slice_outlines.proofs.Climbing.{swept_members}
 use Rattle.slice_outlines.proofs.SweepEnd.{all_from, marks_all_pass, below_order, all_merged}
 use Rattle.slice_outlines.proofs.sweep.Sweep.end.Goals as goal
@@ -31,6 +32,22 @@ pass_places-requires-clause-below_pass c =
     let marks = c.deref.ensures.value ∙ ap (λ v. v.items) c.replace-below.ensures.value in
     marks_all_pass c.args.edges.now w.shape w.levels c.args.top.now [] c.args.self w.swept w.are_levels c.deref.result.now
     marks
+
+pub clear-requires-clause-few : goal.clear-requires-clause-few
+clear-requires-clause-few c = c.requires.few
+
+pub invariant_of-height : goal.invariant_of-height
+invariant_of-height c =
+    record { within = c.requires.within; few = c.requires.few; at_within = c.requires.top }
+
+-- no mark is left
+no_mark : (ms : List Mark) → ms ≡ [] → (k : ℕ) → k < length ms → ⊥
+no_mark ms e k h = let f : k < 0 = subst (λ (l : List Mark). k < length l) e h in omega arith
+
+pub pass_places-requires-clause-above_pass : goal.pass_places-requires-clause-above_pass
+pass_places-requires-clause-above_pass c = λ k d h.
+    absurd (no_mark c.replace-below.new.dest.items
+    (ap (λ v. v.items) c.replace-below.ensures.after ∙ c.new.ensures.items) k h)
 
 pub returns : goal.returns
 returns c = λ w.
