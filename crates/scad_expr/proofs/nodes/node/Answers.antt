@@ -1,13 +1,20 @@
-use Rattle.std.proofs.Common.{ℕ, List, refl, sym, ap, ◌∙◌}
-use Rattle.scad_ast.specs.Tree.{name}
+-- Each kind of node goes on as its rule says: with the value of a part, for which a frame waits, or with what its call
+-- gives.
+use Rattle.std.proofs.Common.{◌≡◌, ℕ, List, refl, sym, ap, ap₂, ◌∙◌}
+use Rattle.scad_ast.specs.declared.expression.Expr.{Expr}
+use Rattle.scad_ast.specs.Tree.{Expression, name, unary, binary, choose}
 use Rattle.scad_ast.specs.View.{expression_at, expression_of, arguments}
 use Rattle.scad_value.specs.Datum.{Datum}
-use Rattle.scad_machine.specs.Machine.{held, env_in, along_in, state_of}
-use Rattle.scad_machine.specs.State.{Outcome, gives, and_then}
-use Rattle.scad_stack.specs.Meaning.{node, meaning}
-use Rattle.scad_stack.specs.Stack.{rest, made_in}
+use Rattle.scad_value.specs.Operators.{unary_op}
+use Rattle.scad_machine.specs.Machine.{Held, held, env_in, along_in, state_of}
+use Rattle.scad_machine.specs.State.{State, Outcome, Action, gives, and_then, make}
+use Rattle.scad_stack.specs.Meaning.{node, meaning, value, right_side}
+use Rattle.scad_stack.specs.Pieces.{side}
+use Rattle.scad_stack.specs.Stack.{Rest, rest, made_in, onto, goes_further}
+use Rattle.scad_operations.specs.Operation.{operates}
 use Rattle.scad_machine.specs.Variables.{variable}
 use Rattle.scad_stack.proofs.Views.{list_node, call_node, let_node, assert_node, echo_node}
+use Rattle.scad_stack.proofs.Loops.{twice}
 use Rattle.scad_stack.proofs.StackBegins.{node-same}
 use Rattle.scad_stack.proofs.StackTurns.{assert-supplied, echo-supplied, on-ok}
 use Rattle.scad_expr.proofs.nodes.node.Goals as goal
@@ -74,3 +81,65 @@ returns-in-Name-clause-goes c = λ o is.
     (expression_of e)
     (ap (λ (w : List ℕ). name e.at w) c.as_slice.ensures ∙ ap (expression_at e.at) (sym c.in-Name.is)))
     (c.variable.ensures s) (on-ok c.variable.result refl)
+
+-- ---- a part begins, and a frame waits for its value
+waits : (depth : ℕ) (h : Held) (k : Rest) (made : List Datum) (s : State) (x y first : Expression)
+    (follows : Datum → Action Datum) → x ≡ y
+    → node (meaning depth) (env_in h) (along_in h) x s
+    ≡ and_then (value depth (env_in h) (along_in h) first s) follows
+    → and_then (node (meaning depth) (env_in h) (along_in h) y s) (k h made)
+    ≡ and_then (value depth (env_in h) (along_in h) first s) (λ d t. and_then (follows d t) (k h made))
+waits depth h k made s x y first follows same is =
+    node-same depth h k made s x y same
+    ∙ ap (λ (r : Outcome Datum). and_then r (k h made)) is
+    ∙ twice (value depth (env_in h) (along_in h) first s) follows (k h made)
+
+pub returns-in-Unary-clause-goes : goal.returns-in-Unary-clause-goes
+unfolding node onto operates
+returns-in-Unary-clause-goes c = λ o is.
+    let e = c.args.e.now in
+    let h = held c.args.m.now in
+    let op = c.in-Unary.op in
+    let a = c.deref-in-Unary.result.now in
+    c.wait-in-Unary.ensures.goes h (state_of c.args.m.now) o (is ∙ waits c.args.depth h (rest c.args.stack.now)
+    (made_in c.args.stack.now) (state_of c.args.m.now)
+    (unary e.at op (expression_of a)) (expression_of e) (expression_of a)
+    (λ d. make e.at (unary_op op d))
+    (ap (λ (x : Expr). unary e.at op (expression_of x)) c.deref-in-Unary.ensures
+    ∙ ap (expression_at e.at) (sym c.in-Unary.is)) refl)
+
+pub returns-in-Binary-clause-goes : goal.returns-in-Binary-clause-goes
+unfolding node onto goes_further
+returns-in-Binary-clause-goes c = λ o is.
+    let e = c.args.e.now in
+    let h = held c.args.m.now in
+    let env = env_in h in
+    let along = along_in h in
+    let op = c.in-Binary.op in
+    let b = c.deref-in-Binary.result.now in
+    let a = c.deref-in-Binary-2.result.now in
+    c.wait-in-Binary.ensures.goes h (state_of c.args.m.now) o (is ∙ waits c.args.depth h (rest c.args.stack.now)
+    (made_in c.args.stack.now) (state_of c.args.m.now)
+    (binary e.at op (expression_of a) (expression_of b)) (expression_of e) (expression_of a)
+    (λ d. right_side (meaning c.args.depth) env along e.at op d (expression_of b))
+    (ap₂ (λ (x y : Expr). binary e.at op (expression_of x) (expression_of y)) c.deref-in-Binary-2.ensures
+    c.deref-in-Binary.ensures ∙ ap (expression_at e.at) (sym c.in-Binary.is)) refl)
+
+pub returns-in-Choose-clause-goes : goal.returns-in-Choose-clause-goes
+unfolding node onto goes_further side
+returns-in-Choose-clause-goes c = λ o is.
+    let e = c.args.e.now in
+    let h = held c.args.m.now in
+    let env = env_in h in
+    let along = along_in h in
+    let a = c.deref-in-Choose.result.now in
+    let b = c.deref-in-Choose-2.result.now in
+    let test = c.deref-in-Choose-3.result.now in
+    c.wait-in-Choose.ensures.goes h (state_of c.args.m.now) o (is ∙ waits c.args.depth h (rest c.args.stack.now)
+    (made_in c.args.stack.now) (state_of c.args.m.now)
+    (choose e.at (expression_of test) (expression_of a) (expression_of b)) (expression_of e) (expression_of test)
+    (λ d. side (meaning c.args.depth) env along d (expression_of a) (expression_of b))
+    (ap₂ (λ (x y : Expr). choose e.at (expression_of x) (expression_of y) (expression_of b))
+    c.deref-in-Choose-3.ensures c.deref-in-Choose.ensures
+    ∙ ap (λ (x : Expr). choose e.at (expression_of c.in-Choose.test.value) (expression_of c.in-Choose.a.value)
+    (expression_of x)) c.deref-in-Choose-2.ensures ∙ ap (expression_at e.at) (sym c.in-Choose.is)) refl)
