@@ -13,7 +13,7 @@ use Rattle.scad_machine.specs.Answers.{Does}
 use Rattle.scad_machine.specs.Machine.{Held, held, env_in, along_in, state_of}
 use Rattle.scad_machine.specs.State.{State, Outcome, gives, pure, and_then}
 use Rattle.scad_machine.specs.Variables.{variable}
-use Rattle.scad_stack.specs.Meaning.{meaning, node, value, member_of}
+use Rattle.scad_stack.specs.Meaning.{node, value, member_of}
 use Rattle.scad_stack.specs.Stack.{rest, made_in}
 use Rattle.scad_stack.proofs.StackTurns.{on-ok}
 use Rattle.scad_expr.proofs.nodes.member_node.Goals as goal
