@@ -1,5 +1,6 @@
 -- What two groups of workers have done, as one.
-use Rattle.std.proofs.Common.{◌≡◌, ℕ, ◌+◌, ◌++◌, [], ◌∷◌, List, Result, Ok, Err, IfOk, length, map, ℤ, sym, ap, ap₂, subst, ◌∙◌, All}
+use Rattle.std.proofs.Common.{◌≡◌, ℕ, ◌+◌, ◌++◌, [], ◌∷◌, List, Result, Ok, Err}
+use Rattle.std.proofs.Common.{IfOk, length, map, ℤ, sym, ap, ap₂, subst, ◌∙◌, All}
 use Rattle.std.proofs.lemmas.List.{length-append, map-append}
 use Rattle.std.proofs.lemmas.List.Elements.{All-append, All-head, All-tail}
 use Rattle.layer_board.specs.declared.view.View.{View}

@@ -1,5 +1,6 @@
 -- What one more line keeps is added to the rows.
-use Rattle.std.proofs.Common.{◌≡◌, ℕ, ◌+◌, ◌<◌, ◌≤◌, ◌++◌, List, [], length, get_or, drop, ℤ, pos, sym, subst, ap, ap₂, append_assoc, ◌∙◌, FitsSigned, rules}
+use Rattle.std.proofs.Common.{◌≡◌, ℕ, ◌+◌, ◌<◌, ◌≤◌, ◌++◌, List, [], length, get_or, drop}
+use Rattle.std.proofs.Common.{ℤ, pos, sym, subst, ap, ap₂, append_assoc, ◌∙◌, FitsSigned, rules}
 use Rattle.std.proofs.lemmas.Int.{to_z-of_z}
 use mir.Syntax.{w32}
 use Rattle.std.proofs.lemmas.List.{append-nil, drop_more, at_drop_all}

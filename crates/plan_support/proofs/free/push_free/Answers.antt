@@ -1,5 +1,6 @@
 -- A hole is passed, or the last of a run is kept.
-use Rattle.std.proofs.Common.{◌≡◌, ◌++◌, ◌<◌, ◌+◌, ℤ, FitsSigned, to_z, get_or, length, sym, subst, ap, ◌∙◌, List, rules, arith, pos, ◌+ℤ◌, ◌-ℤ◌, ◌<ℤ◌}
+use Rattle.std.proofs.Common.{◌≡◌, ◌++◌, ◌<◌, ◌+◌, ℤ, FitsSigned, to_z, get_or, length, sym}
+use Rattle.std.proofs.Common.{subst, ap, ◌∙◌, List, rules, arith, pos, ◌+ℤ◌, ◌-ℤ◌, ◌<ℤ◌}
 use lib.Signed.{◌≤ℤ◌}
 use Rattle.std.specs.Int.{int_max}
 use Rattle.std.proofs.lemmas.Int.{to_z-of_z}

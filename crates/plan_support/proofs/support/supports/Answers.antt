@@ -1,5 +1,6 @@
 -- One more row is supported.
-use Rattle.std.proofs.Common.{◌≡◌, ℕ, ◌<◌, ◌≤◌, unsigned_abs, true, List, length, get_or, sym, subst, ap, ◌∙◌, ℤ, to_z, of_z}
+use Rattle.std.proofs.Common.{◌≡◌, ℕ, ◌<◌, ◌≤◌, unsigned_abs, true, List, length}
+use Rattle.std.proofs.Common.{get_or, sym, subst, ap, ◌∙◌, ℤ, to_z, of_z}
 use Rattle.scad_geom.specs.Limits.{coordinate_limit}
 use Rattle.scad_geom.proofs.Casts.{by_cast}
 use Rattle.plan_infill.specs.declared.run.Run.{Run}
@@ -7,7 +8,8 @@ use Rattle.plan_support.specs.Stretches.{AreStretches}
 use Rattle.plan_support.specs.Rows.{Row, AreApart, no_row}
 use Rattle.plan_support.specs.Free.{at_least}
 use Rattle.plan_support.specs.Supports.{IsFreeOn, AddsRow}
-use Rattle.plan_support.proofs.SupportRuns.{SupportedUpTo, supported_start, supported_more, long_stretches, are_supports}
+use Rattle.plan_support.proofs.SupportRuns.{SupportedUpTo, supported_start, supported_more}
+use Rattle.plan_support.proofs.SupportRuns.{long_stretches, are_supports}
 use Rattle.plan_support.proofs.support.supports.Goals as goal
 use mir.Syntax.{w32}
 

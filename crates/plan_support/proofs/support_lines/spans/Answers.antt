@@ -1,4 +1,5 @@
-use Rattle.std.proofs.Common.{◌≡◌, true, FitsSigned, to_z, of_z, List, flat_map, sym, subst, ◌∙◌, arith, rules, pos, ◌+ℤ◌}
+use Rattle.std.proofs.Common.{◌≡◌, true, FitsSigned, to_z, of_z, List, flat_map}
+use Rattle.std.proofs.Common.{sym, subst, ◌∙◌, arith, rules, pos, ◌+ℤ◌}
 use Rattle.std.specs.Prelude.{All, unsigned_abs, ◌≤◌}
 use Rattle.std.proofs.lemmas.Int.{ints, to_z-of_z}
 use Rattle.scad_geom.specs.declared.point.Edge.{Edge}
