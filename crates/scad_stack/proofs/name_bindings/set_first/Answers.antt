@@ -42,11 +42,11 @@ returns-clause-held c =
     let h = held c.args.m.now in
     let there : 0 < length all = omega (arith, c.in-len1-up.len_at_least) in
     elim c.match-first.branch [
-      in-Some+in_ok-set-in-Some w ↦
-      ap held w.m-is ∙ w.in_ok-set-in-Some.ensures.held
-      ∙ ap (λ (n : List ℕ). set_in_last n d h) w.as_slice.ensures
-      ∙ first-named all a w.in-Some.name d h there c.first-item.is w.in-Some.is |
-      in-None w ↦ ap held w.m-is ∙ first-unnamed all a d h there c.first-item.is w.in-None.is
+      | in-Some+in_ok-set-in-Some w ↦
+          ap held w.m-is ∙ w.in_ok-set-in-Some.ensures.held
+          ∙ ap (λ (n : List ℕ). set_in_last n d h) w.as_slice.ensures
+          ∙ first-named all a w.in-Some.name d h there c.first-item.is w.in-Some.is
+      | in-None w ↦ ap held w.m-is ∙ first-unnamed all a d h there c.first-item.is w.in-None.is
     ]
 
 pub returns-clause-more : goal.returns-clause-more
