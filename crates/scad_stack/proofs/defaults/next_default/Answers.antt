@@ -32,8 +32,8 @@ missing-preserved c =
     let all = c.args.params.now in
     let set_one = c.in_ok-set-in-None.ensures.held
     ∙ ap (λ (n : List ℕ). set_in_last n undef h) c.as_slice-in-None.ensures in (
-      λ below k s. sym (fills-undefined all c.missing.i c.index-params-i.result below k h (held c.set.new.self) s c.missing-test.true
-          c.index-params-i.is c.in-None.is set_one) ∙ c.missing.invariant.0 below k s,
+      λ below k s. sym (fills-undefined all c.missing.i c.index-params-i.result below k h (held c.set.new.self) s
+          c.missing-test.true c.index-params-i.is c.in-None.is set_one) ∙ c.missing.invariant.0 below k s,
       sym (same-state _ _ _ _ c.in_ok-set-in-None.ensures.does) ∙ c.missing.invariant.1,
       c.in_ok-set-in-None.ensures.steps ∙ c.missing.invariant.2,
     )

@@ -40,4 +40,5 @@ returns-in-Ok-clause-less c = λ n stack stack_new m m_new four same fewer.
 
 pub returns-in-Err-clause-goes : goal.returns-in-Err-clause-goes
 returns-in-Err-clause-goes c = λ whole o stack h m is does kept some.
-    refused-follows c.args.value c.in-Err.why whole (rest stack h (made_in stack)) (state_of m) o c.in-Err.is is does some
+    refused-follows c.args.value c.in-Err.why whole (rest stack h (made_in stack)) (state_of m) o c.in-Err.is is
+    does some
