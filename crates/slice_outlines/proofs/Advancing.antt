@@ -66,7 +66,7 @@ use Rattle.slice_outlines.specs.Heights.{Onwards, IsOf}
 use Rattle.slice_outlines.specs.Along.{AreAtPlace, ArePlacesFrom, value_over}
 use Rattle.slice_outlines.specs.Ahead.{HasComeTo, between}
 use Rattle.slice_outlines.specs.Level.{AreFlatsOn, IsAtLevel, IsValuedAt, AreSpotsOf}
-use Rattle.slice_outlines.specs.Sweep.{HasSwept, IsFrontBelow, ArePassedBelow}
+use Rattle.slice_outlines.specs.Sweep.{HasSwept, IsFrontBelow, ArePassedBelow, CanClimb}
 use Rattle.slice_outlines.proofs.Beginning.{all_above_first}
 use Rattle.slice_outlines.proofs.Placing.{AreNamed, zip_append}
 use Rattle.slice_outlines.proofs.GroupHeights.{HeadPasses}
@@ -598,55 +598,62 @@ told_as edges l ms below above cs ch e = record {
   upper = ch.above_is;
 }
 
-module _ (h : Height) (upper : Level) (shape : Shape) (levels later : List Level) (s : Sweep) (cs : List Change)
-    (swept : HasSwept h.edges.now shape levels (h.at.now ∷ (upper ∷ later)) s) (are : AreLevels h.edges.now levels)
-    (leaves : AreLeavesBalanced h.edges.now) (next : AreNeighbours h.edges.now h.at.now upper)
-    (bundles : AreBundles h.edges.now h.at.now upper (bundles_in h.front.now))
-    (ch : AreChanges h.edges.now h.at.now (bundles_in s.front) (bundles_in h.front.now) cs)
-    (below_is : h.below.now ≡ s.kept.marks.items) (kept new : Open)
-    (taken : AreTaken 0 cs ch.groups h.below.now kept.marks.items) (fs : List Flat)
-    (flats : AreFlatsOn h.edges.now h.at.now fs) (few : length h.edges.now < 2 ^ 32)
-    (given_is : kept.given.items ≡ s.kept.given.items)
-    (cursors : Cursors) (on_low : StandOn h.edges.now shape (bundles_in s.front) cursors)
-    (above : AreAbove ch.groups cursors kept.cursors)
-    (aside : (k : ℕ) (d : Cursor) → k < length cursors.all.items → (get_or cursors.all.items k d).at < length h.below.now
-    → All (LiesAside h.at.now (spot_at h.edges.now h.at.now (mark_at h.below.now (get_or cursors.all.items k d).at))) fs)
-  where
-    on_front : StandOn h.edges.now shape (bundles_in h.front.now) kept.cursors
-    on_front = record {
-      some = let count = above.count in let some = on_low.some in omega (arith, count, some);
-      each = λ k d o.
-          let there : k < length cursors.all.items = let count = above.count in omega (arith, o, count) in
-          let moved = above.each k d d there in
-          shifted h upper shape levels later s cs swept are leaves next bundles ch below_is kept.marks.items taken fs flats
-          (get_or cursors.all.items k d) (get_or kept.cursors.all.items k d) (on_low.each k d there) moved.tally moved.place
-          (aside k d there);
-    }
+-- what is known before a level's places are passed: its changes, its flat edges, the marks above it, and cursors that
+-- stood below it, aside of its flat edges, and are shifted
+pub record IsClimb (es : List LeafEdge) (l upper : Level) (s : Sweep) (w : CanClimb es l upper s) (front : Front)
+    (below : List Mark) (cs : List Change) (fs : List Flat) (kept : Open) : Type 0 where
+  pub few : length es < 2 ^ 32
+  pub leaves : AreLeavesBalanced es
+  pub next : AreNeighbours es l upper
+  pub bundles : AreBundles es l upper (bundles_in front)
+  pub changes : AreChanges es l (bundles_in s.front) (bundles_in front) cs
+  pub below_is : below ≡ s.kept.marks.items
+  pub taken : AreTaken 0 cs changes.groups below kept.marks.items
+  pub flats : AreFlatsOn es l fs
+  pub given : kept.given.items ≡ s.kept.given.items
+  pub cursors : Cursors
+  pub on_low : StandOn es w.shape (bundles_in s.front) cursors
+  pub above : AreAbove changes.groups cursors kept.cursors
+  pub aside : (k : ℕ) (d : Cursor) → k < length cursors.all.items → (get_or cursors.all.items k d).at < length below
+      → All (LiesAside l (spot_at es l (mark_at below (get_or cursors.all.items k d).at))) fs
 
-    pub climbs : IsAtLevel h kept.marks.items cs fs kept.cursors
-    climbs = at_level h upper shape levels later s cs swept are leaves next bundles ch below_is kept.marks.items taken fs
-        flats few kept.cursors on_front
+module _ (h : Height) (upper : Level) (s : Sweep) (w : CanClimb h.edges.now h.at.now upper s) (cs : List Change)
+    (fs : List Flat) (kept : Open)
+    (c : IsClimb h.edges.now h.at.now upper s w h.front.now h.below.now cs fs kept) where
+  on_front : StandOn h.edges.now w.shape (bundles_in h.front.now) kept.cursors
+  on_front = record {
+    some = let count = c.above.count in let some = c.on_low.some in omega (arith, count, some);
+    each = λ k d o.
+        let olds = c.cursors.all.items in
+        let there : k < length olds = let count = c.above.count in omega (arith, o, count) in
+        let moved = c.above.each k d d there in
+        shifted h upper w.shape w.levels w.later s cs w.swept w.are_levels c.leaves c.next c.bundles c.changes
+        c.below_is kept.marks.items c.taken fs c.flats (get_or olds k d) (get_or kept.cursors.all.items k d)
+        (c.on_low.each k d there) moved.tally moved.place (c.aside k d there);
+  }
 
-    pub climbed : ((w : IsAtLevel h kept.marks.items cs fs kept.cursors) (on : Onwards) → IsOf h on
-        → IsValuedAt on w.groups → HasComeTo on [] 0 0 kept → (spots : List Spot) × AreSpotsOf h fs spots
-        × HasComeTo on spots (length h.below.now) (length kept.marks.items) new) → (t : Sweep) → t.front ≡ h.front.now
-        → t.kept ≡ new → t.flats.items ≡ s.flats.items → t.passed ≤ length s.flats.items → ArePassedBelow upper t
-        → IsReadyFor h.edges.now upper t.front → IsBegunTo h.edges.now upper t.front
-        → HasSwept h.edges.now shape levels (upper ∷ later) t
-    unfolding climbs at_level
-    climbed pass t ef ek el o passed ready begun =
-        let on : Onwards = on_level h upper shape levels later s swept in
-        let start : HasComeTo on [] 0 0 kept = starts h upper shape levels later s cs swept are leaves next bundles ch
-        below_is kept.marks.items taken fs flats kept refl given_is on_front in
-        let valued : IsValuedAt on ch.groups = valued_level h upper shape levels later s cs swept are leaves next
-        bundles ch
-        below_is kept.marks.items taken fs flats in
-        let below : AreKept false h.below.now swept.front = kept_below h upper shape levels later s cs swept are leaves
-        next
-        bundles ch below_is kept.marks.items taken fs flats in
-        let r = pass climbs on (refl, below) valued start in
-        let size : length kept.marks.items ≡ length (bundles_in h.front.now) = named_size kept.marks.items
-        (bundles_in h.front.now) start.named in
-        lifted h upper shape levels later s swept are leaves next bundles fs new
-        (over_by on fs new (length h.below.now) (length kept.marks.items) below refl size flats r.0 r.1 r.2) t ef ek el o
-        passed ready begun
+  pub climbs : IsAtLevel h kept.marks.items cs fs kept.cursors
+  climbs = at_level h upper w.shape w.levels w.later s cs w.swept w.are_levels c.leaves c.next c.bundles c.changes
+      c.below_is kept.marks.items c.taken fs c.flats c.few kept.cursors on_front
+
+  pub climbed : (new : Open) → ((a : IsAtLevel h kept.marks.items cs fs kept.cursors) (on : Onwards) → IsOf h on
+      → IsValuedAt on a.groups → HasComeTo on [] 0 0 kept → (spots : List Spot) × AreSpotsOf h fs spots
+      × HasComeTo on spots (length h.below.now) (length kept.marks.items) new) → (t : Sweep) → t.front ≡ h.front.now
+      → t.kept ≡ new → t.flats.items ≡ s.flats.items → t.passed ≤ length s.flats.items → ArePassedBelow upper t
+      → IsReadyFor h.edges.now upper t.front → IsBegunTo h.edges.now upper t.front
+      → HasSwept h.edges.now w.shape w.levels (upper ∷ w.later) t
+  unfolding climbs at_level
+  climbed new pass t ef ek el o passed ready begun =
+      let on : Onwards = on_level h upper w.shape w.levels w.later s w.swept in
+      let start : HasComeTo on [] 0 0 kept = starts h upper w.shape w.levels w.later s cs w.swept w.are_levels c.leaves
+      c.next c.bundles c.changes c.below_is kept.marks.items c.taken fs c.flats kept refl c.given on_front in
+      let valued : IsValuedAt on c.changes.groups = valued_level h upper w.shape w.levels w.later s cs w.swept
+      w.are_levels c.leaves c.next c.bundles c.changes c.below_is kept.marks.items c.taken fs c.flats in
+      let below : AreKept false h.below.now w.swept.front = kept_below h upper w.shape w.levels w.later s cs w.swept
+      w.are_levels c.leaves c.next c.bundles c.changes c.below_is kept.marks.items c.taken fs c.flats in
+      let r = pass climbs on (refl, below) valued start in
+      let size : length kept.marks.items ≡ length (bundles_in h.front.now) = named_size kept.marks.items
+      (bundles_in h.front.now) start.named in
+      lifted h upper w.shape w.levels w.later s w.swept w.are_levels c.leaves c.next c.bundles fs new
+      (over_by on fs new (length h.below.now) (length kept.marks.items) below refl size c.flats r.0 r.1 r.2) t ef ek el
+      o passed ready begun
