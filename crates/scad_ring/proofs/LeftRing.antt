@@ -1,279 +1,57 @@
 -- The ring by an octagon round an edge that runs more to the left than upwards.
-use Rattle.std.proofs.Common.{◌≡◌, inl, inr, [], ◌∷◌, refl, arith, ℤ, pos, neg_ℤ, ◌+ℤ◌, ◌-ℤ◌, ◌*ℤ◌, ◌<ℤ◌}
-use lib.Signed.{◌≤ℤ◌}
-use Rattle.std.specs.Prelude.{All}
+use Rattle.std.proofs.Common.{◌≡◌, inl, inr, refl, arith, ℤ, pos, ◌+ℤ◌, ◌-ℤ◌, ◌<ℤ◌}
 use Rattle.std.proofs.lemmas.Int.{ints}
-use Rattle.std.proofs.lemmas.List.Elements.{All-from_recursion, recursion_from_All}
 use Rattle.scad_geom.specs.declared.point.Pt.{Pt}
-use Rattle.scad_geom.specs.Point.{Point}
-use Rattle.scad_geom.specs.Segment.{segments}
-use Rattle.scad_geom.specs.Loop.{sides}
-use Rattle.scad_ring.specs.Ring.{IsLeftOf, IsBefore}
 use Rattle.scad_ring.specs.declared.direction.Direction.TheVariants.{Left}
-use Rattle.scad_ring.specs.Corners.{eight_sided, low_left, low_right, right_low, right_high}
-use Rattle.scad_ring.specs.Corners.{high_right, high_left, left_high, left_low}
-use Rattle.scad_ring.proofs.Octants.{approach}
-use Rattle.scad_ring.proofs.Approaches.{ApproachFrom, meets_if_approach, approach_if_meets}
-use Rattle.scad_ring.proofs.Steps.{Step, Side, Beside, step, along, turns, side_gap, first_side, last_side}
+use Rattle.scad_ring.specs.Corners.{eight_sided, low_left, high_right}
+use Rattle.scad_ring.proofs.Steps.{Beside, along}
+use Rattle.scad_ring.proofs.Slants.{IsOctagon, left_by, left_passes}
+use Rattle.scad_ring.proofs.Offsets.{IsRingRound}
+use Rattle.scad_ring.proofs.Sides.{PassesIfNear, approach_by, at_first, at_last, forth, back}
+use Rattle.scad_ring.proofs.Sides.{◌⟨◌⟩◌, ◌&◌, again, ring_of}
 use Rattle.scad_ring.proofs.OwnSides.{low_side, low_right_side, right_side, high_right_side, high_side}
 use Rattle.scad_ring.proofs.OwnSides.{high_left_side, left_side, low_left_side, eighth}
-use Rattle.scad_ring.proofs.Slants.{under, over, line, left_by, left_passes}
-use Rattle.scad_ring.proofs.Offsets.{IsNearWay, IsRingRound, near_first, near_last}
-use Rattle.scad_ring.proofs.Offsets.{low_left_in, low_right_in, right_low_in, right_high_in}
-use Rattle.scad_ring.proofs.Offsets.{high_right_in, high_left_in, left_high_in, left_low_in}
 
 module _ (c t u : ℤ) (sum : u ≡ c +ℤ t) (some : pos 0 <ℤ t) (less : t <ℤ c) (p r : Pt) (y : p.y <ℤ r.y)
     (x : (r.y -ℤ p.y) <ℤ (p.x -ℤ r.x)) where
-  weak : pos 0 ≤ℤ t
-  weak = omega (arith, ints)
+  o : IsOctagon c t u
+  o = record { sum = sum; least = omega (arith, ints); less = less }
 
-  s0 : Side (pos 0) (pos 1) c p (low_left c t p) (low_right c t p)
-  s0 = low_side c t u sum some less p
+  forwards : Beside t c p r (high_right c t p) (high_right c t r)
+  forwards = along (omega (arith, ints)) (omega (arith, ints)) (omega (arith, ints)) (omega (arith, ints))
 
-  s1 : Side (neg_ℤ (pos 1)) (pos 1) u p (low_right c t p) (right_low c t p)
-  s1 = low_right_side c t u sum some less p
+  backwards : Beside (pos 0 -ℤ t) (pos 0 -ℤ c) r p (low_left c t r) (low_left c t p)
+  backwards = along (omega (arith, ints)) (omega (arith, ints)) (omega (arith, ints)) (omega (arith, ints))
 
-  s2 : Side (neg_ℤ (pos 1)) (pos 0) c p (right_low c t p) (right_high c t p)
-  s2 = right_side c t u sum some less p
-
-  s3 : Side (neg_ℤ (pos 1)) (neg_ℤ (pos 1)) u p (right_high c t p) (high_right c t p)
-  s3 = high_right_side c t u sum some less p
-
-  s4 : Beside t c p r (high_right c t p) (high_right c t r)
-  s4 = along (omega (arith, ints)) (omega (arith, ints)) (omega (arith, ints)) (omega (arith, ints))
-
-  t4 : Step (r.x -ℤ p.x) (r.y -ℤ p.y) (high_right c t p) (high_right c t r)
-  t4 = step (pos 1) (omega (arith, ints)) (omega (arith, ints)) (omega (arith, ints))
-
-  s5 : Side (pos 0) (neg_ℤ (pos 1)) c r (high_right c t r) (high_left c t r)
-  s5 = high_side c t u sum some less r
-
-  s6 : Side (pos 1) (neg_ℤ (pos 1)) u r (high_left c t r) (left_high c t r)
-  s6 = high_left_side c t u sum some less r
-
-  s7 : Side (pos 1) (pos 0) c r (left_high c t r) (left_low c t r)
-  s7 = left_side c t u sum some less r
-
-  s8 : Side (pos 1) (pos 1) u r (left_low c t r) (low_left c t r)
-  s8 = low_left_side c t u sum some less r
-
-  s9 : Beside (pos 0 -ℤ t) (pos 0 -ℤ c) r p (low_left c t r) (low_left c t p)
-  s9 = along (omega (arith, ints)) (omega (arith, ints)) (omega (arith, ints)) (omega (arith, ints))
-
-  t9 : Step (p.x -ℤ r.x) (p.y -ℤ r.y) (low_left c t r) (low_left c t p)
-  t9 = step (pos 1) (omega (arith, ints)) (omega (arith, ints)) (omega (arith, ints))
-
-  -- the edge runs inwards from a side, or outwards to it
-  i0 : pos 0 ≤ℤ (pos 0 *ℤ (r.x -ℤ p.x) +ℤ pos 1 *ℤ (r.y -ℤ p.y))
-  i0 = omega (arith, ints)
-
-  i1 : pos 0 ≤ℤ (neg_ℤ (pos 1) *ℤ (r.x -ℤ p.x) +ℤ pos 1 *ℤ (r.y -ℤ p.y))
-  i1 = omega (arith, ints)
-
-  i2 : pos 0 ≤ℤ (neg_ℤ (pos 1) *ℤ (r.x -ℤ p.x) +ℤ pos 0 *ℤ (r.y -ℤ p.y))
-  i2 = omega (arith, ints)
-
-  i3 : pos 0 ≤ℤ (neg_ℤ (pos 1) *ℤ (r.x -ℤ p.x) +ℤ neg_ℤ (pos 1) *ℤ (r.y -ℤ p.y))
-  i3 = omega (arith, ints)
-
-  i5 : pos 0 ≤ℤ (pos 0 *ℤ (p.x -ℤ r.x) +ℤ neg_ℤ (pos 1) *ℤ (p.y -ℤ r.y))
-  i5 = omega (arith, ints)
-
-  i6 : pos 0 ≤ℤ (pos 1 *ℤ (p.x -ℤ r.x) +ℤ neg_ℤ (pos 1) *ℤ (p.y -ℤ r.y))
-  i6 = omega (arith, ints)
-
-  i7 : pos 0 ≤ℤ (pos 1 *ℤ (p.x -ℤ r.x) +ℤ pos 0 *ℤ (p.y -ℤ r.y))
-  i7 = omega (arith, ints)
-
-  i8 : pos 0 ≤ℤ (pos 1 *ℤ (p.x -ℤ r.x) +ℤ pos 1 *ℤ (p.y -ℤ r.y))
-  i8 = omega (arith, ints)
-
-  sides_if : (q : Point) → pos 0 <ℤ q.d → ApproachFrom c u q p r
-      → All (IsLeftOf q) (segments (sides (eight_sided c t p r Left)))
-  sides_if q d a =
-      let l = left_passes p r q d c t u sum weak less (omega (arith, ints)) (omega (arith, ints)) a in
-      All-from_recursion (IsLeftOf q) (segments (sides (eight_sided c t p r Left))) (
-        first_side (c *ℤ q.d) (u *ℤ q.d) q d p r a (pos 0) (pos 1) c (low_left c t p) (low_right c t p) s0
-            i0 a.over,
-        (
-          first_side (c *ℤ q.d) (u *ℤ q.d) q d p r a (neg_ℤ (pos 1)) (pos 1) u (low_right c t p) (right_low c t p)
-              s1
-              i1 a.over_left,
-          (
-            first_side (c *ℤ q.d) (u *ℤ q.d) q d p r a (neg_ℤ (pos 1)) (pos 0) c (right_low c t p)
-                (right_high c t p)
-                s2 i2 a.left,
-            (
-              first_side (c *ℤ q.d) (u *ℤ q.d) q d p r a (neg_ℤ (pos 1)) (neg_ℤ (pos 1)) u (right_high c t p)
-                  (high_right c t p) s3 i3 a.below_left,
-              (
-                under p r q d t c (high_right c t p) (high_right c t r) s4 l,
-                (
-                  last_side (c *ℤ q.d) (u *ℤ q.d) q d p r a (pos 0) (neg_ℤ (pos 1)) c (high_right c t r)
-                      (high_left c t r) s5 i5 a.below,
-                  (
-                    last_side (c *ℤ q.d) (u *ℤ q.d) q d p r a (pos 1) (neg_ℤ (pos 1)) u (high_left c t r)
-                        (left_high c t r) s6 i6 a.below_right,
-                    (
-                      last_side (c *ℤ q.d) (u *ℤ q.d) q d p r a (pos 1) (pos 0) c (left_high c t r) (left_low c t r)
-                          s7 i7 a.right,
-                      (
-                        last_side (c *ℤ q.d) (u *ℤ q.d) q d p r a (pos 1) (pos 1) u (left_low c t r)
-                            (low_left c t r)
-                            s8 i8 a.over_right,
-                        (
-                          over p r q d t c (low_left c t r) (low_left c t p) s9 l,
-                          tt,
-                        ),
-                      ),
-                    ),
-                  ),
-                ),
-              ),
-            ),
-          ),
-        ),
-      )
-
-  approach_if : (q : Point) → pos 0 <ℤ q.d → All (IsLeftOf q) (segments (sides (eight_sided c t p r Left)))
-      → ApproachFrom c u q p r
-  approach_if q d h =
-      let s = recursion_from_All (IsLeftOf q) (segments (sides (eight_sided c t p r Left))) h in
-      let g0 = side_gap (pos 0) (pos 1) c q p (low_left c t p) (low_right c t p) s0 s.0 in
-      let g1 = side_gap (neg_ℤ (pos 1)) (pos 1) u q p (low_right c t p) (right_low c t p) s1 s.1.0 in
-      let g2 = side_gap (neg_ℤ (pos 1)) (pos 0) c q p (right_low c t p) (right_high c t p) s2 s.1.1.0 in
-      let g3 = side_gap (neg_ℤ (pos 1)) (neg_ℤ (pos 1)) u q p (right_high c t p) (high_right c t p) s3 s.1.1.1.0 in
-      let g5 = side_gap (pos 0) (neg_ℤ (pos 1)) c q r (high_right c t r) (high_left c t r) s5 s.1.1.1.1.1.0 in
-      let g6 = side_gap (pos 1) (neg_ℤ (pos 1)) u q r (high_left c t r) (left_high c t r) s6 s.1.1.1.1.1.1.0 in
-      let g7 = side_gap (pos 1) (pos 0) c q r (left_high c t r) (left_low c t r) s7 s.1.1.1.1.1.1.1.0 in
-      let g8 = side_gap (pos 1) (pos 1) u q r (left_low c t r) (low_left c t r) s8 s.1.1.1.1.1.1.1.1.0 in
-      let l = line p r q d t c (high_right c t p) (high_right c t r) (low_left c t r) (low_left c t p) s4 s9
-      s.1.1.1.1.0 s.1.1.1.1.1.1.1.1.1.0 in
-      approach (c *ℤ q.d) (u *ℤ q.d) (p.x *ℤ q.d -ℤ q.x) (p.y *ℤ q.d -ℤ q.y) (r.x *ℤ q.d -ℤ q.x)
-      (r.y *ℤ q.d -ℤ q.y) (t *ℤ q.d) (c *ℤ q.d) (left_by p r q d c t u sum weak less (omega (
-        arith,
-        ints,
-      )) (omega (arith, ints)) l) (record {
-        over = inl g0;
-        over_left = inl g1;
-        left = inl g2;
-        below_left = inl g3;
-        below = inr g5;
-        below_right = inr g6;
-        right = inr g7;
-        over_right = inr g8;
-      })
+  passes : PassesIfNear c u p r t c
+  passes q d a = left_passes p r q d o (omega (arith, ints)) (omega (arith, ints)) a
 
   pub left_round : IsRingRound c u p r (eight_sided c t p r Left)
-  left_round = record {
-    holds = λ q d. (
-      (λ m. sides_if q d (approach_if_meets q p r c u m)),
-      (λ h. meets_if_approach q p r c u (approach_if q d h)),
-    );
-    near = All-from_recursion (IsNearWay c u p r) (eight_sided c t p r Left) (
-      near_first c u p r (low_left c t p) (low_left_in c t u sum weak less p),
-      (
-        near_first c u p r (low_right c t p) (low_right_in c t u sum weak less p),
-        (
-          near_first c u p r (right_low c t p) (right_low_in c t u sum weak less p),
-          (
-            near_first c u p r (right_high c t p) (right_high_in c t u sum weak less p),
-            (
-              near_first c u p r (high_right c t p) (high_right_in c t u sum weak less p),
-              (
-                near_last c u p r (high_right c t r) (high_right_in c t u sum weak less r),
-                (
-                  near_last c u p r (high_left c t r) (high_left_in c t u sum weak less r),
-                  (
-                    near_last c u p r (left_high c t r) (left_high_in c t u sum weak less r),
-                    (
-                      near_last c u p r (left_low c t r) (left_low_in c t u sum weak less r),
-                      (
-                        near_last c u p r (low_left c t r) (low_left_in c t u sum weak less r),
-                        tt,
-                      ),
-                    ),
-                  ),
-                ),
-              ),
-            ),
-          ),
-        ),
-      ),
-    );
-    turns = (
-      turns (pos 1) (pos 0 -ℤ pos 0) (pos 1) (pos 0 -ℤ neg_ℤ (pos 1)) (low_left c t p) (low_right c t p)
-          (right_low c t p) s0.step s1.step eighth,
-      (
-        turns (pos 1) (pos 0 -ℤ neg_ℤ (pos 1)) (pos 0) (pos 0 -ℤ neg_ℤ (pos 1)) (low_right c t p)
-            (right_low c t p)
-            (right_high c t p) s1.step s2.step eighth,
-        (
-          turns (pos 0) (pos 0 -ℤ neg_ℤ (pos 1)) (neg_ℤ (pos 1)) (pos 0 -ℤ neg_ℤ (pos 1)) (right_low c t p)
-              (right_high c t p) (high_right c t p) s2.step s3.step eighth,
-          (
-            turns (neg_ℤ (pos 1)) (pos 0 -ℤ neg_ℤ (pos 1)) (r.x -ℤ p.x) (r.y -ℤ p.y) (right_high c t p)
-                (high_right c t p) (high_right c t r) s3.step t4 (omega (arith, ints)),
-            (
-              turns (r.x -ℤ p.x) (r.y -ℤ p.y) (neg_ℤ (pos 1)) (pos 0 -ℤ pos 0) (high_right c t p)
-                  (high_right c t r)
-                  (high_left c t r) t4 s5.step (omega (arith, ints)),
-              (
-                turns (neg_ℤ (pos 1)) (pos 0 -ℤ pos 0) (neg_ℤ (pos 1)) (pos 0 -ℤ pos 1) (high_right c t r)
-                    (high_left c t r) (left_high c t r) s5.step s6.step eighth,
-                (
-                  turns (neg_ℤ (pos 1)) (pos 0 -ℤ pos 1) (pos 0) (pos 0 -ℤ pos 1) (high_left c t r)
-                      (left_high c t r)
-                      (left_low c t r) s6.step s7.step eighth,
-                  (
-                    turns (pos 0) (pos 0 -ℤ pos 1) (pos 1) (pos 0 -ℤ pos 1) (left_high c t r) (left_low c t r)
-                        (low_left c t r) s7.step s8.step eighth,
-                    (
-                      turns (pos 1) (pos 0 -ℤ pos 1) (p.x -ℤ r.x) (p.y -ℤ r.y) (left_low c t r) (low_left c t r)
-                          (low_left c t p) s8.step t9 (omega (arith, ints)),
-                      (
-                        turns (p.x -ℤ r.x) (p.y -ℤ r.y) (pos 1) (pos 0 -ℤ pos 0) (low_left c t r) (low_left c t p)
-                            (low_right c t p) t9 s0.step (omega (arith, ints)),
-                        tt,
-                      ),
-                    ),
-                  ),
-                ),
-              ),
-            ),
-          ),
-        ),
-      ),
-    );
-    starts = All-from_recursion (IsBefore (low_left c t p))
-        ((low_right c t p) ∷ (right_low c t p) ∷ (right_high c t p) ∷ (high_right c t p) ∷ (high_right c t r)
-        ∷
-        (high_left c t r) ∷ (left_high c t r) ∷ (left_low c t r) ∷ (low_left c t r) ∷ []) (
-          inr (refl, omega (arith, ints)),
-          (
-            inl (omega (arith, ints)),
-            (
-              inl (omega (arith, ints)),
-              (
-                inl (omega (arith, ints)),
-                (
-                  inl (omega (arith, ints)),
-                  (
-                    inl (omega (arith, ints)),
-                    (
-                      inl (omega (arith, ints)),
-                      (
-                        inl (omega (arith, ints)),
-                        (
-                          inl (omega (arith, ints)),
-                          tt,
-                        ),
-                      ),
-                    ),
-                  ),
-                ),
-              ),
-            ),
-          ),
-        );
-  }
+  left_round = ring_of
+      (inr (refl, omega (arith, ints)) & inl (omega (arith, ints)) & inl (omega (arith, ints))
+      & inl (omega (arith, ints)) & inl (omega (arith, ints)) & inl (omega (arith, ints)) & inl (omega (arith, ints))
+      & inl (omega (arith, ints)) & inl (omega (arith, ints)) & tt)
+      (at_first (low_side o some p) (omega (arith, ints)) ⟨ eighth ⟩
+      at_first (low_right_side o some p) (omega (arith, ints)) ⟨ eighth ⟩
+      at_first (right_side o some p) (omega (arith, ints)) ⟨ eighth ⟩
+      at_first (high_right_side o some p) (omega (arith, ints)) ⟨ omega (arith, ints) ⟩
+      forth t c forwards (high_side o some p).offset passes ⟨ omega (arith, ints) ⟩
+      at_last (high_side o some r) (omega (arith, ints)) ⟨ eighth ⟩
+      at_last (high_left_side o some r) (omega (arith, ints)) ⟨ eighth ⟩
+      at_last (left_side o some r) (omega (arith, ints)) ⟨ eighth ⟩
+      at_last (low_left_side o some r) (omega (arith, ints)) ⟨ omega (arith, ints) ⟩
+      back t c backwards (low_side o some r).offset passes ⟨ omega (arith, ints) ⟩
+      again (at_first (low_side o some p) (omega (arith, ints))))
+      (λ q d s. approach_by
+      (left_by p r q d o (omega (arith, ints)) (omega (arith, ints))
+      (record { least = s.1.1.1.1.0; most = s.1.1.1.1.1.1.1.1.1.0 }))
+      (record {
+        over = s.0;
+        over_left = s.1.0;
+        left = s.1.1.0;
+        below_left = s.1.1.1.0;
+        below = s.1.1.1.1.1.0;
+        below_right = s.1.1.1.1.1.1.0;
+        right = s.1.1.1.1.1.1.1.0;
+        over_right = s.1.1.1.1.1.1.1.1.0;
+      }))

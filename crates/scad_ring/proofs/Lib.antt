@@ -6,9 +6,10 @@ pub mod Approaches
 pub mod Meetings
 pub mod EdgeTests
 pub mod Steps
-pub mod OwnSides
 pub mod Slants
 pub mod Offsets
+pub mod Sides
+pub mod OwnSides
 pub mod StillRing
 pub mod FlatRing
 pub mod RightRing

@@ -424,10 +424,10 @@ module _ (S T U : ℤ) (sum : U ≡ S +ℤ T) (positive : pos 0 <ℤ S) (slim : 
       }
 
 -- where the half sum is the half width, four half planes make the octagon
-pub approach_four : (S ax ay bx by vx vy : ℤ) → Corner S S vx vy ax ay bx by → End (pos 1) (pos 1) S ax ay bx by
+pub approach_four : {S ax ay bx by vx vy : ℤ} → Corner S S vx vy ax ay bx by → End (pos 1) (pos 1) S ax ay bx by
     → End (pos 1) (neg_ℤ (pos 1)) S ax ay bx by → End (neg_ℤ (pos 1)) (pos 1) S ax ay bx by
     → End (neg_ℤ (pos 1)) (neg_ℤ (pos 1)) S ax ay bx by → Approach S S ax ay bx by
-approach_four S ax ay bx by vx vy k h i j l =
+approach_four {S} {ax} {ay} {bx} {by} {vx} {vy} k h i j l =
     let f = found ax ay bx by vx vy k.broad in
     let g = f.holds (pos 1) (pos 1) S (test_of S S ax ay bx by (pos 1) (pos 1) S vx vy h k.line
     (sized S (vx +ℤ vy) _ (over_right_is vx vy) k.sum)) in
@@ -458,10 +458,10 @@ approach_four S ax ay bx by vx vy k h i j l =
     }
 
 -- of a point they are the tests of its place
-pub approach_four_point : (S ax ay bx by : ℤ) → ax ≡ bx → ay ≡ by → End (pos 1) (pos 1) S ax ay bx by
+pub approach_four_point : {S ax ay bx by : ℤ} → ax ≡ bx → ay ≡ by → End (pos 1) (pos 1) S ax ay bx by
     → End (pos 1) (neg_ℤ (pos 1)) S ax ay bx by → End (neg_ℤ (pos 1)) (pos 1) S ax ay bx by
     → End (neg_ℤ (pos 1)) (neg_ℤ (pos 1)) S ax ay bx by → Approach S S ax ay bx by
-approach_four_point S ax ay bx by ex ey h i j l =
+approach_four_point {S} {ax} {ay} {bx} {by} ex ey h i j l =
     let g = at_point (pos 1) (pos 1) h in
     let m = at_point (pos 1) (neg_ℤ (pos 1)) i in
     let n = at_point (neg_ℤ (pos 1)) (pos 1) j in

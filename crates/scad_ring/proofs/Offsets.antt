@@ -11,10 +11,12 @@ use Rattle.scad_geom.proofs.Rising.{order}
 use Rattle.scad_ring.specs.Octagon.{octagon}
 use Rattle.scad_ring.specs.Nearness.{Closed, Meets}
 use Rattle.scad_ring.specs.Ring.{IsLeftOf, AllTurnLeft, IsBefore, StartsLowest, round}
-use Rattle.scad_ring.specs.Corners.{low_left, low_right, right_low, right_high, high_right, high_left, left_high, left_low, low, right, high, left}
-use Rattle.scad_ring.proofs.Convex.{one_first, one_last}
+use Rattle.scad_ring.specs.Corners.{low}
+use Rattle.scad_ring.proofs.Convex.{one_first}
 use Rattle.scad_ring.proofs.Octants.{IsSize}
 use Rattle.scad_ring.proofs.Approaches.{meets_if_approach}
+use Rattle.scad_ring.proofs.EdgeTests.{meets_back}
+use Rattle.scad_ring.proofs.Slants.{IsOctagon}
 
 -- a point lies near to the way from p to r
 abbrev pub IsNearWay : ℤ → ℤ → Pt → Pt → Pt → Type 0
@@ -73,136 +75,42 @@ near_first c u p r k o =
 
 pub near_last : (c u : ℤ) (p r k : Pt) → IsOffset c u (k.x -ℤ r.x) (k.y -ℤ r.y) → IsNearWay c u p r k
 near_last c u p r k o =
-    let al = o.across.least in
-    let am = o.across.most in
-    let bl = o.upwards.least in
-    let bm = o.upwards.most in
-    let sl = o.sum.least in
-    let sm = o.sum.most in
-    let fl = o.difference.least in
-    let fm = o.difference.most in
-    meets_if_approach (whole k) p r c u (record {
-      s = pos 0;
-      t = pos 1;
-      from = omega (arith, ints);
-      to = omega (arith, ints);
-      some = omega (arith, ints);
-      right = one_last (pos 1) (pos 0) (c *ℤ pos 1) (p.x *ℤ pos 1 -ℤ k.x) (p.y *ℤ pos 1 -ℤ k.y)
-          (r.x *ℤ pos 1 -ℤ k.x) (r.y *ℤ pos 1 -ℤ k.y) (omega (arith, ints, al));
-      left = one_last (neg_ℤ (pos 1)) (pos 0) (c *ℤ pos 1) (p.x *ℤ pos 1 -ℤ k.x) (p.y *ℤ pos 1 -ℤ k.y)
-          (r.x *ℤ pos 1 -ℤ k.x) (r.y *ℤ pos 1 -ℤ k.y) (omega (arith, ints, am));
-      over = one_last (pos 0) (pos 1) (c *ℤ pos 1) (p.x *ℤ pos 1 -ℤ k.x) (p.y *ℤ pos 1 -ℤ k.y)
-          (r.x *ℤ pos 1 -ℤ k.x) (r.y *ℤ pos 1 -ℤ k.y) (omega (arith, ints, bl));
-      below = one_last (pos 0) (neg_ℤ (pos 1)) (c *ℤ pos 1) (p.x *ℤ pos 1 -ℤ k.x) (p.y *ℤ pos 1 -ℤ k.y)
-          (r.x *ℤ pos 1 -ℤ k.x) (r.y *ℤ pos 1 -ℤ k.y) (omega (arith, ints, bm));
-      over_right = one_last (pos 1) (pos 1) (u *ℤ pos 1) (p.x *ℤ pos 1 -ℤ k.x) (p.y *ℤ pos 1 -ℤ k.y)
-          (r.x *ℤ pos 1 -ℤ k.x) (r.y *ℤ pos 1 -ℤ k.y) (omega (arith, ints, sl));
-      below_right = one_last (pos 1) (neg_ℤ (pos 1)) (u *ℤ pos 1) (p.x *ℤ pos 1 -ℤ k.x)
-          (p.y *ℤ pos 1 -ℤ k.y)
-          (r.x *ℤ pos 1 -ℤ k.x) (r.y *ℤ pos 1 -ℤ k.y) (omega (arith, ints, fl));
-      over_left = one_last (neg_ℤ (pos 1)) (pos 1) (u *ℤ pos 1) (p.x *ℤ pos 1 -ℤ k.x) (p.y *ℤ pos 1 -ℤ k.y)
-          (r.x *ℤ pos 1 -ℤ k.x) (r.y *ℤ pos 1 -ℤ k.y) (omega (arith, ints, fm));
-      below_left = one_last (neg_ℤ (pos 1)) (neg_ℤ (pos 1)) (u *ℤ pos 1) (p.x *ℤ pos 1 -ℤ k.x)
-          (p.y *ℤ pos 1 -ℤ k.y)
-          (r.x *ℤ pos 1 -ℤ k.x) (r.y *ℤ pos 1 -ℤ k.y) (omega (arith, ints, sm));
-    })
+    meets_back Closed (octagon c u) (whole k) (whole r) (whole p) (near_first c u r p k o)
 
-module _ (c t u : ℤ) (sum : u ≡ c +ℤ t) (some : pos 0 ≤ℤ t) (less : t <ℤ c) (p : Pt) where
-  pub low_left_in : IsOffset c u ((low_left c t p).x -ℤ p.x) ((low_left c t p).y -ℤ p.y)
-  low_left_in = record {
-    across = record { least = omega (arith, ints); most = omega (arith, ints) };
-    upwards = record { least = omega (arith, ints); most = omega (arith, ints) };
-    sum = record { least = omega (arith, ints); most = omega (arith, ints) };
-    difference = record { least = omega (arith, ints); most = omega (arith, ints) };
-  }
+-- w and its opposite are at most w in size
+pub size_least : {w z : ℤ} → pos 0 ≤ℤ w → z ≡ pos 0 -ℤ w → IsSize w z
+size_least h e = record { least = omega (arith, ints); most = omega (arith, ints) }
 
-  pub low_right_in : IsOffset c u ((low_right c t p).x -ℤ p.x) ((low_right c t p).y -ℤ p.y)
-  low_right_in = record {
-    across = record { least = omega (arith, ints); most = omega (arith, ints) };
-    upwards = record { least = omega (arith, ints); most = omega (arith, ints) };
-    sum = record { least = omega (arith, ints); most = omega (arith, ints) };
-    difference = record { least = omega (arith, ints); most = omega (arith, ints) };
-  }
+pub size_most : {w z : ℤ} → pos 0 ≤ℤ w → z ≡ w → IsSize w z
+size_most h e = record { least = omega (arith, ints); most = omega (arith, ints) }
 
-  pub right_low_in : IsOffset c u ((right_low c t p).x -ℤ p.x) ((right_low c t p).y -ℤ p.y)
-  right_low_in = record {
-    across = record { least = omega (arith, ints); most = omega (arith, ints) };
-    upwards = record { least = omega (arith, ints); most = omega (arith, ints) };
-    sum = record { least = omega (arith, ints); most = omega (arith, ints) };
-    difference = record { least = omega (arith, ints); most = omega (arith, ints) };
-  }
+-- what is at most c along one axis and at most t along the other lies in the octagon
+module _ {c t u : ℤ} (o : IsOctagon c t u) {x y : ℤ} where
+  pub wide : IsSize c x → IsSize t y → IsOffset c u x y
+  wide h i =
+      let j = h.least in
+      let k = h.most in
+      let l = i.least in
+      let m = i.most in
+      record {
+        across = h;
+        upwards = record { least = omega (arith, ints, l, o.less); most = omega (arith, ints, m, o.less) };
+        sum = record { least = omega (arith, ints, j, l, o.sum); most = omega (arith, ints, k, m, o.sum) };
+        difference = record { least = omega (arith, ints, j, m, o.sum); most = omega (arith, ints, k, l, o.sum) };
+      }
 
-  pub right_high_in : IsOffset c u ((right_high c t p).x -ℤ p.x) ((right_high c t p).y -ℤ p.y)
-  right_high_in = record {
-    across = record { least = omega (arith, ints); most = omega (arith, ints) };
-    upwards = record { least = omega (arith, ints); most = omega (arith, ints) };
-    sum = record { least = omega (arith, ints); most = omega (arith, ints) };
-    difference = record { least = omega (arith, ints); most = omega (arith, ints) };
-  }
-
-  pub high_right_in : IsOffset c u ((high_right c t p).x -ℤ p.x) ((high_right c t p).y -ℤ p.y)
-  high_right_in = record {
-    across = record { least = omega (arith, ints); most = omega (arith, ints) };
-    upwards = record { least = omega (arith, ints); most = omega (arith, ints) };
-    sum = record { least = omega (arith, ints); most = omega (arith, ints) };
-    difference = record { least = omega (arith, ints); most = omega (arith, ints) };
-  }
-
-  pub high_left_in : IsOffset c u ((high_left c t p).x -ℤ p.x) ((high_left c t p).y -ℤ p.y)
-  high_left_in = record {
-    across = record { least = omega (arith, ints); most = omega (arith, ints) };
-    upwards = record { least = omega (arith, ints); most = omega (arith, ints) };
-    sum = record { least = omega (arith, ints); most = omega (arith, ints) };
-    difference = record { least = omega (arith, ints); most = omega (arith, ints) };
-  }
-
-  pub left_high_in : IsOffset c u ((left_high c t p).x -ℤ p.x) ((left_high c t p).y -ℤ p.y)
-  left_high_in = record {
-    across = record { least = omega (arith, ints); most = omega (arith, ints) };
-    upwards = record { least = omega (arith, ints); most = omega (arith, ints) };
-    sum = record { least = omega (arith, ints); most = omega (arith, ints) };
-    difference = record { least = omega (arith, ints); most = omega (arith, ints) };
-  }
-
-  pub left_low_in : IsOffset c u ((left_low c t p).x -ℤ p.x) ((left_low c t p).y -ℤ p.y)
-  left_low_in = record {
-    across = record { least = omega (arith, ints); most = omega (arith, ints) };
-    upwards = record { least = omega (arith, ints); most = omega (arith, ints) };
-    sum = record { least = omega (arith, ints); most = omega (arith, ints) };
-    difference = record { least = omega (arith, ints); most = omega (arith, ints) };
-  }
-
-  pub low_in : IsOffset c u ((low c p).x -ℤ p.x) ((low c p).y -ℤ p.y)
-  low_in = record {
-    across = record { least = omega (arith, ints); most = omega (arith, ints) };
-    upwards = record { least = omega (arith, ints); most = omega (arith, ints) };
-    sum = record { least = omega (arith, ints); most = omega (arith, ints) };
-    difference = record { least = omega (arith, ints); most = omega (arith, ints) };
-  }
-
-  pub right_in : IsOffset c u ((right c p).x -ℤ p.x) ((right c p).y -ℤ p.y)
-  right_in = record {
-    across = record { least = omega (arith, ints); most = omega (arith, ints) };
-    upwards = record { least = omega (arith, ints); most = omega (arith, ints) };
-    sum = record { least = omega (arith, ints); most = omega (arith, ints) };
-    difference = record { least = omega (arith, ints); most = omega (arith, ints) };
-  }
-
-  pub high_in : IsOffset c u ((high c p).x -ℤ p.x) ((high c p).y -ℤ p.y)
-  high_in = record {
-    across = record { least = omega (arith, ints); most = omega (arith, ints) };
-    upwards = record { least = omega (arith, ints); most = omega (arith, ints) };
-    sum = record { least = omega (arith, ints); most = omega (arith, ints) };
-    difference = record { least = omega (arith, ints); most = omega (arith, ints) };
-  }
-
-  pub left_in : IsOffset c u ((left c p).x -ℤ p.x) ((left c p).y -ℤ p.y)
-  left_in = record {
-    across = record { least = omega (arith, ints); most = omega (arith, ints) };
-    upwards = record { least = omega (arith, ints); most = omega (arith, ints) };
-    sum = record { least = omega (arith, ints); most = omega (arith, ints) };
-    difference = record { least = omega (arith, ints); most = omega (arith, ints) };
-  }
+  pub tall : IsSize t x → IsSize c y → IsOffset c u x y
+  tall h i =
+      let j = h.least in
+      let k = h.most in
+      let l = i.least in
+      let m = i.most in
+      record {
+        across = record { least = omega (arith, ints, j, o.less); most = omega (arith, ints, k, o.less) };
+        upwards = i;
+        sum = record { least = omega (arith, ints, j, l, o.sum); most = omega (arith, ints, k, m, o.sum) };
+        difference = record { least = omega (arith, ints, j, m, o.sum); most = omega (arith, ints, k, l, o.sum) };
+      }
 
 -- the lowest corners of the ends of an edge that rises to the right, or is flat
 pub before : (p r : Pt) (c : ℤ) → p.y ≤ℤ r.y → p.x <ℤ r.x → IsBefore (low c p) (low c r)

@@ -25,15 +25,32 @@ reach_back x y ax ay bx by d = ring (x ∷ y ∷ ax ∷ ay ∷ bx ∷ by ∷ d �
     (((num (pos 0) ⊖ v0) ⊗ v6) ⊗ (v3 ⊖ v5) ⊖ ((num (pos 0) ⊖ v1) ⊗ v6) ⊗ (v2 ⊖ v4))
     ((v0 ⊗ v6) ⊗ (v5 ⊖ v3) ⊖ (v1 ⊗ v6) ⊗ (v4 ⊖ v2)) refl
 
+-- the octagon of half width c with the corners (c, t) and (t, c) and their mirror images; u is its half sum
+pub record IsOctagon (c t u : ℤ) : Type 0 where
+  pub sum : u ≡ c +ℤ t
+  pub least : pos 0 ≤ℤ t
+  pub less : t <ℤ c
+
+-- a half plane of the octagon holds the edge's first end
+abbrev pub FirstBy : Pt → ℤ → ℤ → ℤ → Point → Type 0
+FirstBy p n m k q = (n *ℤ (p.x *ℤ q.d -ℤ q.x) +ℤ m *ℤ (p.y *ℤ q.d -ℤ q.y)) ≤ℤ (k *ℤ q.d)
+
+-- as q sees it, the edge's line passes on one side of the corner (x, y), and on the other of its mirror image
+abbrev pub LeastFrom : Pt → Pt → ℤ → ℤ → Point → Type 0
+LeastFrom p r x y q = (pos 0 -ℤ cross (x *ℤ q.d) (y *ℤ q.d) ((r.x *ℤ q.d -ℤ q.x) -ℤ (p.x *ℤ q.d -ℤ q.x))
+    ((r.y *ℤ q.d -ℤ q.y) -ℤ (p.y *ℤ q.d -ℤ q.y)))
+    ≤ℤ cross (p.x *ℤ q.d -ℤ q.x) (p.y *ℤ q.d -ℤ q.y) (r.x *ℤ q.d -ℤ q.x) (r.y *ℤ q.d -ℤ q.y)
+
+abbrev pub MostFrom : Pt → Pt → ℤ → ℤ → Point → Type 0
+MostFrom p r x y q = cross (p.x *ℤ q.d -ℤ q.x) (p.y *ℤ q.d -ℤ q.y) (r.x *ℤ q.d -ℤ q.x) (r.y *ℤ q.d -ℤ q.y)
+    ≤ℤ cross (x *ℤ q.d) (y *ℤ q.d) ((r.x *ℤ q.d -ℤ q.x) -ℤ (p.x *ℤ q.d -ℤ q.x))
+    ((r.y *ℤ q.d -ℤ q.y) -ℤ (p.y *ℤ q.d -ℤ q.y))
+
 module _ (p r : Pt) (q : Point) (d : pos 0 <ℤ q.d) where
   abbrev pub PassesFrom : ℤ → ℤ → Type 0
   PassesFrom x y = Passes (x *ℤ q.d) (y *ℤ q.d) (p.x *ℤ q.d -ℤ q.x) (p.y *ℤ q.d -ℤ q.y)
       (r.x *ℤ q.d -ℤ q.x)
       (r.y *ℤ q.d -ℤ q.y)
-
-  -- a half plane of the octagon holds the edge's first end
-  abbrev pub FirstBy : ℤ → ℤ → ℤ → Type 0
-  FirstBy n m k = (n *ℤ (p.x *ℤ q.d -ℤ q.x) +ℤ m *ℤ (p.y *ℤ q.d -ℤ q.y)) ≤ℤ (k *ℤ q.d)
 
   -- ---- the sides from the line, and the line from the sides
   pub under : (x y : ℤ) (P Q : Pt) → Beside x y p r P Q → PassesFrom x y → IsLeftOf q (way P Q)
@@ -47,14 +64,16 @@ module _ (p r : Pt) (q : Point) (d : pos 0 <ℤ q.d) where
       let f = reach_back x y (p.x *ℤ q.d -ℤ q.x) (p.y *ℤ q.d -ℤ q.y) (r.x *ℤ q.d -ℤ q.x) (r.y *ℤ q.d -ℤ q.y) q.d in
       beside_holds (pos 0 -ℤ x) (pos 0 -ℤ y) q r p P Q b d (omega (arith, ints, h, e, f))
 
-  pub line : (x y : ℤ) (P Q R W : Pt) → Beside x y p r P Q → Beside (pos 0 -ℤ x) (pos 0 -ℤ y) r p R W
-      → IsLeftOf q (way P Q) → IsLeftOf q (way R W) → PassesFrom x y
-  line x y P Q R W b c h i =
+  pub least_by : {x y : ℤ} {P Q : Pt} → Beside x y p r P Q → IsLeftOf q (way P Q) → LeastFrom p r x y q
+  least_by {x} {y} {P} {Q} b h = beside_gap x y q p r P Q b d h
+
+  pub most_by : (x y : ℤ) {P Q : Pt} → Beside (pos 0 -ℤ x) (pos 0 -ℤ y) r p P Q → IsLeftOf q (way P Q)
+      → MostFrom p r x y q
+  most_by x y {P} {Q} b h =
       let e = cross_back (p.x *ℤ q.d -ℤ q.x) (p.y *ℤ q.d -ℤ q.y) (r.x *ℤ q.d -ℤ q.x) (r.y *ℤ q.d -ℤ q.y) in
       let f = reach_back x y (p.x *ℤ q.d -ℤ q.x) (p.y *ℤ q.d -ℤ q.y) (r.x *ℤ q.d -ℤ q.x) (r.y *ℤ q.d -ℤ q.y) q.d in
-      let g = beside_gap x y q p r P Q b d h in
-      let k = beside_gap (pos 0 -ℤ x) (pos 0 -ℤ y) q r p R W c d i in
-      record { least = g; most = omega (arith, ints, e, f, k) }
+      let k = beside_gap (pos 0 -ℤ x) (pos 0 -ℤ y) q r p P Q b d h in
+      omega (arith, ints, e, f, k)
 
   -- ---- signs over the divisor
   gap_is : (a b x : ℤ) → (b *ℤ q.d -ℤ x) -ℤ (a *ℤ q.d -ℤ x) ≡ (b -ℤ a) *ℤ q.d
@@ -85,19 +104,19 @@ module _ (p r : Pt) (q : Point) (d : pos 0 <ℤ q.d) where
       (((v3 ⊖ v2) ⊖ (v1 ⊖ v0)) ⊗ v4) ((v3 ⊖ v2) ⊗ v4 ⊖ (v1 ⊖ v0) ⊗ v4) refl in
       omega (arith, ints, f, g, m, k)
 
-  module _ (c t u : ℤ) (sum : u ≡ c +ℤ t) (some : pos 0 ≤ℤ t) (less : t <ℤ c) where
+  module _ {c t u : ℤ} (o : IsOctagon c t u) where
     sum_is : u *ℤ q.d ≡ c *ℤ q.d +ℤ t *ℤ q.d
-    sum_is = rw sum (ring (c ∷ t ∷ q.d ∷ []) ((v0 ⊕ v1) ⊗ v2) (v0 ⊗ v2 ⊕ v1 ⊗ v2) refl)
+    sum_is = rw o.sum (ring (c ∷ t ∷ q.d ∷ []) ((v0 ⊕ v1) ⊗ v2) (v0 ⊗ v2 ⊕ v1 ⊗ v2) refl)
 
     positive : pos 0 <ℤ (c *ℤ q.d)
-    positive = positive_product c q.d (omega (arith, ints)) d
+    positive = positive_product c q.d (omega (arith, ints, o.less, o.least)) d
 
     slim : pos 0 ≤ℤ (t *ℤ q.d)
-    slim = at_least_mul t q.d some (omega (arith, ints))
+    slim = at_least_mul t q.d o.least (omega (arith, ints))
 
     narrow : (t *ℤ q.d) ≤ℤ (c *ℤ q.d)
     narrow =
-        let m = at_least_mul (c -ℤ t) q.d (omega (arith, ints)) (omega (arith, ints)) in
+        let m = at_least_mul (c -ℤ t) q.d (omega (arith, ints, o.less)) (omega (arith, ints)) in
         let e : (c -ℤ t) *ℤ q.d ≡ c *ℤ q.d -ℤ t *ℤ q.d = ring (c ∷ t ∷ q.d ∷ []) ((v0 ⊖ v1) ⊗ v2) (v0 ⊗ v2 ⊖ v1 ⊗ v2)
         refl in
         omega (arith, ints, m, e)
@@ -179,8 +198,8 @@ module _ (p r : Pt) (q : Point) (d : pos 0 <ℤ q.d) where
         (r.y *ℤ q.d -ℤ q.y) a (goes_up p.y r.y q.y y) (omega (arith, ints, h))
 
     -- ---- the line from the half planes that an edge along the octagon's sides runs between
-    pub flat_passes : p.x ≤ℤ r.x → p.y ≡ r.y → FirstBy (pos 0) (pos 1) c
-        → FirstBy (pos 0) (neg_ℤ (pos 1)) c → PassesFrom t (pos 0 -ℤ c)
+    pub flat_passes : p.x ≤ℤ r.x → p.y ≡ r.y → FirstBy p (pos 0) (pos 1) c q
+        → FirstBy p (pos 0) (neg_ℤ (pos 1)) c q → PassesFrom t (pos 0 -ℤ c)
     flat_passes x y g h =
         let k = goes_up p.y r.y q.y (omega (arith, ints)) in
         let l = goes_up r.y p.y q.y (omega (arith, ints)) in
@@ -191,8 +210,8 @@ module _ (p r : Pt) (q : Point) (d : pos 0 <ℤ q.d) where
         (r.x *ℤ q.d -ℤ q.x)
         (r.y *ℤ q.d -ℤ q.y) (goes_up p.x r.x q.x x) (omega (arith, ints, k, l)) g h)
 
-    pub diagonal_right_passes : p.x ≤ℤ r.x → r.y -ℤ p.y ≡ r.x -ℤ p.x → FirstBy (neg_ℤ (pos 1)) (pos 1) u
-        → FirstBy (pos 1) (neg_ℤ (pos 1)) u → PassesFrom t (pos 0 -ℤ c)
+    pub diagonal_right_passes : p.x ≤ℤ r.x → r.y -ℤ p.y ≡ r.x -ℤ p.x → FirstBy p (neg_ℤ (pos 1)) (pos 1) u q
+        → FirstBy p (pos 1) (neg_ℤ (pos 1)) u q → PassesFrom t (pos 0 -ℤ c)
     diagonal_right_passes x y g h =
         let k = steeper p.x r.x p.y r.y q.x q.y (omega (arith, ints)) in
         let l = steeper p.y r.y p.x r.x q.y q.x (omega (arith, ints)) in
@@ -203,8 +222,8 @@ module _ (p r : Pt) (q : Point) (d : pos 0 <ℤ q.d) where
         (p.y *ℤ q.d -ℤ q.y)
         (r.x *ℤ q.d -ℤ q.x) (r.y *ℤ q.d -ℤ q.y) (goes_up p.x r.x q.x x) (omega (arith, ints, k, l)) g h)
 
-    pub upright_passes : p.x ≡ r.x → p.y ≤ℤ r.y → FirstBy (neg_ℤ (pos 1)) (pos 0) c
-        → FirstBy (pos 1) (pos 0) c → PassesFrom c (pos 0 -ℤ t)
+    pub upright_passes : p.x ≡ r.x → p.y ≤ℤ r.y → FirstBy p (neg_ℤ (pos 1)) (pos 0) c q
+        → FirstBy p (pos 1) (pos 0) c q → PassesFrom c (pos 0 -ℤ t)
     upright_passes x y g h =
         let k = goes_up p.x r.x q.x (omega (arith, ints)) in
         let l = goes_up r.x p.x q.x (omega (arith, ints)) in
@@ -215,7 +234,7 @@ module _ (p r : Pt) (q : Point) (d : pos 0 <ℤ q.d) where
         (r.x *ℤ q.d -ℤ q.x) (r.y *ℤ q.d -ℤ q.y) (omega (arith, ints, k, l)) (goes_up p.y r.y q.y y) g h)
 
     pub diagonal_left_passes : r.y -ℤ p.y ≡ p.x -ℤ r.x → p.y ≤ℤ r.y
-        → FirstBy (neg_ℤ (pos 1)) (neg_ℤ (pos 1)) u → FirstBy (pos 1) (pos 1) u → PassesFrom c t
+        → FirstBy p (neg_ℤ (pos 1)) (neg_ℤ (pos 1)) u q → FirstBy p (pos 1) (pos 1) u q → PassesFrom c t
     diagonal_left_passes x y g h =
         let k = steeper r.x p.x p.y r.y q.x q.y (omega (arith, ints)) in
         let l = steeper p.y r.y r.x p.x q.y q.x (omega (arith, ints)) in

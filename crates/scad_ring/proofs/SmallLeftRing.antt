@@ -1,177 +1,43 @@
 -- The ring by an octagon whose corners fall together two by two round an edge that runs more to the left than
 -- upwards.
-use Rattle.std.proofs.Common.{◌≡◌, inl, inr, [], ◌∷◌, arith, ℤ, pos, neg_ℤ, ◌+ℤ◌, ◌-ℤ◌, ◌*ℤ◌, ◌<ℤ◌}
-use lib.Signed.{◌≤ℤ◌}
-use Rattle.std.specs.Prelude.{All}
+use Rattle.std.proofs.Common.{inl, arith, ℤ, pos, ◌-ℤ◌, ◌<ℤ◌}
 use Rattle.std.proofs.lemmas.Int.{ints}
-use Rattle.std.proofs.lemmas.List.Elements.{All-from_recursion, recursion_from_All}
 use Rattle.scad_geom.specs.declared.point.Pt.{Pt}
-use Rattle.scad_geom.specs.Point.{Point}
-use Rattle.scad_geom.specs.Segment.{segments}
-use Rattle.scad_geom.specs.Loop.{sides}
-use Rattle.scad_ring.specs.Ring.{IsLeftOf, IsBefore}
 use Rattle.scad_ring.specs.declared.direction.Direction.TheVariants.{Left}
-use Rattle.scad_ring.specs.Corners.{four_sided, low, right, high, left}
+use Rattle.scad_ring.specs.Corners.{four_sided, low, high}
 use Rattle.scad_ring.proofs.Octants.{approach_four}
-use Rattle.scad_ring.proofs.Approaches.{ApproachFrom, meets_if_approach, approach_if_meets}
-use Rattle.scad_ring.proofs.Steps.{Step, Side, Beside, step, along, turns, side_gap, first_side, last_side}
+use Rattle.scad_ring.proofs.Steps.{Beside, along}
+use Rattle.scad_ring.proofs.Slants.{IsOctagon, left_by, left_passes}
+use Rattle.scad_ring.proofs.Offsets.{IsRingRound}
+use Rattle.scad_ring.proofs.Sides.{PassesIfNear, at_first, at_last, forth, back}
+use Rattle.scad_ring.proofs.Sides.{◌⟨◌⟩◌, ◌&◌, again, ring_of}
 use Rattle.scad_ring.proofs.OwnSides.{low_to_right, right_to_high, high_to_left, left_to_low, quarter}
-use Rattle.scad_ring.proofs.Slants.{under, over, line, left_by, left_passes}
-use Rattle.scad_ring.proofs.Offsets.{IsNearWay, IsRingRound, near_first, near_last, low_in, right_in, high_in, left_in}
 
 module _ (c : ℤ) (less : pos 0 <ℤ c) (p r : Pt) (y : p.y <ℤ r.y) (x : (r.y -ℤ p.y) <ℤ (p.x -ℤ r.x)) where
-  weak : pos 0 ≤ℤ pos 0
-  weak = omega (arith, ints)
+  o : IsOctagon c (pos 0) c
+  o = record { sum = omega (arith, ints); least = omega (arith, ints); less = less }
 
-  sum : c ≡ c +ℤ pos 0
-  sum = omega (arith, ints)
+  forwards : Beside (pos 0) c p r (high c p) (high c r)
+  forwards = along (omega (arith, ints)) (omega (arith, ints)) (omega (arith, ints)) (omega (arith, ints))
 
-  s0 : Side (neg_ℤ (pos 1)) (pos 1) c p (low c p) (right c p)
-  s0 = low_to_right c less p
+  backwards : Beside (pos 0 -ℤ (pos 0)) (pos 0 -ℤ c) r p (low c r) (low c p)
+  backwards = along (omega (arith, ints)) (omega (arith, ints)) (omega (arith, ints)) (omega (arith, ints))
 
-  s1 : Side (neg_ℤ (pos 1)) (neg_ℤ (pos 1)) c p (right c p) (high c p)
-  s1 = right_to_high c less p
-
-  s2 : Beside (pos 0) c p r (high c p) (high c r)
-  s2 = along (omega (arith, ints)) (omega (arith, ints)) (omega (arith, ints)) (omega (arith, ints))
-
-  t2 : Step (r.x -ℤ p.x) (r.y -ℤ p.y) (high c p) (high c r)
-  t2 = step (pos 1) (omega (arith, ints)) (omega (arith, ints)) (omega (arith, ints))
-
-  s3 : Side (pos 1) (neg_ℤ (pos 1)) c r (high c r) (left c r)
-  s3 = high_to_left c less r
-
-  s4 : Side (pos 1) (pos 1) c r (left c r) (low c r)
-  s4 = left_to_low c less r
-
-  s5 : Beside (pos 0 -ℤ (pos 0)) (pos 0 -ℤ c) r p (low c r) (low c p)
-  s5 = along (omega (arith, ints)) (omega (arith, ints)) (omega (arith, ints)) (omega (arith, ints))
-
-  t5 : Step (p.x -ℤ r.x) (p.y -ℤ r.y) (low c r) (low c p)
-  t5 = step (pos 1) (omega (arith, ints)) (omega (arith, ints)) (omega (arith, ints))
-
-  -- the edge runs inwards from a side, or outwards to it
-  i0 : pos 0 ≤ℤ (neg_ℤ (pos 1) *ℤ (r.x -ℤ p.x) +ℤ pos 1 *ℤ (r.y -ℤ p.y))
-  i0 = omega (arith, ints)
-
-  i1 : pos 0 ≤ℤ (neg_ℤ (pos 1) *ℤ (r.x -ℤ p.x) +ℤ neg_ℤ (pos 1) *ℤ (r.y -ℤ p.y))
-  i1 = omega (arith, ints)
-
-  i3 : pos 0 ≤ℤ (pos 1 *ℤ (p.x -ℤ r.x) +ℤ neg_ℤ (pos 1) *ℤ (p.y -ℤ r.y))
-  i3 = omega (arith, ints)
-
-  i4 : pos 0 ≤ℤ (pos 1 *ℤ (p.x -ℤ r.x) +ℤ pos 1 *ℤ (p.y -ℤ r.y))
-  i4 = omega (arith, ints)
-
-  sides_if : (q : Point) → pos 0 <ℤ q.d → ApproachFrom c c q p r
-      → All (IsLeftOf q) (segments (sides (four_sided c p r Left)))
-  sides_if q d a =
-      let l = left_passes p r q d c (pos 0) c sum weak less (omega (arith, ints)) (omega (arith, ints)) a in
-      All-from_recursion (IsLeftOf q) (segments (sides (four_sided c p r Left))) (
-        first_side (c *ℤ q.d) (c *ℤ q.d) q d p r a (neg_ℤ (pos 1)) (pos 1) c (low c p) (right c p) s0 i0 a.over_left,
-        (
-          first_side (c *ℤ q.d) (c *ℤ q.d) q d p r a (neg_ℤ (pos 1)) (neg_ℤ (pos 1)) c (right c p) (high c p) s1
-              i1 a.below_left,
-          (
-            under p r q d (pos 0) c (high c p) (high c r) s2 l,
-            (
-              last_side (c *ℤ q.d) (c *ℤ q.d) q d p r a (pos 1) (neg_ℤ (pos 1)) c (high c r) (left c r) s3
-                  i3 a.below_right,
-              (
-                last_side (c *ℤ q.d) (c *ℤ q.d) q d p r a (pos 1) (pos 1) c (left c r) (low c r) s4 i4 a.over_right,
-                (
-                  over p r q d (pos 0) c (low c r) (low c p) s5 l,
-                  tt,
-                ),
-              ),
-            ),
-          ),
-        ),
-      )
-
-  approach_if : (q : Point) → pos 0 <ℤ q.d → All (IsLeftOf q) (segments (sides (four_sided c p r Left)))
-      → ApproachFrom c c q p r
-  approach_if q d h =
-      let s = recursion_from_All (IsLeftOf q) (segments (sides (four_sided c p r Left))) h in
-      let g0 = side_gap (neg_ℤ (pos 1)) (pos 1) c q p (low c p) (right c p) s0 s.0 in
-      let g1 = side_gap (neg_ℤ (pos 1)) (neg_ℤ (pos 1)) c q p (right c p) (high c p) s1 s.1.0 in
-      let g3 = side_gap (pos 1) (neg_ℤ (pos 1)) c q r (high c r) (left c r) s3 s.1.1.1.0 in
-      let g4 = side_gap (pos 1) (pos 1) c q r (left c r) (low c r) s4 s.1.1.1.1.0 in
-      let l = line p r q d (pos 0) c (high c p) (high c r) (low c r) (low c p) s2 s5 s.1.1.0 s.1.1.1.1.1.0 in
-      approach_four (c *ℤ q.d) (p.x *ℤ q.d -ℤ q.x) (p.y *ℤ q.d -ℤ q.y) (r.x *ℤ q.d -ℤ q.x)
-      (r.y *ℤ q.d -ℤ q.y) ((pos 0) *ℤ q.d) (c *ℤ q.d) (left_by p r q d c (pos 0) c sum weak less (omega (
-        arith,
-        ints,
-      )) (omega (arith, ints)) l) (inr g4) (inr g3) (inl g0) (inl g1)
+  passes : PassesIfNear c c p r (pos 0) c
+  passes q d a = left_passes p r q d o (omega (arith, ints)) (omega (arith, ints)) a
 
   pub left_round : IsRingRound c c p r (four_sided c p r Left)
-  left_round = record {
-    holds = λ q d. (
-      (λ m. sides_if q d (approach_if_meets q p r c c m)),
-      (λ h. meets_if_approach q p r c c (approach_if q d h)),
-    );
-    near = All-from_recursion (IsNearWay c c p r) (four_sided c p r Left) (
-      near_first c c p r (low c p) (low_in c (pos 0) c sum weak less p),
-      (
-        near_first c c p r (right c p) (right_in c (pos 0) c sum weak less p),
-        (
-          near_first c c p r (high c p) (high_in c (pos 0) c sum weak less p),
-          (
-            near_last c c p r (high c r) (high_in c (pos 0) c sum weak less r),
-            (
-              near_last c c p r (left c r) (left_in c (pos 0) c sum weak less r),
-              (
-                near_last c c p r (low c r) (low_in c (pos 0) c sum weak less r),
-                tt,
-              ),
-            ),
-          ),
-        ),
-      ),
-    );
-    turns = (
-      turns (pos 1) (pos 0 -ℤ neg_ℤ (pos 1)) (neg_ℤ (pos 1)) (pos 0 -ℤ neg_ℤ (pos 1)) (low c p) (right c p)
-          (high c p) s0.step s1.step quarter,
-      (
-        turns (neg_ℤ (pos 1)) (pos 0 -ℤ neg_ℤ (pos 1)) (r.x -ℤ p.x) (r.y -ℤ p.y) (right c p) (high c p)
-            (high c r)
-            s1.step t2 (omega (arith, ints)),
-        (
-          turns (r.x -ℤ p.x) (r.y -ℤ p.y) (neg_ℤ (pos 1)) (pos 0 -ℤ pos 1) (high c p) (high c r) (left c r) t2
-              s3.step (omega (arith, ints)),
-          (
-            turns (neg_ℤ (pos 1)) (pos 0 -ℤ pos 1) (pos 1) (pos 0 -ℤ pos 1) (high c r) (left c r) (low c r)
-                s3.step
-                s4.step quarter,
-            (
-              turns (pos 1) (pos 0 -ℤ pos 1) (p.x -ℤ r.x) (p.y -ℤ r.y) (left c r) (low c r) (low c p) s4.step t5
-                  (omega (arith, ints)),
-              (
-                turns (p.x -ℤ r.x) (p.y -ℤ r.y) (pos 1) (pos 0 -ℤ neg_ℤ (pos 1)) (low c r) (low c p) (right c p)
-                    t5
-                    s0.step (omega (arith, ints)),
-                tt,
-              ),
-            ),
-          ),
-        ),
-      ),
-    );
-    starts = All-from_recursion (IsBefore (low c p))
-        ((right c p) ∷ (high c p) ∷ (high c r) ∷ (left c r) ∷ (low c r) ∷ []) (
-          inl (omega (arith, ints)),
-          (
-            inl (omega (arith, ints)),
-            (
-              inl (omega (arith, ints)),
-              (
-                inl (omega (arith, ints)),
-                (
-                  inl (omega (arith, ints)),
-                  tt,
-                ),
-              ),
-            ),
-          ),
-        );
-  }
+  left_round = ring_of
+      (inl (omega (arith, ints)) & inl (omega (arith, ints)) & inl (omega (arith, ints)) & inl (omega (arith, ints))
+      & inl (omega (arith, ints)) & tt)
+      (at_first (low_to_right o p) (omega (arith, ints)) ⟨ quarter ⟩
+      at_first (right_to_high o p) (omega (arith, ints)) ⟨ omega (arith, ints) ⟩
+      forth (pos 0) c forwards (high_to_left o p).offset passes ⟨ omega (arith, ints) ⟩
+      at_last (high_to_left o r) (omega (arith, ints)) ⟨ quarter ⟩
+      at_last (left_to_low o r) (omega (arith, ints)) ⟨ omega (arith, ints) ⟩
+      back (pos 0) c backwards (low_to_right o r).offset passes ⟨ omega (arith, ints) ⟩
+      again (at_first (low_to_right o p) (omega (arith, ints))))
+      (λ q d s. approach_four
+      (left_by p r q d o (omega (arith, ints)) (omega (arith, ints))
+      (record { least = s.1.1.0; most = s.1.1.1.1.1.0 }))
+      s.1.1.1.1.0 s.1.1.1.0 s.0 s.1.0)

@@ -108,7 +108,7 @@ module _ (n m k : ℤ) (q : Point) (p P Q : Pt) where
       s.step.positive (omega (arith, ints, e, h)) in
       omega (arith, ints, g)
 
-scaled : (n m px py rx ry x y d : ℤ) → pos 0 ≤ℤ (n *ℤ (rx -ℤ px) +ℤ m *ℤ (ry -ℤ py)) → pos 0 <ℤ d
+pub scaled : (n m px py rx ry x y d : ℤ) → pos 0 ≤ℤ (n *ℤ (rx -ℤ px) +ℤ m *ℤ (ry -ℤ py)) → pos 0 <ℤ d
     → (n *ℤ (px *ℤ d -ℤ x) +ℤ m *ℤ (py *ℤ d -ℤ y)) ≤ℤ
     (n *ℤ (rx *ℤ d -ℤ x) +ℤ m *ℤ (ry *ℤ d -ℤ y))
 scaled n m px py rx ry x y d h p =
